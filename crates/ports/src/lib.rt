@@ -1,0 +1,63 @@
+//! The outside of the program: files by name (`Shelf`) and one output (`Sink`).
+//!
+//! Every other crate reads and writes through these two traits, so that each of their contracts
+//! can speak of the bytes that were read and written, and of the faults that came on the way.
+//! A crate above may use the clauses of the traits alone; a test may also use what
+//! `MemoryShelf` and `MemorySink` promise beyond them.
+//!
+//! - **What a contract sees.** A shelf has `held`, a map from names to bytes where it tells
+//!   them, a count of failed reads for each name, and one count of failed writes. A sink has
+//!   `written`, where it tells it, and one count of faults. A shelf or sink that tells its bytes
+//!   goes on telling them. No count ever falls; each stays at 2^64 - 1 once it is there.
+//! - **When a call fails.** `Failed` comes only where the count of that call rose (`Rose`).
+//!   Then a prefix of the bytes may have been added, or a file that was to be started may be
+//!   empty; no file of another name has changed.
+//! - **In memory** (`MemoryShelf`, `MemorySink`) all bytes are told, chosen calls fail, and the
+//!   contracts say exactly when a call fails and how much room there is without a refusal.
+//! - **Real files and standard output** (`RealShelf`, `RealSink`) tell no bytes. They are a few
+//!   lines over std, and what they read or write is trusted, not proved.
+//! - **Not here:** no layer of this crate looks at what the bytes mean.
+//!
+//! Cost: `MemoryShelf` finds a file in time linear in the number of files; a read copies what it
+//! gives; an append is amortised linear in the bytes added. `RealShelf` opens the file anew for
+//! each call.
+#![tactic(auto)]
+
+mod calls;
+mod memory_shelf;
+mod memory_sink;
+mod name;
+mod real;
+mod shelf;
+mod sink;
+mod stored;
+#[cfg(test)]
+mod tests;
+
+pub use memory_shelf::MemoryShelf;
+pub use memory_sink::MemorySink;
+pub use name::Name;
+pub use real::{RealShelf, RealSink};
+pub use shelf::Shelf;
+pub use sink::Sink;
+use std::alloc::{AllocError, AllocFailed};
+
+/// A read or a write that the outside refused. It comes only where a count of faults rose.
+#[derive(Clone, Copy, Debug, PartialEq, Eq)]
+pub struct Failed;
+
+/// Want of memory. Each crate has it as the one answer that no clause gives a cause for.
+#[derive(Clone, Copy, Debug, PartialEq, Eq)]
+pub struct Memory;
+
+impl From<AllocError> for Memory {
+    fn from(_: AllocError) -> Self {
+        Memory
+    }
+}
+
+impl<T: Drop> From<AllocFailed<T>> for Memory {
+    fn from(_: AllocFailed<T>) -> Self {
+        Memory
+    }
+}
