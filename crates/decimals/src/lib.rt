@@ -1,0 +1,129 @@
+//! Numbers with a point, read as whole numbers at a scale.
+#![tactic(auto)]
+
+ghost use Rattle.std.specs.Prelude.{◌≡◌, ◌≤◌, ◌<◌, IfOk, ℤ, pos, neg_ℤ, Ok, Err, if◌then◌else◌, ◌^◌, ◌↔◌, ◌==◌, IsTrue, position};
+ghost use Rattle.decimals.specs.Counted.{counted, parts_of, settled};
+ghost use Rattle.decimals.specs.Numerals.{minus, sign_of, after_sign};
+ghost use Rattle.decimals.specs.Scaled.{unsigned_of, scaled_of, HasValue, SpellsNone, IsTooLong, HasMoreDecimals};
+
+#[cfg(test)]
+mod tests;
+
+use thiserror::Error;
+
+/// Why a text has no value at a scale. Where several are true the first is told.
+#[derive(Debug, Clone, Copy, PartialEq, Eq, Error)]
+pub enum DecimalFault {
+    /// The text is not an optional sign, one or more digits, and optionally a point with one or
+    /// more digits.
+    #[error("not a number")]
+    NotNumber,
+    /// The value at the scale has more than 18 digits, leading zeros not counted.
+    #[error("more than 18 digits")]
+    TooLong,
+    /// A decimal past the scale is not 0.
+    #[error("a decimal past the scale is not 0")]
+    MoreDecimals,
+}
+
+/// One more than the greatest magnitude: magnitudes are counted up to here.
+const LIMIT: u64 = 1_000_000_000_000_000_000;
+
+/// Reads the bytes as a number, in units of the last of `scale` decimals: `12.5` is 1250 at
+/// scale 2.
+pub fn read_scaled(bytes: &[u8], scale: u8) -> Result<i64, DecimalFault>
+    requires { scale ≤ 9 }
+    ensures answer { result ≡ scaled_of bytes.now scale }
+    ensures value { (v : ℤ) → (result ≡ Ok v) ↔ HasValue bytes.now scale v }
+    ensures not_number { (result ≡ Err DecimalFault.NotNumber) ↔ SpellsNone bytes.now }
+    ensures too_long { (result ≡ Err DecimalFault.TooLong) ↔ IsTooLong bytes.now scale }
+    ensures more_decimals { (result ≡ Err DecimalFault.MoreDecimals) ↔ HasMoreDecimals bytes.now scale }
+{
+    let (negative, unsigned) = split_sign(bytes);
+    let magnitude = read_unsigned(unsigned, scale)?;
+    Ok(with_sign(negative, magnitude))
+}
+
+/// The magnitude, or its negative.
+fn with_sign(negative: bool, magnitude: u64) -> i64
+    requires { magnitude < 10 ^ 18 }
+    ensures { result ≡ (if negative then neg_ℤ (pos magnitude) else pos magnitude) }
+{
+    let value = magnitude as i64;
+    if negative { -value } else { value }
+}
+
+/// Whether a minus stands first, and what stands behind the sign.
+fn split_sign(bytes: &[u8]) -> (bool, &[u8])
+    ensures negative { IsTrue result.0 ↔ (sign_of bytes.now ≡ minus) }
+    ensures rest { result.1.now ≡ after_sign bytes.now }
+{
+    match bytes {
+        [b'-', rest @ ..] => (true, rest),
+        [b'+', rest @ ..] => (false, rest),
+        _ => (false, bytes),
+    }
+}
+
+/// The magnitude of what stands behind the sign.
+fn read_unsigned(unsigned: &[u8], scale: u8) -> Result<u64, DecimalFault>
+    requires { scale ≤ 9 }
+    ensures reading { result ≡ unsigned_of scale unsigned.now }
+    ensures bound { IfOk result (λ magnitude. magnitude < 10 ^ 18) }
+{
+    match find_point(unsigned) {
+        Some(at) if at + 1 == unsigned.len() => Err(DecimalFault::NotNumber),
+        Some(at) => read_parts(&unsigned[..at], &unsigned[at + 1..], scale),
+        None => read_parts(unsigned, &[], scale),
+    }
+}
+
+/// The place of the first point.
+fn find_point(unsigned: &[u8]) -> Option<usize>
+    ensures { result ≡ position (λ byte. byte == 46) unsigned.now }
+{
+    unsigned.iter().position(|byte| *byte == b'.')
+}
+
+/// The magnitude of the digits before the point and the decimals behind it.
+fn read_parts(whole: &[u8], decimals: &[u8], scale: u8) -> Result<u64, DecimalFault>
+    requires { scale ≤ 9 }
+    ensures { result ≡ parts_of scale whole.now decimals.now }
+{
+    if whole.is_empty() {
+        return Err(DecimalFault::NotNumber);
+    }
+    let (kept, surplus) = decimals.split_at(decimals.len().min(usize::from(scale)));
+    let digits = read_digits(read_digits(0, whole)?, kept)?;
+    let past = read_digits(0, surplus)?;
+    let missing = u32::from(scale) - kept.len() as u32;
+    within_limits(digits.saturating_mul(10u64.pow(missing)), past)
+}
+
+/// The magnitude again, where it has at most 18 digits and the decimals past the scale are 0.
+fn within_limits(magnitude: u64, past: u64) -> Result<u64, DecimalFault>
+    ensures { result ≡ settled magnitude past }
+{
+    if magnitude >= LIMIT {
+        Err(DecimalFault::TooLong)
+    } else if past > 0 {
+        Err(DecimalFault::MoreDecimals)
+    } else {
+        Ok(magnitude)
+    }
+}
+
+/// The number that the digits of `from` and then these write, at most `LIMIT`.
+fn read_digits(from: u64, digits: &[u8]) -> Result<u64, DecimalFault>
+    requires { from ≤ 10 ^ 18 }
+    ensures { result ≡ counted from digits.now }
+{
+    let mut magnitude = from;
+    for digit in digits {
+        if !digit.is_ascii_digit() {
+            return Err(DecimalFault::NotNumber);
+        }
+        magnitude = (magnitude * 10 + u64::from(*digit - b'0')).min(LIMIT);
+    }
+    Ok(magnitude)
+}

@@ -1,0 +1,13 @@
+pub mod Commands
+pub mod Descent
+pub mod Findings
+pub mod FirstModel
+pub mod FirstTransfer
+pub mod Fronts
+pub mod Lines
+pub mod ModelWords
+pub mod Outcomes
+pub mod Pieces
+pub mod Reading
+pub mod Report
+pub mod Views

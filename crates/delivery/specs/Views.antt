@@ -1,0 +1,35 @@
+-- Values of the code, without where they lie in memory.
+use Rattle.std.specs.Prelude.{◌≡◌, ℕ, List, Option, Some, None}
+use Rattle.delivery.specs.Lines.{Entry, whole, open_line, entries, fields} 
+use Rattle.delivery.specs.Lines.{Record}
+use Rattle.delivery.specs.FirstModel.{Titles, Attribute}
+use Rattle.delivery.specs.ModelWords.{lexemes}
+use Rattle.std.specs.Borrow.{Bor}
+use Rattle.delivery.specs.declared.model.Titles.{Titles as CodeTitles}
+use Rattle.delivery.specs.declared.model.Attribute.{Attribute as CodeAttribute}
+use Rattle.delivery.specs.declared.distinct.Distinct.{Distinct}
+use Rattle.indexmap.specs.IndexSet.{keys}
+use Rattle.delivery.specs.declared.records.Record.{Record as CodeRecord}
+use Rattle.delivery.specs.declared.records.Entry.{Entry as CodeEntry}
+use Rattle.delivery.specs.declared.records.Entry.TheVariants.{Whole, Open}
+
+abbrev pub record_of : CodeRecord → Record
+record_of r = record { line = r.line; word = r.word.now; fields = fields r.rest.now }
+
+abbrev pub entry_of : CodeEntry → Entry
+entry_of (Whole r) = whole (record_of r)
+entry_of Open = open_line
+
+-- the words of a set, in the order in which they came
+abbrev pub words_in : Distinct → List (List ℕ)
+words_in d = keys d.keys
+
+abbrev pub titles_of : CodeTitles → Titles
+titles_of t = record { model = t.model.now; topic = t.topic.now; table = t.table.now }
+
+abbrev pub attribute_of : CodeAttribute → Attribute
+attribute_of a = record { name = a.name.now; low = a.low.now; high = a.high.now }
+
+-- an attribute and the pieces of the text behind it
+abbrev pub attribute_found : CodeAttribute × Bor (List ℕ) → Attribute × List (List ℕ)
+attribute_found found = (attribute_of found.0, lexemes found.1.now)

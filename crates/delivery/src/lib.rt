@@ -1,0 +1,19 @@
+//! The top call.
+#![tactic(auto)]
+
+mod distinct;
+mod fields;
+mod findings;
+mod lexemes;
+mod model;
+mod names;
+mod outcome;
+mod reading;
+mod records;
+mod status;
+mod word;
+
+pub use findings::{Code, Finding};
+pub use outcome::File;
+pub use status::Status;
+pub use word::Word;
