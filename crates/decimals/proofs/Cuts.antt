@@ -1,13 +1,13 @@
 -- What stands before the first point and behind it.
-use Rattle.std.proofs.Common.{◌≡◌, ◌≢◌, ℕ, ◌+◌, ◌*◌, ◌-◌, ◌^◌, ◌≤◌, ◌<◌, Bool, true, false, cond, ltb, eqb, not, ◌&&◌, List, [], ◌∷◌, length, suc, take, drop, Option, Some, None, Result, Ok, Err, refl, sym, ap, ◌∙◌, arith, add-one, length-drop}
+use Rattle.std.proofs.Common.{◌≡◌, ℕ, ◌+◌, ◌-◌, ◌<◌, Bool, true, false, cond, ltb, eqb, not, ◌&&◌, List, [], ◌∷◌, length, suc, take, drop, Option, Some, None, Result, Err, refl, sym, ap, ◌∙◌, arith, length-drop}
 use Rattle.std.proofs.lemmas.Bool.Decides.{nat_tests}
 use Rattle.std.proofs.lemmas.List.{take_all}
 use Rattle.std.proofs.Math.ListN.{drop_of_length-le}
 use borrow.Author.Tests.{ltb-true, ltb-false, lt-ltb}
 use Rattle.std.specs.List.{position, position_or_len}
 use Rattle.std.specs.Str.{all_ascii_digits}
-use Rattle.decimals.specs.Numerals.{is_digits, has_decimals, whole_of, point_of}
-use Rattle.decimals.specs.Scaled.{measured, decimals_in, unsigned_of}
+use Rattle.decimals.specs.Numerals.{is_digits, whole_of, point_of}
+use Rattle.decimals.specs.Scaled.{measured, unsigned_of}
 use Rattle.decimals.specs.Counted.{parts_of}
 use Rattle.decimals.specs.declared.DecimalFault.{DecimalFault}
 use Rattle.decimals.specs.declared.DecimalFault.TheVariants.{NotNumber}
@@ -22,8 +22,8 @@ whole_cut : (bytes : List ℕ) → whole_of bytes ≡ take (place bytes) bytes
 whole_cut [] = refl
 whole_cut (c ∷ cs) =
     elim (eqb c 46) as (λ t. cond t [] (c ∷ whole_of cs) ≡ take (cond (not t) (1 + place cs) 0) (c ∷ cs)) [
-      true ↦ refl
-    | false ↦ rw (one_add (place cs)) (ap (λ (xs : List ℕ). c ∷ xs) (whole_cut cs))
+      | true ↦ refl
+      | false ↦ rw (one_add (place cs)) (ap (λ (xs : List ℕ). c ∷ xs) (whole_cut cs))
     ]
 
 one_more : (n : ℕ) → 1 + n + 1 ≡ suc (n + 1)
@@ -36,8 +36,8 @@ point_cut : (bytes : List ℕ) → point_of bytes ≡ cond (ltb (place bytes) (l
 point_cut [] = refl
 point_cut (c ∷ cs) =
     elim (eqb c 46) as (λ t. cond t (Some cs) (point_of cs) ≡ cond (ltb (cond (not t) (1 + place cs) 0) (length (c ∷ cs))) (Some (drop (cond (not t) (1 + place cs) 0 + 1) (c ∷ cs))) None) [
-      true ↦ ap (λ (t : Bool). cond t (Some cs) None) (sym (lt-ltb 0 (suc (length cs)) (omega arith)))
-    | false ↦ rw (one_more (place cs)) (point_cut cs ∙ shifted (place cs) (length cs) (Some (drop (place cs + 1) cs)))
+      | true ↦ ap (λ (t : Bool). cond t (Some cs) None) (sym (lt-ltb 0 (suc (length cs)) (omega arith)))
+      | false ↦ rw (one_more (place cs)) (point_cut cs ∙ shifted (place cs) (length cs) (Some (drop (place cs + 1) cs)))
     ]
 
 -- the first point is at this place
@@ -86,7 +86,14 @@ pub unsigned_found : (scale at : ℕ) (bytes : List ℕ) → position (λ byte. 
 unsigned_found scale at bytes h e =
     let f = found bytes at h in
     rw (f.whole, f.point) (ap (λ (t : Bool). cond (is_digits (take at bytes) && t) (measured scale (take at bytes) (drop (at + 1) bytes)) (Err NotNumber))
-      (some_decimals (drop (at + 1) bytes) (omega (arith, length-drop (at + 1) bytes, f.within))))
+    (some_decimals (drop (at + 1) bytes) (omega (arith, length-drop (at + 1) bytes, f.within))))
+
+-- the same, where the rest of the bytes is taken by its length
+pub unsigned_rest : (scale at n : ℕ) (bytes : List ℕ) → position (λ byte. eqb byte 46) bytes ≡ Some at → (at + 1 ≡ length bytes → ⊥)
+    → n ≡ length bytes - (at + 1) → parts_of scale (take at bytes) (take n (drop (at + 1) bytes)) ≡ unsigned_of scale bytes
+unsigned_rest scale at n bytes h e k =
+    let rest = drop (at + 1) bytes in
+    ap (λ (ds : List ℕ). parts_of scale (take at bytes) ds) (take_all n rest (omega (arith, length-drop (at + 1) bytes))) ∙ sym (unsigned_found scale at bytes h e)
 
 -- no point
 pub unsigned_plain : (scale : ℕ) (bytes : List ℕ) → position (λ byte. eqb byte 46) bytes ≡ None → unsigned_of scale bytes ≡ parts_of scale bytes []

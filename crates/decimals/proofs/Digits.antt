@@ -1,6 +1,6 @@
 -- The number that digits write, and digits beside digits.
-use Rattle.std.proofs.Common.{◌≡◌, ◌≢◌, ℕ, ◌+◌, ◌*◌, ◌-◌, ◌^◌, ◌≤◌, ◌<◌, min, Bool, true, false, cond, eqb, ◌&&◌, List, [], ◌∷◌, ◌++◌, length, suc, take, drop, refl, sym, ap, ◌∙◌, arith, length-append, pow-add}
-use Rattle.std.proofs.Math.Nat.{pow-suc, pow-succ', add-mul, mul_assoc, one-le-pow}
+use Rattle.std.proofs.Common.{◌≡◌, ℕ, ◌+◌, ◌*◌, ◌-◌, ◌^◌, ◌≤◌, Bool, true, false, eqb, ◌&&◌, List, [], ◌∷◌, ◌++◌, length, take, drop, refl, sym, ap, ◌∙◌, arith, length-append, pow-add}
+use Rattle.std.proofs.Math.Nat.{add-mul, mul_assoc, one-le-pow}
 use Rattle.std.proofs.lemmas.List.{take-append-drop}
 use Rattle.std.proofs.lemmas.Nat.{mul-le}
 use borrow.Author.Tests.{eqb-true, eqb-false}
@@ -53,6 +53,6 @@ pub zeros : (ds : List ℕ) → all_ascii_digits ds ≡ true → list_all (λ c.
 zeros [] h = refl
 zeros (c ∷ cs) h =
     elim (eqb c 48) as (λ t. eqb c 48 ≡ t → (t && list_all (λ d. eqb d 48) cs) ≡ eqb ((c - 48) * 10 ^ length cs + number cs) 0) [
-      true ↦ λ e. zeros cs (both_right _ _ h) ∙ ap (λ (n : ℕ). eqb n 0) (nought c (10 ^ length cs) (number cs) (eqb-true c 48 e))
-    | false ↦ λ e. sym (digit_counts c (length cs) (number cs) (both_left _ _ h) e)
+      | true ↦ λ e. zeros cs (both_right _ _ h) ∙ ap (λ (n : ℕ). eqb n 0) (nought c (10 ^ length cs) (number cs) (eqb-true c 48 e))
+      | false ↦ λ e. sym (digit_counts c (length cs) (number cs) (both_left _ _ h) e)
     ] refl

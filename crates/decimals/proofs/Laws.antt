@@ -1,8 +1,9 @@
 -- The value of a text at a scale is what the number that it spells has there.
-use Rattle.std.proofs.Common.{◌≡◌, ◌↔◌, ℕ, ◌^◌, ◌≤◌, ◌<◌, Bool, true, false, cond, ltb, ◌&&◌, List, Option, Result, Ok, Err, ℤ, pos, refl, sym, subst, ◌∙◌, arith}
+use Rattle.std.proofs.Common.{◌≡◌, ◌↔◌, ℕ, ◌^◌, ◌<◌, arith, Bool, true, false, cond, ltb, ◌&&◌, List, Result, Ok, Err, ℤ, pos, neg_ℤ, ◌<ℤ◌, refl, sym, subst, ◌∙◌}
+use Rattle.std.proofs.lemmas.Int.{ints}
 use borrow.Author.Tests.{ltb-true, ltb-false, lt-ltb}
-use Rattle.decimals.specs.Numerals.{Numeral, Spells, Sign, is_digits, has_decimals, sign_of, after_sign, whole_of, point_of, cut}
-use Rattle.decimals.specs.Scaled.{decimals_in, magnitude, magnitude_of, is_exact, with_sign, measured, signed, scaled_of, HasValue, SpellsNone, IsTooLong, HasMoreDecimals}
+use Rattle.decimals.specs.Numerals.{Sign, unsigned, plus, minus, Numeral, Spells, is_digits, has_decimals, after_sign, whole_of, point_of, cut}
+use Rattle.decimals.specs.Scaled.{decimals_in, magnitude_of, is_exact, with_sign, measured, signed, scaled_of, HasValue, SpellsNone, IsTooLong, HasMoreDecimals}
 use Rattle.decimals.specs.declared.DecimalFault.{DecimalFault}
 use Rattle.decimals.specs.declared.DecimalFault.TheVariants.{NotNumber, TooLong, MoreDecimals}
 use Rattle.decimals.proofs.Digits.{both_left, both_right}
@@ -46,8 +47,8 @@ none_by bytes scale e = rw e refl
 pub none_decides : (bytes : List ℕ) (scale : ℕ) → SpellsNone bytes → scaled_of bytes scale ≡ Err NotNumber
 none_decides bytes scale h =
     elim (is_cut bytes) as (λ t. is_cut bytes ≡ t → scaled_of bytes scale ≡ Err NotNumber) [
-      true ↦ λ e. absurd (h (cut bytes) (cut_spelled bytes e))
-    | false ↦ λ e. none_by bytes scale e
+      | true ↦ λ e. absurd (h (cut bytes) (cut_spelled bytes e))
+      | false ↦ λ e. none_by bytes scale e
     ] refl
 
 -- Each answer has its cause.
@@ -78,8 +79,8 @@ pub reads : (bytes : List ℕ) (scale : ℕ) → Reads bytes scale (scaled_of by
 reads bytes scale =
     let P : Result ℤ DecimalFault → Type 0 = λ r. Reads bytes scale r in
     elim (is_cut bytes) as (λ t. is_cut bytes ≡ t → Reads bytes scale (scaled_of bytes scale)) [
-      true ↦ λ e. let h = cut_spelled bytes e in subst P (sym (scaled_of_spelled bytes scale (cut bytes) h)) (measured_reads bytes scale (cut bytes) _ _ h refl refl)
-    | false ↦ λ e. subst P (sym (none_by bytes scale e)) (not_cut bytes e)
+      | true ↦ λ e. let h = cut_spelled bytes e in subst P (sym (scaled_of_spelled bytes scale (cut bytes) h)) (measured_reads bytes scale (cut bytes) _ _ h refl refl)
+      | false ↦ λ e. subst P (sym (none_by bytes scale e)) (not_cut bytes e)
     ] refl
 
 -- Answer and cause together.
@@ -104,3 +105,12 @@ value_is_unique bytes scale v w h k =
     let a = value_decides bytes scale v h in
     let b = value_decides bytes scale w k in
     cc
+
+-- a value has at most 18 digits
+with_sign_within : (sign : Sign) (m : ℕ) → m < 10 ^ 18 → (neg_ℤ (pos (10 ^ 18)) <ℤ with_sign sign m) × (with_sign sign m <ℤ pos (10 ^ 18))
+with_sign_within unsigned m h = (omega (arith, ints), omega (arith, ints))
+with_sign_within plus m h = (omega (arith, ints), omega (arith, ints))
+with_sign_within minus m h = (omega (arith, ints), omega (arith, ints))
+
+pub value_is_short : (bytes : List ℕ) (scale : ℕ) (v : ℤ) → HasValue bytes scale v → (neg_ℤ (pos (10 ^ 18)) <ℤ v) × (v <ℤ pos (10 ^ 18))
+value_is_short bytes scale v h = rw h.value (with_sign_within h.numeral.sign (magnitude_of scale h.numeral) h.short)

@@ -1,5 +1,5 @@
 -- The magnitude of digits and decimals.
-use Rattle.std.proofs.Common.{◌≡◌, ◌≢◌, ℕ, ◌+◌, ◌*◌, ◌-◌, ◌^◌, ◌≤◌, ◌<◌, min, Bool, true, false, cond, ltb, eqb, ◌&&◌, List, [], ◌∷◌, ◌++◌, length, take, drop, Result, Ok, Err, refl, sym, ap, ◌∙◌, arith}
+use Rattle.std.proofs.Common.{◌≡◌, ℕ, ◌*◌, ◌-◌, ◌^◌, ◌≤◌, ◌<◌, min, Bool, true, false, cond, ltb, eqb, ◌&&◌, List, ◌++◌, length, take, drop, Result, Ok, Err, refl, sym, ap, ◌∙◌, arith}
 use Rattle.std.proofs.Math.Nat.{one-le-pow, min-eq_left, min-eq_right}
 use Rattle.std.proofs.Math.Seq.{drop-length}
 use Rattle.std.proofs.Math.ListN.{drop_of_length-le}
@@ -9,10 +9,10 @@ use borrow.Author.Tests.{ltb-true, ltb-false, lt-ltb}
 use Rattle.std.specs.List.{list_all}
 use Rattle.std.specs.Str.{all_ascii_digits}
 use Rattle.decimals.specs.Numerals.{number, is_digits}
-use Rattle.decimals.specs.Scaled.{magnitude, is_exact, measured}
+use Rattle.decimals.specs.Scaled.{measured}
 use Rattle.decimals.specs.Counted.{counted, parts_of, settled}
 use Rattle.decimals.proofs.Counting.{capped}
-use Rattle.decimals.proofs.Digits.{number-append, digits-append, digits_cut, zeros}
+use Rattle.decimals.proofs.Digits.{number-append, digits_cut, zeros}
 use Rattle.decimals.specs.declared.DecimalFault.{DecimalFault}
 use Rattle.decimals.specs.declared.DecimalFault.TheVariants.{NotNumber, TooLong, MoreDecimals}
 
@@ -79,8 +79,8 @@ decided : (M m : ℕ) (x y : Bool) → (m < 10 ^ 18 → m ≡ M) → (10 ^ 18 �
     → cond (ltb M (10 ^ 18)) (cond x (Ok M) (Err MoreDecimals)) (Err TooLong) ≡ cond (ltb m (10 ^ 18)) (cond y (Ok m) (Err MoreDecimals)) (Err TooLong)
 decided M m x y f g e =
     elim (ltb m (10 ^ 18)) as (λ t. ltb m (10 ^ 18) ≡ t → cond (ltb M (10 ^ 18)) (cond x (Ok M) (Err MoreDecimals)) (Err TooLong) ≡ cond t (cond y (Ok m) (Err MoreDecimals)) (Err TooLong)) [
-      true ↦ λ h. let k = f (ltb-true m (10 ^ 18) h) in rw (← k, h, e) refl
-    | false ↦ λ h. rw (ge-ltb M (10 ^ 18) (g (ltb-false m (10 ^ 18) h))) refl
+      | true ↦ λ h. let k = f (ltb-true m (10 ^ 18) h) in rw (← k, h, e) refl
+      | false ↦ λ h. rw (ge-ltb M (10 ^ 18) (g (ltb-false m (10 ^ 18) h))) refl
     ] refl
 
 decided_by : (N P m : ℕ) (x y : Bool) → 1 ≤ P → m ≡ min (min N (10 ^ 18) * P) (2 ^ 64 - 1) → x ≡ y
@@ -117,4 +117,4 @@ parts_value scale n w d p m whole decimals l e h k q v =
     let s = exact_by p (drop n decimals) q in
     let all : all_ascii_digits decimals ≡ true = digits_cut n decimals ∙ rw (t.1, s.0) refl in
     rw (is_number whole decimals l t.0 all, ← cut.kept, ← cut.surplus, ← cut.missing)
-      (decided_by (number (whole ++ take n decimals)) (10 ^ (scale - n)) m _ _ (one-le-pow (scale - n) 10 (omega arith)) (rw (← t.2) v) s.1)
+    (decided_by (number (whole ++ take n decimals)) (10 ^ (scale - n)) m _ _ (one-le-pow (scale - n) 10 (omega arith)) (rw (← t.2) v) s.1)

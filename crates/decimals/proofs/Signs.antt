@@ -1,7 +1,7 @@
 -- A sign before a magnitude.
-use Rattle.std.proofs.Common.{◌≡◌, ◌≢◌, ◌↔◌, IsTrue, Bool, true, false, cond, ℕ, List, Result, Ok, Err, ℤ, pos, neg_ℤ, refl, ap, ◌∙◌}
+use Rattle.std.proofs.Common.{◌≡◌, ◌≢◌, ◌↔◌, IsTrue, Bool, true, false, cond, ℕ, List, Ok, Err, pos, neg_ℤ, refl}
 use Rattle.decimals.specs.Numerals.{Sign, unsigned, plus, minus, sign_of, after_sign}
-use Rattle.decimals.specs.Scaled.{unsigned_of, scaled_of, signed, with_sign}
+use Rattle.decimals.specs.Scaled.{unsigned_of, scaled_of, with_sign}
 use Rattle.decimals.specs.declared.DecimalFault.{DecimalFault}
 
 pub scaled_fault : (bytes : List ℕ) (scale : ℕ) (e : DecimalFault) → unsigned_of scale (after_sign bytes) ≡ Err e → scaled_of bytes scale ≡ Err e

@@ -1,10 +1,10 @@
 -- A text is the spelling of at most one number: of its parts.
-use Rattle.std.proofs.Common.{◌≡◌, ◌≢◌, ℕ, ◌≤◌, Bool, true, false, cond, eqb, ◌&&◌, List, [], ◌∷◌, ◌++◌, length, drop, Option, Some, None, refl, sym, ap, ◌∙◌, arith, append-nil}
+use Rattle.std.proofs.Common.{◌≡◌, ℕ, Bool, true, false, cond, eqb, List, [], ◌∷◌, ◌++◌, length, drop, Option, Some, None, refl, sym, ap, ◌∙◌, arith}
 use Rattle.std.proofs.lemmas.Bool.Decides.{nat_tests}
-use borrow.Author.Tests.{eqb-true, lt-ltb}
+use borrow.Author.Tests.{eqb-true}
 use Rattle.std.specs.Char.{is_ascii_digit}
 use Rattle.std.specs.Str.{all_ascii_digits}
-use Rattle.decimals.specs.Numerals.{Sign, unsigned, plus, minus, sign_bytes, point_bytes, Numeral, spelling, Spells, is_digits, has_decimals, sign_of, after_sign, whole_of, point_of, cut}
+use Rattle.decimals.specs.Numerals.{Sign, unsigned, plus, minus, sign_bytes, point_bytes, Numeral, spelling, Spells, is_digits, sign_of, after_sign, whole_of, point_of, cut}
 use Rattle.decimals.proofs.Digits.{both_left, both_right}
 
 -- The parts of a text are its spelling.
@@ -23,8 +23,8 @@ joined_point : (bytes : List ℕ) → bytes ≡ whole_of bytes ++ point_bytes (p
 joined_point [] = refl
 joined_point (c ∷ cs) =
     elim (eqb c 46) as (λ t. eqb c 46 ≡ t → c ∷ cs ≡ cond t [] (c ∷ whole_of cs) ++ point_bytes (cond t (Some cs) (point_of cs))) [
-      true ↦ λ e. ap (λ (d : ℕ). d ∷ cs) (eqb-true c 46 e)
-    | false ↦ λ e. ap (λ (ds : List ℕ). c ∷ ds) (joined_point cs)
+      | true ↦ λ e. ap (λ (d : ℕ). d ∷ cs) (eqb-true c 46 e)
+      | false ↦ λ e. ap (λ (ds : List ℕ). c ∷ ds) (joined_point cs)
     ] refl
 
 pub joined : (bytes : List ℕ) → bytes ≡ spelling (cut bytes)

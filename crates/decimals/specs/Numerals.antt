@@ -1,5 +1,5 @@
 -- How a number is written: an optional sign, digits, and perhaps a point with digits behind it.
-use Rattle.std.specs.Prelude.{◌≡◌, ℕ, ◌+◌, ◌-◌, ◌*◌, ◌^◌, Bool, true, false, cond, ◌&&◌, List, [], ◌∷◌, ◌++◌, length, drop, nat_lt, ◌==◌, IsTrue, Option, Some, None}
+use Rattle.std.specs.Prelude.{◌≡◌, ℕ, ◌+◌, ◌-◌, ◌*◌, ◌^◌, Bool, true, cond, ◌&&◌, List, [], ◌∷◌, ◌++◌, length, drop, nat_lt, ◌==◌, Option, Some, None}
 use Rattle.std.specs.Str.{all_ascii_digits}
 
 -- a sign, written or not

@@ -1,4 +1,27 @@
 //! Numbers with a point, read as whole numbers at a scale.
+//!
+//! A text becomes a count of units of its last decimal: at scale 2 `12.5` is 1250. A domain's
+//! scale is the greatest number of decimals among its bounds; all values of the domain are read
+//! at it, and then compare as whole numbers.
+//!
+//! - **What is a number**: an optional `+` or `-`, one or more digits, and optionally a point with
+//!   one or more digits behind it. No blanks, no exponent, no separators of thousands.
+//! - **What has a value**: a number of at most 18 digits at the scale, where zeros in front do not
+//!   count, and whose decimals past the scale are all 0. Its value is between -(10^18 - 1) and
+//!   10^18 - 1.
+//! - **Which fault is told**: the first of `NotNumber`, `TooLong` and `MoreDecimals` that is true.
+//!   `TooLong` is told of the digits at the scale, with the decimals past it dropped: at scale 1
+//!   `12345678901234567.89` is `MoreDecimals` and not `TooLong`.
+//! - **Degenerate cases**: `-0` is 0, `007` is 7, `5` at scale 2 is 500; a text without bytes, a
+//!   sign alone, `.5` and `5.` are no numbers. A text may have any length.
+//! - **Not here**: bounds of a domain, the mark of an undefined value, writing numbers.
+//!
+//! `read_scaled` takes time linear in the text and no memory.
+//!
+//! The layers above may use the clauses of `read_scaled`; the function `scaled_of`, which is its
+//! answer for given bytes, in definitions of their own; and the laws in `proofs`: what a text
+//! spells is unique (`Spellings`), answer and cause belong together (`Laws`), and what is left of
+//! it for a text without a point at scale 0 (`WholeNumbers`).
 #![tactic(auto)]
 
 ghost use Rattle.std.specs.Prelude.{◌≡◌, ◌≤◌, ◌<◌, IfOk, ℤ, pos, neg_ℤ, Ok, Err, if◌then◌else◌, ◌^◌, ◌↔◌, ◌==◌, IsTrue, position};
@@ -29,12 +52,14 @@ pub enum DecimalFault {
 /// One more than the greatest magnitude: magnitudes are counted up to here.
 const LIMIT: u64 = 1_000_000_000_000_000_000;
 
-/// Reads the bytes as a number, in units of the last of `scale` decimals: `12.5` is 1250 at
-/// scale 2.
+/// The value of the bytes in units of the last of `scale` decimals, or the first fault.
 pub fn read_scaled(bytes: &[u8], scale: u8) -> Result<i64, DecimalFault>
     requires { scale ≤ 9 }
+    // The answer, as a function of the bytes and the scale.
     ensures answer { result ≡ scaled_of bytes.now scale }
+    // It is a value exactly where the bytes spell a number that has this value at the scale.
     ensures value { (v : ℤ) → (result ≡ Ok v) ↔ HasValue bytes.now scale v }
+    // It is each fault exactly where that is the first one.
     ensures not_number { (result ≡ Err DecimalFault.NotNumber) ↔ SpellsNone bytes.now }
     ensures too_long { (result ≡ Err DecimalFault.TooLong) ↔ IsTooLong bytes.now scale }
     ensures more_decimals { (result ≡ Err DecimalFault.MoreDecimals) ↔ HasMoreDecimals bytes.now scale }
@@ -118,12 +143,12 @@ fn read_digits(from: u64, digits: &[u8]) -> Result<u64, DecimalFault>
     requires { from ≤ 10 ^ 18 }
     ensures { result ≡ counted from digits.now }
 {
-    let mut magnitude = from;
+    let mut number = from;
     for digit in digits {
         if !digit.is_ascii_digit() {
             return Err(DecimalFault::NotNumber);
         }
-        magnitude = (magnitude * 10 + u64::from(*digit - b'0')).min(LIMIT);
+        number = (number * 10 + u64::from(*digit - b'0')).min(LIMIT);
     }
-    Ok(magnitude)
+    Ok(number)
 }

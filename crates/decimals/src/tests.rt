@@ -61,7 +61,20 @@ fn a_text_has_its_value_or_its_first_fault(rt: HostRuntime) {
         ("1234567890123456789.1", 0, Err(TooLong)),
         ("99999999999999999999999999999999999999999", 0, Err(TooLong)),
     ] {
+        assert!(rt; scale <= 9, "a scale");
         let got = read_scaled(text.as_bytes(), scale);
         assert_eq!(rt; got, want, "{text} at {scale}");
+    }
+}
+
+#[test]
+fn a_text_of_any_length_is_read(rt: HostRuntime) {
+    for (digit, want) in [(b'0', Ok(7)), (b'9', Err(TooLong)), (b'x', Err(NotNumber))] {
+        let mut text = Vec::new(rt.alloc());
+        for _ in 0..3000 {
+            text.push(digit).expect(&rt, "memory");
+        }
+        text.push(b'7').expect(&rt, "memory");
+        assert_eq!(rt; read_scaled(&text, 0), want);
     }
 }

@@ -41,7 +41,7 @@ front_is_field (c ∷ line) h k = elim (is_blank c) as (λ b. not b ≡ true →
 abbrev NoPiece : ℕ → Type 0
 NoPiece d = (is_solid d ≡ false) × (nat_eq d 46 ≡ false)
 
-either : (a b : Bool) → (a || b) ≡ true → (a ≡ true) ⊎ (b ≡ true)
+pub either : (a b : Bool) → (a || b) ≡ true → (a ≡ true) ⊎ (b ≡ true)
 either true b h = inl refl
 either false b h = inr h
 

@@ -37,10 +37,10 @@ head_text m =
     ∷ codes "TABLE" ∷ m.titles.table ∷ codes "=" ∷ []
 
 -- NO IDENT END TABLE ; END TOPIC . END MODEL . FORMAT FREE ; and the line of codes, each the default
-abbrev pub tail_text : Model → List (List ℕ)
-tail_text m =
-    codes "NO" ∷ codes "IDENT" ∷ codes "END" ∷ m.titles.table ∷ codes ";" ∷ codes "END" ∷ m.titles.topic ∷ codes "."
-    ∷ codes "END" ∷ m.titles.model ∷ codes "." ∷ codes "FORMAT" ∷ codes "FREE" ∷ codes ";"
+abbrev pub tail_text : Titles → List (List ℕ)
+tail_text t =
+    codes "NO" ∷ codes "IDENT" ∷ codes "END" ∷ t.table ∷ codes ";" ∷ codes "END" ∷ t.topic ∷ codes "."
+    ∷ codes "END" ∷ t.model ∷ codes "." ∷ codes "FORMAT" ∷ codes "FREE" ∷ codes ";"
     ∷ codes "CODE" ∷ codes "BLANK" ∷ codes "=" ∷ codes "DEFAULT" ∷ codes ","
     ∷ codes "UNDEFINED" ∷ codes "=" ∷ codes "DEFAULT" ∷ codes ","
     ∷ codes "CONTINUE" ∷ codes "=" ∷ codes "DEFAULT" ∷ codes ";"
@@ -48,7 +48,7 @@ tail_text m =
 
 -- the words, numbers and marks of the model, in order
 abbrev pub model_text : Model → List (List ℕ)
-model_text m = head_text m ++ (flat_map attribute_text m.attributes ++ tail_text m)
+model_text m = head_text m ++ (flat_map attribute_text m.attributes ++ tail_text m.titles)
 
 -- the value of a bound, as it is written
 abbrev pub value_or_zero : Result ℤ DecimalFault → ℤ
@@ -84,3 +84,14 @@ pub record IsFirstModel (text : List ℕ) (m : Model) : Type 0 where
   pub table : is_name m.titles.table ≡ true
   pub attributes : AllByRecursion IsAttribute m.attributes
   pub differ : IsDistinct (pointwise nat_eq) (attribute_names m)
+
+-- the text is a model of the first form with these titles and columns
+pub record IsModel (text : List ℕ) (titles : Titles) (columns : List Column) : Type 0 where
+  pub m : Model
+  pub is_first : IsFirstModel text m
+  pub titled : titles ≡ m.titles
+  pub ranged : columns ≡ columns_of m
+
+-- the text is no model of the first form
+abbrev pub HasNoModel : List ℕ → Type 0
+HasNoModel text = (m : Model) → IsFirstModel text m → ⊥

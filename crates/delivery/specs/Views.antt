@@ -7,6 +7,8 @@ use Rattle.delivery.specs.ModelWords.{lexemes}
 use Rattle.std.specs.Borrow.{Bor}
 use Rattle.delivery.specs.declared.model.Titles.{Titles as CodeTitles}
 use Rattle.delivery.specs.declared.model.Attribute.{Attribute as CodeAttribute}
+use Rattle.delivery.specs.Descent.{Head}
+use Rattle.delivery.specs.declared.model.Head.{Head as CodeHead}
 use Rattle.delivery.specs.declared.distinct.Distinct.{Distinct}
 use Rattle.indexmap.specs.IndexSet.{keys}
 use Rattle.delivery.specs.declared.records.Record.{Record as CodeRecord}
@@ -33,3 +35,6 @@ attribute_of a = record { name = a.name.now; low = a.low.now; high = a.high.now 
 -- an attribute and the pieces of the text behind it
 abbrev pub attribute_found : CodeAttribute × Bor (List ℕ) → Attribute × List (List ℕ)
 attribute_found found = (attribute_of found.0, lexemes found.1.now)
+
+abbrev pub head_found : CodeHead × Bor (List ℕ) → Head × List (List ℕ)
+head_found found = (record { transfer = found.0.transfer.now; titles = titles_of found.0.titles }, lexemes found.1.now)

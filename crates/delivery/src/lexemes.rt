@@ -34,6 +34,7 @@ fn joins(byte: u8, next: u8) -> bool
 fn skip_spaces(mut text: &[u8]) -> &[u8]
     ensures same { lexemes result.now ≡ lexemes text.entry.now }
     ensures front { IsTrue (begins_with_lexeme result.now) }
+    ensures length { length result.now ≤ length text.entry.now }
 {
     while let [first, rest @ ..] = text {
         if !is_space(*first) {
@@ -48,6 +49,7 @@ fn skip_spaces(mut text: &[u8]) -> &[u8]
 fn lexeme_len(text: &[u8]) -> usize
     requires { 0 < length text.now }
     ensures value { result ≡ lexeme_len text.now }
+    ensures some { 0 < result }
     ensures within { result ≤ length text.now }
 {
     for i in 1..text.len() {
@@ -63,6 +65,7 @@ fn lexeme_len(text: &[u8]) -> usize
 pub fn split_lexeme(text: &[u8]) -> Option<(&[u8], &[u8])>
     ensures some { IfSome result (λ parts. lexemes text.now ≡ parts.0.now ∷ lexemes parts.1.now) }
     ensures none { IfNone result (lexemes text.now ≡ []) }
+    ensures shorter { IfSome result (λ parts. length parts.1.now < length text.now) }
 {
     let text = skip_spaces(text);
     if text.is_empty() {

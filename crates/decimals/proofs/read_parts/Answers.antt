@@ -1,7 +1,6 @@
-use Rattle.std.proofs.Common.{rules, ◌≡◌, ℕ, ◌+◌, ◌-◌, ◌*◌, ◌^◌, ◌<◌, min, length, take, drop, Ok, Err, cond, ltb, eqb, arith, sym, ◌∙◌, refl}
-use Rattle.std.proofs.lemmas.Grind.{common_steps}
+use Rattle.std.proofs.Common.{rules, ◌≡◌, ◌-◌, ◌*◌, ◌^◌, ◌<◌, min, length, take, drop, Ok, arith, sym, ◌∙◌, refl}
 use Rattle.std.proofs.lemmas.Bool.Decides.{nat_tests}
-use Rattle.decimals.specs.Counted.{counted, parts_of}
+use Rattle.decimals.specs.Counted.{counted}
 use Rattle.decimals.proofs.Parts.{no_kept, no_surplus, parts_value}
 use Rattle.decimals.proofs.read_parts.Goals as goal
 

@@ -1,4 +1,4 @@
-use Rattle.std.proofs.Common.{rules, ◌≡◌, ℕ, ◌+◌, Ok, Err, sym, ◌∙◌, arith, ap, ℤ, FitsSigned, to_z, of_z, w64, to_z-of_z}
+use Rattle.std.proofs.Common.{rules, ◌≡◌, Ok, Err, sym, ◌∙◌, ap, ℤ, FitsSigned, to_z, of_z, w64, to_z-of_z}
 use Rattle.decimals.specs.Scaled.{unsigned_of, scaled_of, with_sign}
 use Rattle.decimals.specs.Numerals.{sign_of, after_sign}
 use Rattle.decimals.proofs.Signs.{scaled_fault, scaled_value, signed_is}

@@ -1,0 +1,13 @@
+use Rattle.std.proofs.Common.{ℕ, List, subst, sym, ◌∙◌, ◌++◌, ◌∷◌, []}
+use Rattle.delivery.specs.Descent.{Attributes}
+use Rattle.delivery.proofs.ModelParts.{more, more_at, twice_at}
+use Rattle.delivery.proofs.model.columns_at.Goals as goal
+
+pub returns-then-not-branch-clause-twice : goal.returns-then-not-branch-clause-twice
+returns-then-not-branch-clause-twice c = twice_at _ _ _ _ _ _ c.loop-attribute.invariant.before c.in-Some.ensures.value (c.in_ok-add.ensures.there c.if-not-branch.true)
+
+pub loop-attribute-preserved : goal.loop-attribute-preserved
+loop-attribute-preserved c = record {
+  before = more_at _ _ _ _ _ _ _ _ c.loop-attribute.invariant.before c.in-Some.ensures.value (c.in_ok-add.ensures.added c.if-not-branch.false) (search (c.in_ok-push.ensures.items, c.column.ensures));
+  differ = c.in_ok-add.ensures.distinct;
+}
