@@ -1,5 +1,9 @@
+pub mod EntryLemmas
 pub mod LineLemmas
 pub mod ModelLemmas
 pub mod ModelParts
+pub mod ObjectLemmas
 pub mod PieceLemmas
 pub mod Pieces
+pub mod TableLemmas
+pub mod TransferLemmas

@@ -152,12 +152,12 @@ prefix (x ∷ xs) (y ∷ ys) rest t h e =
     let p = prefix xs ys rest t h.1 k in
     record { others = p.others; all = ap (λ (z : Attribute). z ∷ ys) same ∙ ap (λ (zs : List Attribute). x ∷ zs) p.all; text = p.text }
 
-all_at : {X : Type 0} (P : X → Type 0) (xs : List X) (y : X) (zs : List X) → AllByRecursion P (xs ++ (y ∷ zs)) → P y
+pub all_at : {X : Type 0} (P : X → Type 0) (xs : List X) (y : X) (zs : List X) → AllByRecursion P (xs ++ (y ∷ zs)) → P y
 all_at P [] y zs h = h.0
 all_at P (x ∷ xs) y zs h = all_at P xs y zs h.1
 
 -- a text whose names are all different has no name again
-again_in : (xs : List (List ℕ)) (y : List ℕ) (zs : List (List ℕ)) → list_any (pointwise nat_eq y) xs ≡ true → IsDistinct (pointwise nat_eq) ((xs ++ (y ∷ [])) ++ zs) → ⊥
+pub again_in : (xs : List (List ℕ)) (y : List ℕ) (zs : List (List ℕ)) → list_any (pointwise nat_eq y) xs ≡ true → IsDistinct (pointwise nat_eq) ((xs ++ (y ∷ [])) ++ zs) → ⊥
 again_in [] y zs h d = absurd (cc)
 again_in (x ∷ xs) y zs h d = elim (either (pointwise nat_eq y x) (list_any (pointwise nat_eq y) xs) h)
   [ inl e ↦ let same : y ≡ x = same_word y x e in let k : pointwise nat_eq x y ≡ false = all_at (λ (z : List ℕ). pointwise nat_eq x z ≡ false) xs y zs (subst (AllByRecursion (λ (z : List ℕ). pointwise nat_eq x z ≡ false)) (append_assoc xs (y ∷ []) zs) (IsDistinct-head (pointwise nat_eq) x ((xs ++ (y ∷ [])) ++ zs) d)) in

@@ -5,7 +5,6 @@ use Rattle.decimals.specs.declared.DecimalFault.{DecimalFault}
 use Rattle.decimals.specs.Scaled.{scaled_of}
 use Rattle.delivery.specs.declared.model.Column.{Column}
 use Rattle.delivery.specs.Lines.{Record}
-use Rattle.delivery.specs.FirstTransfer.{values}
 use Rattle.delivery.specs.declared.findings.Code.{Code}
 use Rattle.delivery.specs.declared.findings.Code.TheVariants.{Count, Number, Range}
 use Rattle.delivery.specs.declared.findings.Finding.{Finding}
@@ -27,16 +26,23 @@ finding_at line place (Some code) = Some (record { line = line; column = place; 
 abbrev pub field_finding : ℕ → (ℕ × (Column × List ℕ)) → Option Finding
 field_finding line numbered = finding_at line numbered.0 (code_of numbered.1.0 (scaled_of numbered.1.1 0))
 
--- an object has one field for its identification and one for each column
-abbrev pub has_count : List Column → Record → Bool
-has_count columns object = length object.fields == length columns + 1
+abbrev pub count_finding : ℕ → Finding
+count_finding line = record { line = line; column = 0; code = Count }
 
--- the findings of an object: that its fields are too few or too many, else those of its fields in order
+-- the findings of an object's values in a line: that there are too few or too many, else those of each in order
+abbrev pub value_findings : List Column → ℕ → List (List ℕ) → List Finding
+value_findings columns line fields =
+    cond (length fields == length columns)
+        (filter_map (field_finding line) (enumerate_from 1 (zip columns fields)))
+        (count_finding line ∷ [])
+
+-- the findings of an object, which has an identification and one value for each column
+abbrev pub row_findings : List Column → ℕ → List (List ℕ) → List Finding
+row_findings columns line [] = count_finding line ∷ []
+row_findings columns line (identification ∷ fields) = value_findings columns line fields
+
 abbrev pub object_findings : List Column → Record → List Finding
-object_findings columns object =
-    cond (has_count columns object)
-        (filter_map (field_finding object.line) (enumerate_from 1 (zip columns (values object))))
-        (record { line = object.line; column = 0; code = Count } ∷ [])
+object_findings columns object = row_findings columns object.line object.fields
 
 -- all findings, in order of line and column
 abbrev pub findings : List Column → List Record → List Finding

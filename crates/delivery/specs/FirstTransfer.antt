@@ -61,10 +61,15 @@ pub record IsBody (t : Titles) (body : List Entry) (objects : List Record) : Typ
   pub all : body ≡ map whole (framed frame objects)
   pub each : AllByRecursion IsObject objects
 
+-- the first of some words is this one
+abbrev pub has_front : List ℕ → List (List ℕ) → Bool
+has_front word [] = false
+has_front word (front ∷ others) = pointwise nat_eq front word
+
 -- the first line has the word SCNT
 abbrev pub begins : List (List ℕ) → Bool
 begins [] = false
-begins (line ∷ others) = list_any (pointwise nat_eq (codes "SCNT")) (take 1 (fields line))
+begins (line ∷ others) = has_front (codes "SCNT") (fields line)
 
 -- The text is a transfer of the first form under these titles, with these objects.
 pub record IsFirstTransfer (t : Titles) (text : List ℕ) (objects : List Record) : Type 0 where

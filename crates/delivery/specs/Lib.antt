@@ -1,9 +1,12 @@
 pub mod Commands
+pub mod Cursor
 pub mod Descent
 pub mod Findings
 pub mod FirstModel
 pub mod FirstTransfer
+pub mod Frames
 pub mod Fronts
+pub mod Gathered
 pub mod Lines
 pub mod ModelWords
 pub mod Outcomes

@@ -7,10 +7,12 @@ mod findings;
 mod lexemes;
 mod model;
 mod names;
+mod objects;
 mod outcome;
 mod reading;
 mod records;
 mod status;
+mod transfer;
 mod word;
 
 pub use findings::{Code, Finding};
