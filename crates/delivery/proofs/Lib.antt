@@ -1,8 +1,10 @@
+pub mod CommandLemmas
 pub mod EntryLemmas
 pub mod LineLemmas
 pub mod ModelLemmas
 pub mod ModelParts
 pub mod ObjectLemmas
+pub mod OutcomeLemmas
 pub mod PieceLemmas
 pub mod Pieces
 pub mod TableLemmas

@@ -1,3 +1,4 @@
+pub mod CommandViews
 pub mod Commands
 pub mod Cursor
 pub mod Descent
@@ -9,8 +10,10 @@ pub mod Fronts
 pub mod Gathered
 pub mod Lines
 pub mod ModelWords
+pub mod OutcomeViews
 pub mod Outcomes
 pub mod Pieces
 pub mod Reading
+pub mod Refusals
 pub mod Report
 pub mod Views

@@ -85,16 +85,24 @@ abbrev pub TooLong : Option Files → Check → File → Type 0
 TooLong told c TheModel = IsLonger told c.model (limit_of TheModel)
 TooLong told c TheTransfer = (m : Model) × ReadsModel told c m × IsLonger told c.transfer (limit_of TheTransfer)
 
--- The words and the files have this outcome. Where a file could not be read, a fault of it was counted.
+-- The files that a command names have this outcome. Where a file could not be read, a fault of it was counted.
+abbrev pub Has : Option Files → (List ℕ → Type 0) → Check → Outcome → Type 0
+Has told counted c usage = ⊥
+Has told counted c (unread file) = counted (name_of c file)
+Has told counted c (too_long file) = TooLong told c file
+Has told counted c model_later = ReadsOtherModel told c
+Has told counted c transfer_later = ReadsOtherTransfer told c
+Has told counted c (rejected found) =
+    (m : Model) × (objects : List Record) × ReadsObjects told c m objects × (found ≡ findings (columns_of m) objects) × (found ≢ [])
+Has told counted c (accepted count) =
+    (m : Model) × (objects : List Record) × ReadsObjects told c m objects × (findings (columns_of m) objects ≡ []) × (count ≡ length objects)
+
+-- The words and the files have this outcome.
 abbrev pub Decides : Option Files → (List ℕ → Type 0) → List (List ℕ) → Outcome → Type 0
 Decides told counted words usage = IsUsage words
-Decides told counted words (unread file) = (c : Check) × IsCheck words c × counted (name_of c file)
-Decides told counted words (too_long file) = (c : Check) × IsCheck words c × TooLong told c file
-Decides told counted words model_later = (c : Check) × IsCheck words c × ReadsOtherModel told c
-Decides told counted words transfer_later = (c : Check) × IsCheck words c × ReadsOtherTransfer told c
-Decides told counted words (rejected found) =
-    (c : Check) × (m : Model) × (objects : List Record) × IsCheck words c × ReadsObjects told c m objects
-    × (found ≡ findings (columns_of m) objects) × (found ≢ [])
-Decides told counted words (accepted count) =
-    (c : Check) × (m : Model) × (objects : List Record) × IsCheck words c × ReadsObjects told c m objects
-    × (findings (columns_of m) objects ≡ []) × (count ≡ length objects)
+Decides told counted words (unread file) = (c : Check) × IsCheck words c × Has told counted c (unread file)
+Decides told counted words (too_long file) = (c : Check) × IsCheck words c × Has told counted c (too_long file)
+Decides told counted words model_later = (c : Check) × IsCheck words c × Has told counted c model_later
+Decides told counted words transfer_later = (c : Check) × IsCheck words c × Has told counted c transfer_later
+Decides told counted words (rejected found) = (c : Check) × IsCheck words c × Has told counted c (rejected found)
+Decides told counted words (accepted count) = (c : Check) × IsCheck words c × Has told counted c (accepted count)

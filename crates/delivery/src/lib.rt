@@ -1,6 +1,8 @@
 //! The top call.
 #![tactic(auto)]
 
+mod command;
+mod decision;
 mod distinct;
 mod fields;
 mod findings;
@@ -11,6 +13,7 @@ mod objects;
 mod outcome;
 mod reading;
 mod records;
+mod report;
 mod status;
 mod transfer;
 mod word;

@@ -144,7 +144,8 @@ struct Head<'a> {
 // What stands before the attributes, and the text behind it.
 #[tactic(auto, unfolding(crate::specs::Descent::head_at))]
 fn head_at(text: &[u8]) -> Option<(Head<'_>, &[u8])>
-    ensures { Gives head_found result (head_at (lexemes text.now)) }
+    ensures value { Gives head_found result (head_at (lexemes text.now)) }
+    ensures shorter { IfSome result (λ parts. length parts.1.now ≤ length text.now) }
 {
     let rest = behind_all(text, &BEFORE_TRANSFER)?;
     let (transfer, rest) = name_at(rest)?;
@@ -184,6 +185,7 @@ fn closes(text: &[u8], titles: &Titles<'_>) -> bool
 fn columns_at(alloc: Global, text: &[u8]) -> Result<Option<(Vec<Column>, &[u8])>, Memory>
     ensures found { IfOk result (λ found. IfSome found (λ parts. AllAttributes (lexemes text.entry.now) parts.0.items (lexemes parts.1.now))) }
     ensures twice { IfOk result (λ found. IfNone found (TwiceNamed (lexemes text.entry.now))) }
+    ensures few { IfOk result (λ found. IfSome found (λ parts. length parts.0.items ≤ length text.entry.now)) }
 {
     let mut text = text;
     let mut columns = Vec::new(alloc);
@@ -209,6 +211,7 @@ pub struct Model<'a> {
 pub fn read_model(alloc: Global, text: &[u8]) -> Result<Option<Model<'_>>, Memory>
     ensures first { IfOk result (λ found. IfSome found (λ model. IsModel text.now (titles_of model.titles) model.columns.items)) }
     ensures other { IfOk result (λ found. IfNone found (HasNoModel text.now)) }
+    ensures few { IfOk result (λ found. IfSome found (λ model. length model.columns.items ≤ length text.now)) }
 {
     let Some((head, rest)) = head_at(text) else {
         return Ok(None);

@@ -1,5 +1,6 @@
-use Rattle.std.proofs.Common.{ℕ, List, subst, sym, ◌∙◌, ◌++◌, ◌∷◌, []}
+use Rattle.std.proofs.Common.{arith, ap, length, length-append, ℕ, List, subst, sym, ◌∙◌, ◌++◌, ◌∷◌, []}
 use Rattle.delivery.specs.Descent.{Attributes}
+use Rattle.delivery.specs.declared.model.Column.{Column}
 use Rattle.delivery.proofs.ModelParts.{more, more_at, twice_at}
 use Rattle.delivery.proofs.model.columns_at.Goals as goal
 
@@ -9,5 +10,6 @@ returns-then-not-branch-clause-twice c = twice_at _ _ _ _ _ _ c.loop-attribute.i
 pub loop-attribute-preserved : goal.loop-attribute-preserved
 loop-attribute-preserved c = record {
   before = more_at _ _ _ _ _ _ _ _ c.loop-attribute.invariant.before c.in-Some.ensures.value (c.in_ok-add.ensures.added c.if-not-branch.false) (search (c.in_ok-push.ensures.items, c.column.ensures));
+  few = omega (arith, c.loop-attribute.invariant.few, c.in-Some.ensures.shorter, ap length c.in_ok-push.ensures.items, length-append {A = Column});
   differ = c.in_ok-add.ensures.distinct;
 }
