@@ -4,8 +4,10 @@ pub mod LineLemmas
 pub mod ModelLemmas
 pub mod ModelParts
 pub mod ObjectLemmas
+pub mod OneOutcome
 pub mod OutcomeLemmas
 pub mod PieceLemmas
 pub mod Pieces
+pub mod PutLemmas
 pub mod TableLemmas
 pub mod TransferLemmas

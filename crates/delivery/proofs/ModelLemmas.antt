@@ -93,10 +93,15 @@ close_gave name low high pieces a rest w h =
     let c = chose (is_ordered (written name low high)) (written name low high, k.0) (a, rest) k.2 in
     let e : written name low high ≡ a = ap (λ (p : Attribute × List (List ℕ)). p.0) c.1 in
     let f : k.0 ≡ rest = ap (λ (p : Attribute × List (List ℕ)). p.1) c.1 in
-    let g : high ≡ a.high = ap (λ (x : Attribute). x.high) e in
-    (ap (λ (x : List ℕ). x ∷ pieces) g ∙ (ap (λ (ps : List (List ℕ)). a.high ∷ ps) b ∙ ap (λ (ps : List (List ℕ)). a.high ∷ codes "]" ∷ codes ";" ∷ ps) f),
-     record { name_is = ap (λ (x : Attribute). x.name) e; low_is = ap (λ (x : Attribute). x.low) e;
-              high_ok = subst (λ (x : List ℕ). is_whole_number x ≡ true) g w; ordered = subst (λ (x : Attribute). is_ordered x ≡ true) e c.0 })
+    let g : high ≡ a.high = ap (λ (x : Attribute). x.high) e in (
+      ap (λ (x : List ℕ). x ∷ pieces) g ∙ (ap (λ (ps : List (List ℕ)). a.high ∷ ps) b ∙ ap (λ (ps : List (List ℕ)). a.high ∷ codes "]" ∷ codes ";" ∷ ps) f),
+      record {
+        name_is = ap (λ (x : Attribute). x.name) e;
+        low_is = ap (λ (x : Attribute). x.low) e;
+        high_ok = subst (λ (x : List ℕ). is_whole_number x ≡ true) g w;
+        ordered = subst (λ (x : Attribute). is_ordered x ≡ true) e c.0;
+      },
+    )
 
 high_gave : (name low : List ℕ) (pieces : List (List ℕ)) (a : Attribute) (rest : List (List ℕ)) → high_part name low pieces ≡ Some (a, rest)
     → (pieces ≡ a.high ∷ codes "]" ∷ codes ";" ∷ rest) × Agrees name low a
@@ -119,10 +124,11 @@ low_gave : (name : List ℕ) (pieces : List (List ℕ)) (a : Attribute) (rest : 
 low_gave name pieces a rest h =
     let k = gave (one_at is_whole_number pieces) (λ low. dots_part name low.0 low.1) (a, rest) h in
     let o = one_gave is_whole_number pieces k.0.0 k.0.1 k.1 in
-    let c = dots_gave name k.0.0 k.0.1 a rest k.2 in
-    (o.0 ∙ (ap (λ (x : List ℕ). x ∷ k.0.1) c.1.low_is ∙ ap (λ (ps : List (List ℕ)). a.low ∷ ps) c.0),
-     subst (λ (x : List ℕ). is_whole_number x ≡ true) c.1.low_is o.1,
-     record { name_is = c.1.name_is; low_is = refl; high_ok = c.1.high_ok; ordered = c.1.ordered })
+    let c = dots_gave name k.0.0 k.0.1 a rest k.2 in (
+      o.0 ∙ (ap (λ (x : List ℕ). x ∷ k.0.1) c.1.low_is ∙ ap (λ (ps : List (List ℕ)). a.low ∷ ps) c.0),
+      subst (λ (x : List ℕ). is_whole_number x ≡ true) c.1.low_is o.1,
+      record { name_is = c.1.name_is; low_is = refl; high_ok = c.1.high_ok; ordered = c.1.ordered },
+    )
 
 -- an attribute that is found is written
 pub attribute_gave : (pieces : List (List ℕ)) (a : Attribute) (rest : List (List ℕ)) → attribute_at pieces ≡ Some (a, rest) → (pieces ≡ attribute_text a ++ rest) × IsAttribute a
@@ -133,9 +139,10 @@ attribute_gave pieces a rest h =
     let k = gave (behind_all (codes ":" ∷ codes "[" ∷ []) n.0.1) (low_part n.0.0) (a, rest) n.2 in
     let b = behind_all_gave (codes ":" ∷ codes "[" ∷ []) n.0.1 k.0 k.1 in
     let l = low_gave n.0.0 k.0 a rest k.2 in
-    let e : n.0.0 ≡ a.name = l.2.name_is in
-    (o.0 ∙ (ap (λ (x : List ℕ). x ∷ n.0.1) e ∙ (ap (λ (ps : List (List ℕ)). a.name ∷ ps) b ∙ ap (λ (ps : List (List ℕ)). a.name ∷ codes ":" ∷ codes "[" ∷ ps) l.0)),
-     record { name = subst (λ (x : List ℕ). is_name x ≡ true) e o.1; low = l.1; high = l.2.high_ok; ordered = ordered_is a l.2.ordered })
+    let e : n.0.0 ≡ a.name = l.2.name_is in (
+      o.0 ∙ (ap (λ (x : List ℕ). x ∷ n.0.1) e ∙ (ap (λ (ps : List (List ℕ)). a.name ∷ ps) b ∙ ap (λ (ps : List (List ℕ)). a.name ∷ codes ":" ∷ codes "[" ∷ ps) l.0)),
+      record { name = subst (λ (x : List ℕ). is_name x ≡ true) e o.1; low = l.1; high = l.2.high_ok; ordered = ordered_is a l.2.ordered },
+    )
 
 -- and an attribute that is written is found
 pub attribute_is : (a : Attribute) (rest : List (List ℕ)) → IsAttribute a → attribute_at (attribute_text a ++ rest) ≡ Some (a, rest)

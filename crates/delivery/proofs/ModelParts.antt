@@ -72,9 +72,9 @@ head_gave pieces h rest e =
     let t = behind_all_gave (codes "=" ∷ []) d.rest l.0 l.1 in
     let s = (chose true (headed a.name b.name c.name d.name, l.0) (h, rest) l.2).1 in
     let text = a.text ∙ ap (λ (ps : List (List ℕ)). codes "TRANSFER" ∷ a.name ∷ ps) (b.text
-        ∙ ap (λ (ps : List (List ℕ)). codes ";" ∷ codes "MODEL" ∷ b.name ∷ ps) (c.text
-        ∙ ap (λ (ps : List (List ℕ)). codes "TOPIC" ∷ c.name ∷ ps) (d.text
-        ∙ ap (λ (ps : List (List ℕ)). codes "=" ∷ codes "TABLE" ∷ d.name ∷ ps) t))) in
+    ∙ ap (λ (ps : List (List ℕ)). codes ";" ∷ codes "MODEL" ∷ b.name ∷ ps) (c.text
+    ∙ ap (λ (ps : List (List ℕ)). codes "TOPIC" ∷ c.name ∷ ps) (d.text
+    ∙ ap (λ (ps : List (List ℕ)). codes "=" ∷ codes "TABLE" ∷ d.name ∷ ps) t))) in
     let names : NamedHead (headed a.name b.name c.name d.name) = record { transfer = a.ok; model = b.ok; topic = c.ok; table = d.ok } in
     subst (λ (p : Head × List (List ℕ)). (pieces ≡ head_words p.0 ++ p.1) × NamedHead p.0) s (text, names)
 
@@ -110,18 +110,18 @@ more pieces names columns rest behind a h e =
     record {
       attributes = xs ++ (a ∷ []);
       text = h.text ∙ (ap (λ (ps : List (List ℕ)). flat_map attribute_text xs ++ ps) g.0
-        ∙ (sym (append_assoc (flat_map attribute_text xs) (attribute_text a) behind)
-        ∙ ap (λ (ps : List (List ℕ)). ps ++ behind) (sym (flat_map-append attribute_text xs (a ∷ [])))));
+          ∙ (sym (append_assoc (flat_map attribute_text xs) (attribute_text a) behind)
+          ∙ ap (λ (ps : List (List ℕ)). ps ++ behind) (sym (flat_map-append attribute_text xs (a ∷ [])))));
       each = all_more xs a h.each g.1;
       named = ap (λ (ns : List (List ℕ)). ns ++ (a.name ∷ [])) h.named ∙ sym (map-append (λ (x : Attribute). x.name) xs (a ∷ []));
-      ranged = ap (λ (cs : List Column). cs ++ (column_of a ∷ [])) h.ranged ∙ sym (map-append column_of xs (a ∷ []))
+      ranged = ap (λ (cs : List Column). cs ++ (column_of a ∷ [])) h.ranged ∙ sym (map-append column_of xs (a ∷ []));
     }
 
 pub more_at : (pieces names : List (List ℕ)) (columns : List Column) (rest behind : List (List ℕ)) (a : Attribute) (new_names : List (List ℕ)) (new_columns : List Column)
     → Attributes pieces names columns rest → attribute_at rest ≡ Some (a, behind) → new_names ≡ names ++ (a.name ∷ []) → new_columns ≡ columns ++ (column_of a ∷ []) → Attributes pieces new_names new_columns behind
 more_at pieces names columns rest behind a new_names new_columns h e n k =
     subst (λ (ns : List (List ℕ)). Attributes pieces ns new_columns behind) (sym n)
-        (subst (λ (cs : List Column). Attributes pieces (names ++ (a.name ∷ [])) cs behind) (sym k) (more pieces names columns rest behind a h e))
+    (subst (λ (cs : List Column). Attributes pieces (names ++ (a.name ∷ [])) cs behind) (sym k) (more pieces names columns rest behind a h e))
 
 pub twice_at : (pieces names : List (List ℕ)) (columns : List Column) (rest behind : List (List ℕ)) (a : Attribute)
     → Attributes pieces names columns rest → attribute_at rest ≡ Some (a, behind) → list_any (pointwise nat_eq a.name) names ≡ true → TwiceNamed pieces
@@ -159,10 +159,11 @@ all_at P (x ∷ xs) y zs h = all_at P xs y zs h.1
 -- a text whose names are all different has no name again
 pub again_in : (xs : List (List ℕ)) (y : List ℕ) (zs : List (List ℕ)) → list_any (pointwise nat_eq y) xs ≡ true → IsDistinct (pointwise nat_eq) ((xs ++ (y ∷ [])) ++ zs) → ⊥
 again_in [] y zs h d = absurd (cc)
-again_in (x ∷ xs) y zs h d = elim (either (pointwise nat_eq y x) (list_any (pointwise nat_eq y) xs) h)
-  [ inl e ↦ let same : y ≡ x = same_word y x e in let k : pointwise nat_eq x y ≡ false = all_at (λ (z : List ℕ). pointwise nat_eq x z ≡ false) xs y zs (subst (AllByRecursion (λ (z : List ℕ). pointwise nat_eq x z ≡ false)) (append_assoc xs (y ∷ []) zs) (IsDistinct-head (pointwise nat_eq) x ((xs ++ (y ∷ [])) ++ zs) d)) in
+again_in (x ∷ xs) y zs h d = elim (either (pointwise nat_eq y x) (list_any (pointwise nat_eq y) xs) h) [
+  | inl e ↦ let same : y ≡ x = same_word y x e in let k : pointwise nat_eq x y ≡ false = all_at (λ (z : List ℕ). pointwise nat_eq x z ≡ false) xs y zs (subst (AllByRecursion (λ (z : List ℕ). pointwise nat_eq x z ≡ false)) (append_assoc xs (y ∷ []) zs) (IsDistinct-head (pointwise nat_eq) x ((xs ++ (y ∷ [])) ++ zs) d)) in
       absurd (cc (ap (λ (z : List ℕ). pointwise nat_eq x z) same, word_is x, k))
-  | inr e ↦ again_in xs y zs e (IsDistinct-tail (pointwise nat_eq) x ((xs ++ (y ∷ [])) ++ zs) d) ]
+  | inr e ↦ again_in xs y zs e (IsDistinct-tail (pointwise nat_eq) x ((xs ++ (y ∷ [])) ++ zs) d)
+]
 
 -- The model as a whole.
 
@@ -170,7 +171,7 @@ again_in (x ∷ xs) y zs h d = elim (either (pointwise nat_eq y x) (list_any (po
 behind_head : (text : List ℕ) (m : Model) → IsFirstModel text m → head_at (lexemes text) ≡ Some (record { transfer = m.transfer; titles = m.titles }, flat_map attribute_text m.attributes ++ tail_text m.titles)
 behind_head text m f =
     ap head_at f.spelled ∙ head_is (record { transfer = m.transfer; titles = m.titles }) (flat_map attribute_text m.attributes ++ tail_text m.titles)
-        (record { transfer = f.transfer; model = f.model; topic = f.topic; table = f.table })
+    (record { transfer = f.transfer; model = f.model; topic = f.topic; table = f.table })
 
 same_head : (text : List ℕ) (h : Head) (rest : List (List ℕ)) → head_at (lexemes text) ≡ Some (h, rest) → (m : Model) → IsFirstModel text m
     → (h, rest) ≡ (let x : Head × List (List ℕ) = (record { transfer = m.transfer; titles = m.titles }, flat_map attribute_text m.attributes ++ tail_text m.titles) in x)
@@ -190,8 +191,8 @@ pub no_twice : (text : List ℕ) (h : Head) (rest : List (List ℕ)) → head_at
 no_twice text h rest e w m f =
     let p = others_of text h rest e w.before.attributes w.rest w.before.each w.before.text m f in
     let named : attribute_names m ≡ (w.names ++ (w.again ∷ [])) ++ map (λ (a : Attribute). a.name) p.others =
-        ap (map (λ (a : Attribute). a.name)) p.all ∙ (map-append (λ (a : Attribute). a.name) w.before.attributes p.others
-        ∙ ap (λ (ns : List (List ℕ)). ns ++ map (λ (a : Attribute). a.name) p.others) (sym w.before.named)) in
+    ap (map (λ (a : Attribute). a.name)) p.all ∙ (map-append (λ (a : Attribute). a.name) w.before.attributes p.others
+    ∙ ap (λ (ns : List (List ℕ)). ns ++ map (λ (a : Attribute). a.name) p.others) (sym w.before.named)) in
     again_in w.names w.again (map (λ (a : Attribute). a.name) p.others) w.there (subst (IsDistinct (pointwise nat_eq)) named f.differ)
 
 pub no_close : (text : List ℕ) (h : Head) (rest : List (List ℕ)) (columns : List Column) (last : List (List ℕ)) → head_at (lexemes text) ≡ Some (h, rest) → AllAttributes rest columns last
@@ -206,7 +207,7 @@ no_close text h rest columns last e w c m f =
     none_left (z ∷ zs) a t k =
         let i : IsAttribute z = all_at IsAttribute w.before.attributes z zs (subst (AllByRecursion IsAttribute) a f.attributes) in
         let u : attribute_at last ≡ Some (z, flat_map attribute_text zs ++ tail_text m.titles) =
-            ap attribute_at (t ∙ append_assoc (attribute_text z) (flat_map attribute_text zs) (tail_text m.titles)) ∙ attribute_is z (flat_map attribute_text zs ++ tail_text m.titles) i in
+        ap attribute_at (t ∙ append_assoc (attribute_text z) (flat_map attribute_text zs) (tail_text m.titles)) ∙ attribute_is z (flat_map attribute_text zs ++ tail_text m.titles) i in
         absurd (cc (u, w.last))
 
 pub is_model : (text : List ℕ) (h : Head) (rest : List (List ℕ)) (columns : List Column) (last : List (List ℕ)) → head_at (lexemes text) ≡ Some (h, rest) → AllAttributes rest columns last
@@ -218,9 +219,37 @@ is_model text h rest columns last e w c =
       m = model_with h w.before.attributes;
       is_first = record {
         spelled = g.0 ∙ ap (λ (ps : List (List ℕ)). head_words h ++ ps) (w.before.text ∙ ap (λ (ps : List (List ℕ)). flat_map attribute_text w.before.attributes ++ ps) t);
-        transfer = g.1.transfer; model = g.1.model; topic = g.1.topic; table = g.1.table;
+        transfer = g.1.transfer;
+        model = g.1.model;
+        topic = g.1.topic;
+        table = g.1.table;
         attributes = w.before.each;
-        differ = subst (IsDistinct (pointwise nat_eq)) w.before.named w.differ };
+        differ = subst (IsDistinct (pointwise nat_eq)) w.before.named w.differ;
+      };
       titled = refl;
-      ranged = w.before.ranged
+      ranged = w.before.ranged;
     }
+
+-- A text is one model of the first form.
+
+abbrev model_of : List ℕ → Titles → List Attribute → Model
+model_of transfer titles attributes = record { transfer = transfer; titles = titles; attributes = attributes }
+
+none_more : (others : List Attribute) (s t : Titles) → AllByRecursion IsAttribute others → tail_text s ≡ flat_map attribute_text others ++ tail_text t → others ≡ []
+none_more [] s t h e = refl
+none_more (z ∷ zs) s t h e = let n : z.name ≡ codes "NO" = cc in absurd (cc (ap is_name n, no_name, h.0.name))
+
+all_behind : (xs ys : List Attribute) → AllByRecursion IsAttribute (xs ++ ys) → AllByRecursion IsAttribute ys
+all_behind [] ys h = h
+all_behind (x ∷ xs) ys h = all_behind xs ys h.1
+
+pub one_model : (text : List ℕ) (m n : Model) → IsFirstModel text m → IsFirstModel text n → m ≡ n
+one_model text m n f g =
+    let h : Head = record { transfer = m.transfer; titles = m.titles } in
+    let s = same_head text h (flat_map attribute_text m.attributes ++ tail_text m.titles) (behind_head text m f) n g in
+    let transfer : m.transfer ≡ n.transfer = ap (λ (o : Head × List (List ℕ)). o.0.transfer) s in
+    let titles : m.titles ≡ n.titles = ap (λ (o : Head × List (List ℕ)). o.0.titles) s in
+    let p = prefix m.attributes n.attributes (tail_text m.titles) n.titles f.attributes (ap (λ (o : Head × List (List ℕ)). o.1) s) in
+    let none : p.others ≡ [] = none_more p.others m.titles n.titles (all_behind m.attributes p.others (subst (AllByRecursion IsAttribute) p.all g.attributes)) p.text in
+    let attributes : m.attributes ≡ n.attributes = sym (append-nil m.attributes) ∙ (ap (λ (xs : List Attribute). m.attributes ++ xs) (sym none) ∙ sym p.all) in
+    ap (λ (w : List ℕ). model_of w m.titles m.attributes) transfer ∙ (ap (λ (t : Titles). model_of n.transfer t m.attributes) titles ∙ ap (λ (xs : List Attribute). model_of n.transfer n.titles xs) attributes)

@@ -25,15 +25,17 @@ none_in d line e = rw e refl
 
 pub field_front : (c : ℕ) (line : List ℕ) → is_blank c ≡ false → fields (c ∷ line) ≡ take (field_len (c ∷ line)) (c ∷ line) ∷ fields (drop (field_len (c ∷ line)) (c ∷ line))
 field_front c [] h = rw h refl
-field_front c (d ∷ line) h = elim (is_blank d) as (λ b. is_blank d ≡ b → fields (c ∷ d ∷ line) ≡ take (field_len (c ∷ d ∷ line)) (c ∷ d ∷ line) ∷ fields (drop (field_len (c ∷ d ∷ line)) (c ∷ d ∷ line)))
-  [ true ↦ λ e. ends c d line h e ∙ rw (len_in c (d ∷ line) h, none_in d line e) refl
-  | false ↦ λ e. grows c d line h e ∙ (ap (grown c) (field_front d line e) ∙ rw (len_in c (d ∷ line) h) refl) ] refl
+field_front c (d ∷ line) h = elim (is_blank d) as (λ b. is_blank d ≡ b → fields (c ∷ d ∷ line) ≡ take (field_len (c ∷ d ∷ line)) (c ∷ d ∷ line) ∷ fields (drop (field_len (c ∷ d ∷ line)) (c ∷ d ∷ line))) [
+  | true ↦ λ e. ends c d line h e ∙ rw (len_in c (d ∷ line) h, none_in d line e) refl
+  | false ↦ λ e. grows c d line h e ∙ (ap (grown c) (field_front d line e) ∙ rw (len_in c (d ∷ line) h) refl)
+] refl
 
 pub front_is_field : (line : List ℕ) → begins_with_field line ≡ true → 0 < length line → fields line ≡ take (field_len line) line ∷ fields (drop (field_len line) line)
 front_is_field [] h k = absurd (omega arith)
-front_is_field (c ∷ line) h k = elim (is_blank c) as (λ b. not b ≡ true → is_blank c ≡ b → fields (c ∷ line) ≡ take (field_len (c ∷ line)) (c ∷ line) ∷ fields (drop (field_len (c ∷ line)) (c ∷ line)))
-  [ true ↦ λ g e. absurd cc
-  | false ↦ λ g e. field_front c line e ] h refl
+front_is_field (c ∷ line) h k = elim (is_blank c) as (λ b. not b ≡ true → is_blank c ≡ b → fields (c ∷ line) ≡ take (field_len (c ∷ line)) (c ∷ line) ∷ fields (drop (field_len (c ∷ line)) (c ∷ line))) [
+  | true ↦ λ g e. absurd cc
+  | false ↦ λ g e. field_front c line e
+] h refl
 
 -- The same of a model's text.
 
@@ -49,13 +51,16 @@ only_at : (d k : ℕ) → NoPiece k → nat_eq d k ≡ true → NoPiece d
 only_at d k h e = subst NoPiece (sym (eqb-true d k e)) h
 
 space_in_none : (d : ℕ) → is_space d ≡ true → NoPiece d
-space_in_none d h = elim (either _ _ h)
-  [ inr e ↦ only_at d 10 (refl, refl) e
-  | inl g ↦ elim (either _ _ g)
-    [ inr e ↦ only_at d 13 (refl, refl) e
-    | inl f ↦ elim (either _ _ f)
-      [ inr e ↦ only_at d 9 (refl, refl) e
-      | inl e ↦ only_at d 32 (refl, refl) e ] ] ]
+space_in_none d h = elim (either _ _ h) [
+  | inr e ↦ only_at d 10 (refl, refl) e
+  | inl g ↦ elim (either _ _ g) [
+    | inr e ↦ only_at d 13 (refl, refl) e
+    | inl f ↦ elim (either _ _ f) [
+      | inr e ↦ only_at d 9 (refl, refl) e
+      | inl e ↦ only_at d 32 (refl, refl) e
+    ]
+  ]
+]
 
 nor : (a b : Bool) → ((a && false) || (b && false)) ≡ false
 nor true true = refl
@@ -89,15 +94,17 @@ CutAt text n = lexemes text ≡ take n text ∷ lexemes (drop n text)
 
 pub lexeme_front : (c : ℕ) (text : List ℕ) → is_space c ≡ false → lexemes (c ∷ text) ≡ take (lexeme_len (c ∷ text)) (c ∷ text) ∷ lexemes (drop (lexeme_len (c ∷ text)) (c ∷ text))
 lexeme_front c [] h = ap (λ (b : Bool). cond b [] ((c ∷ []) ∷ [])) h
-lexeme_front c (d ∷ text) h = elim (joins c d) as (λ b. joins c d ≡ b → CutAt (c ∷ d ∷ text) (lexeme_len (c ∷ d ∷ text)))
-  [ true ↦ λ e. subst (CutAt (c ∷ d ∷ text)) (sym (len_more c d text e)) (text_grows c d text h e ∙ ap (grown c) (lexeme_front d text (no_space c d e)))
-  | false ↦ λ e. subst (CutAt (c ∷ d ∷ text)) (sym (len_one c d text e)) (text_ends c d text h e) ] refl
+lexeme_front c (d ∷ text) h = elim (joins c d) as (λ b. joins c d ≡ b → CutAt (c ∷ d ∷ text) (lexeme_len (c ∷ d ∷ text))) [
+  | true ↦ λ e. subst (CutAt (c ∷ d ∷ text)) (sym (len_more c d text e)) (text_grows c d text h e ∙ ap (grown c) (lexeme_front d text (no_space c d e)))
+  | false ↦ λ e. subst (CutAt (c ∷ d ∷ text)) (sym (len_one c d text e)) (text_ends c d text h e)
+] refl
 
 pub front_is_lexeme : (text : List ℕ) → begins_with_lexeme text ≡ true → 0 < length text → lexemes text ≡ take (lexeme_len text) text ∷ lexemes (drop (lexeme_len text) text)
 front_is_lexeme [] h k = absurd (omega arith)
-front_is_lexeme (c ∷ text) h k = elim (is_space c) as (λ b. not b ≡ true → is_space c ≡ b → lexemes (c ∷ text) ≡ take (lexeme_len (c ∷ text)) (c ∷ text) ∷ lexemes (drop (lexeme_len (c ∷ text)) (c ∷ text)))
-  [ true ↦ λ g e. absurd cc
-  | false ↦ λ g e. lexeme_front c text e ] h refl
+front_is_lexeme (c ∷ text) h k = elim (is_space c) as (λ b. not b ≡ true → is_space c ≡ b → lexemes (c ∷ text) ≡ take (lexeme_len (c ∷ text)) (c ∷ text) ∷ lexemes (drop (lexeme_len (c ∷ text)) (c ∷ text))) [
+  | true ↦ λ g e. absurd cc
+  | false ↦ λ g e. lexeme_front c text e
+] h refl
 
 one_long : (xs : List ℕ) → length xs ≡ 1 → lexeme_len xs ≡ 1
 one_long [] h = absurd (omega arith)

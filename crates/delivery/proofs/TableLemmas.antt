@@ -28,13 +28,13 @@ more body ids columns found count rest behind r new_ids new_found new_count h e 
     record {
       objects = xs ++ (r ∷ []);
       text = h.text ∙ (ap (λ (es : List Entry). map whole xs ++ es) e
-        ∙ (sym (append_assoc (map whole xs) (whole r ∷ []) behind) ∙ ap (λ (es : List Entry). es ++ behind) (sym (map-append whole xs (r ∷ [])))));
+          ∙ (sym (append_assoc (map whole xs) (whole r ∷ []) behind) ∙ ap (λ (es : List Entry). es ++ behind) (sym (map-append whole xs (r ∷ [])))));
       each = all_more xs r h.each (record { word = w; plain = p });
       identified = i ∙ (ap (λ (is : List (List ℕ)). is ++ identification r) h.identified
-        ∙ (ap (λ (is : List (List ℕ)). flat_map identification xs ++ is) (sym (append-nil (identification r))) ∙ sym (flat_map-append identification xs (r ∷ []))));
+          ∙ (ap (λ (is : List (List ℕ)). flat_map identification xs ++ is) (sym (append-nil (identification r))) ∙ sym (flat_map-append identification xs (r ∷ []))));
       judged = f ∙ (ap (λ (fs : List Finding). fs ++ object_findings columns r) h.judged
-        ∙ (ap (λ (fs : List Finding). findings columns xs ++ fs) (sym (append-nil (object_findings columns r))) ∙ sym (flat_map-append (object_findings columns) xs (r ∷ []))));
-      counted = n ∙ omega (arith, h.counted, length-append xs (r ∷ []))
+          ∙ (ap (λ (fs : List Finding). findings columns xs ++ fs) (sym (append-nil (object_findings columns r))) ∙ sym (flat_map-append (object_findings columns) xs (r ∷ []))));
+      counted = n ∙ omega (arith, h.counted, length-append xs (r ∷ []));
     }
 
 -- What may follow the objects that were gathered, where there is a table: one more object, or ETAB.
@@ -55,7 +55,7 @@ unfolding Distinct
 follows_from [] [] rest behind etab hx hy w e before ids n d = end etab behind e w
 follows_from [] (y ∷ ys) rest behind etab hx hy w e before ids n d =
     one_more y (map whole ys ++ (whole etab ∷ behind)) (flat_map identification ys) e hy.0
-        (subst (λ (is : List (List ℕ)). Distinct (is ++ (identification y ++ flat_map identification ys))) (sym (n ∙ append-nil before)) d)
+    (subst (λ (is : List (List ℕ)). Distinct (is ++ (identification y ++ flat_map identification ys))) (sym (n ∙ append-nil before)) d)
 follows_from (x ∷ xs) [] rest behind etab hx hy w e before ids n d =
     let same : x ≡ etab = cc in
     absurd (obje_is_no_etab (sym hx.0.word ∙ (ap (λ (r : Record). r.word) same ∙ w)))
@@ -63,8 +63,8 @@ follows_from (x ∷ xs) (y ∷ ys) rest behind etab hx hy w e before ids n d =
     let same : y ≡ x = cc in
     let k : map whole xs ++ rest ≡ map whole ys ++ (whole etab ∷ behind) = cc in
     follows_from xs ys rest behind etab hx.1 hy.1 w k (before ++ identification x) ids
-        (n ∙ sym (append_assoc before (identification x) (flat_map identification xs)))
-        (subst Distinct (sym (append_assoc before (identification y) (flat_map identification ys)) ∙ ap (λ (r : Record). (before ++ identification r) ++ flat_map identification ys) same) d)
+    (n ∙ sym (append_assoc before (identification x) (flat_map identification xs)))
+    (subst Distinct (sym (append_assoc before (identification y) (flat_map identification ys)) ∙ ap (λ (r : Record). (before ++ identification r) ++ flat_map identification ys) same) d)
 
 follows : (body : List Entry) (ids : List (List ℕ)) (columns : List Column) (found : List Finding) (count : ℕ) (rest : List Entry) → SomeObjects body ids columns found count rest
     → (objects : List Record) (etab : Record) (behind : List Entry) → IsTable body objects etab behind → Follows rest ids
@@ -107,6 +107,7 @@ module _ {body : List Entry} {ids : List (List ℕ)} {columns : List Column} {fo
           there : (i : List (List ℕ)) → IsDistinct (pointwise nat_eq) (ids ++ (i ++ is)) → IsThere i ids → ⊥
           there [] d p = absurd p
           there (x ∷ xs) d p = again_in ids x (xs ++ is) p (subst (IsDistinct (pointwise nat_eq)) (sym (append_assoc ids (x ∷ []) (xs ++ is))) d)
+
       no : Follows rest ids → ⊥
       no (one_more q others is f o d) = let same : r ≡ q = cc in again q is o d (subst (λ (x : Record). IsRefused x ids) same k)
       no (end q others f o) = let same : q ≡ r = cc in let w : r.word ≡ codes "ETAB" = ap (λ (x : Record). x.word) (sym same) ∙ o in

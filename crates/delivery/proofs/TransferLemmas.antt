@@ -84,9 +84,16 @@ opening_gave t body rest h =
     let p = title_gave (codes "TOPI") t.topic b.0 c.0 c.1 in
     let q = title_gave (codes "TABL") t.table c.0 rest c.2 in
     record {
-      mtid = a.0.0; modl = m.line; topi = p.line; tabl = q.line;
+      mtid = a.0.0;
+      modl = m.line;
+      topi = p.line;
+      tabl = q.line;
       text = r.0 ∙ ap (λ (es : List Entry). whole a.0.0 ∷ es) (m.text ∙ ap (λ (es : List Entry). whole m.line ∷ es) (p.text ∙ ap (λ (es : List Entry). whole p.line ∷ es) q.text));
-      mtid_is = r.1; modl_is = m.names; topi_is = p.names; tabl_is = q.names }
+      mtid_is = r.1;
+      modl_is = m.names;
+      topi_is = p.names;
+      tabl_is = q.names;
+    }
 
 opening_is : (t : Titles) (mtid modl topi tabl : Record) (rest : List Entry) → mtid.word ≡ codes "MTID" → Names (codes "MODL") t.model modl → Names (codes "TOPI") t.topic topi → Names (codes "TABL") t.table tabl
     → frame_at t (whole mtid ∷ whole modl ∷ whole topi ∷ whole tabl ∷ rest) ≡ Some rest
@@ -126,9 +133,14 @@ closing_gave rest h = done_at (last_records rest) h refl
         let q = record_gave (codes "EMOD") a.0.1 b.0.0 b.0.1 b.1 in
         let s = record_gave (codes "ENDE") b.0.1 r [] b.2 in
         record {
-          etop = a.0.0; emod = b.0.0; ende = r;
+          etop = a.0.0;
+          emod = b.0.0;
+          ende = r;
           text = p.0 ∙ ap (λ (es : List Entry). whole a.0.0 ∷ es) (q.0 ∙ ap (λ (es : List Entry). whole b.0.0 ∷ es) s.0);
-          etop_is = p.1; emod_is = q.1; ende_is = s.1 }
+          etop_is = p.1;
+          emod_is = q.1;
+          ende_is = s.1;
+        }
 
 closing_is : (etop emod ende : Record) → etop.word ≡ codes "ETOP" → emod.word ≡ codes "EMOD" → ende.word ≡ codes "ENDE" → closes_frame (whole etop ∷ whole emod ∷ whole ende ∷ []) ≡ true
 unfolding closes_frame
@@ -208,6 +220,17 @@ same_rest (x ∷ xs) [] e f rest behind hx hy we wf h =
     let same : x ≡ f = cc in absurd (obje_is_no_etab (sym hx.0.word ∙ (ap (λ (r : Record). r.word) same ∙ wf)))
 same_rest (x ∷ xs) (y ∷ ys) e f rest behind hx hy we wf h = same_rest xs ys e f rest behind hx.1 hy.1 we wf (cc)
 
+same_objects : (xs ys : List Record) (e f : Record) (rest behind : List Entry) → AllByRecursion IsObject xs → AllByRecursion IsObject ys → e.word ≡ codes "ETAB" → f.word ≡ codes "ETAB"
+    → map whole xs ++ (whole e ∷ rest) ≡ map whole ys ++ (whole f ∷ behind) → xs ≡ ys
+same_objects [] [] e f rest behind hx hy we wf h = refl
+same_objects [] (y ∷ ys) e f rest behind hx hy we wf h =
+    let same : y ≡ e = cc in absurd (obje_is_no_etab (sym hy.0.word ∙ (ap (λ (r : Record). r.word) same ∙ we)))
+same_objects (x ∷ xs) [] e f rest behind hx hy we wf h =
+    let same : x ≡ f = cc in absurd (obje_is_no_etab (sym hx.0.word ∙ (ap (λ (r : Record). r.word) same ∙ wf)))
+same_objects (x ∷ xs) (y ∷ ys) e f rest behind hx hy we wf h =
+    let same : x ≡ y = cc in let k : map whole xs ++ (whole e ∷ rest) ≡ map whole ys ++ (whole f ∷ behind) = cc in
+    ap (λ (r : Record). r ∷ xs) same ∙ ap (λ (rs : List Record). y ∷ rs) (same_objects xs ys e f rest behind hx.1 hy.1 we wf k)
+
 -- The transfer as a whole.
 
 module _ (t : Titles) (text : List ℕ) where
@@ -244,7 +267,8 @@ module _ (t : Titles) (text : List ℕ) where
         text = s ∙ map-append whole objects (r.etab ∷ r.etop ∷ r.emod ∷ r.ende ∷ []);
         each = f.body.each;
         ends = f.body.is_frame.etab;
-        differ = f.differ }
+        differ = f.differ;
+      }
 
   pub no_table : (n : ℕ) (ls : List (List ℕ)) (body : List Entry) → behind_head (lines text) ≡ Some (n, ls) → frame_at t (entries n ls) ≡ Some body → IsNoTable body → HasNoTransfer t text
   no_table n ls body h e k objects f = k objects f.body.frame.etab _ (table_of n ls body h e objects f)
@@ -255,7 +279,7 @@ module _ (t : Titles) (text : List ℕ) where
       let r = f.body.frame in
       let w = table_of n ls body h e objects f in
       let s : rest ≡ whole r.etop ∷ whole r.emod ∷ whole r.ende ∷ [] =
-          same_rest a.before.objects objects a.etab r.etab rest (whole r.etop ∷ whole r.emod ∷ whole r.ende ∷ []) a.before.each w.each a.ends w.ends (sym a.before.text ∙ w.text) in
+      same_rest a.before.objects objects a.etab r.etab rest (whole r.etop ∷ whole r.emod ∷ whole r.ende ∷ []) a.before.each w.each a.ends w.ends (sym a.before.text ∙ w.text) in
       absurd (cc (ap closes_frame s, closing_is r.etop r.emod r.ende f.body.is_frame.etop f.body.is_frame.emod f.body.is_frame.ende, c))
 
   pub is_transfer : (n : ℕ) (ls : List (List ℕ)) (body : List Entry) (columns : List Column) (found : List Finding) (count : ℕ) (rest : List Entry)
@@ -268,18 +292,38 @@ module _ (t : Titles) (text : List ℕ) where
       let frame : Frame = record { mtid = o.mtid; modl = o.modl; topi = o.topi; tabl = o.tabl; etab = a.etab; etop = z.etop; emod = z.emod; ende = z.ende } in
       let tail = a.etab ∷ z.etop ∷ z.emod ∷ z.ende ∷ [] in
       let all : entries (length k.head + 2) ls ≡ map whole (framed frame xs) =
-          ap (λ (m : ℕ). entries m ls) (sym k.counted)
-          ∙ (o.text ∙ ap (λ (es : List Entry). whole o.mtid ∷ whole o.modl ∷ whole o.topi ∷ whole o.tabl ∷ es)
-              (a.before.text ∙ (ap (λ (es : List Entry). map whole xs ++ (whole a.etab ∷ es)) z.text ∙ sym (map-append whole xs tail)))) in
+      ap (λ (m : ℕ). entries m ls) (sym k.counted)
+      ∙ (o.text ∙ ap (λ (es : List Entry). whole o.mtid ∷ whole o.modl ∷ whole o.topi ∷ whole o.tabl ∷ es)
+      (a.before.text ∙ (ap (λ (es : List Entry). map whole xs ++ (whole a.etab ∷ es)) z.text ∙ sym (map-append whole xs tail)))) in
       record {
         objects = xs;
         is_first = record {
-          head = k.head; slashes = k.slashes; behind = ls; cut = k.cut; starts = k.starts; free = k.free; ends = k.ends;
+          head = k.head;
+          slashes = k.slashes;
+          behind = ls;
+          cut = k.cut;
+          starts = k.starts;
+          free = k.free;
+          ends = k.ends;
           body = record {
             frame = frame;
             is_frame = record { mtid = o.mtid_is; modl = o.modl_is; topi = o.topi_is; tabl = o.tabl_is; etab = a.ends; etop = z.etop_is; emod = z.emod_is; ende = z.ende_is };
             all = all;
-            each = a.before.each };
-          differ = subst (IsDistinct (pointwise nat_eq)) a.before.identified a.differ };
+            each = a.before.each;
+          };
+          differ = subst (IsDistinct (pointwise nat_eq)) a.before.identified a.differ;
+        };
         judged = a.before.judged;
-        counted = a.before.counted }
+        counted = a.before.counted;
+      }
+
+  -- a text has one list of objects
+  pub one_transfer : (xs ys : List Record) → IsFirstTransfer t text xs → IsFirstTransfer t text ys → xs ≡ ys
+  one_transfer xs ys f g =
+      let r = f.body.frame in
+      let body = map whole (xs ++ (r.etab ∷ r.etop ∷ r.emod ∷ r.ende ∷ [])) in
+      let h = headed xs f in
+      let e = table_is (length f.head + 2) f.behind h xs f in
+      let a = table_of (length f.head + 2) f.behind body h e xs f in
+      let b = table_of (length f.head + 2) f.behind body h e ys g in
+      same_objects xs ys r.etab g.body.frame.etab _ _ a.each b.each a.ends b.ends (sym a.text ∙ b.text)

@@ -33,8 +33,8 @@ count_finding line = record { line = line; column = 0; code = Count }
 abbrev pub value_findings : List Column → ℕ → List (List ℕ) → List Finding
 value_findings columns line fields =
     cond (length fields == length columns)
-        (filter_map (field_finding line) (enumerate_from 1 (zip columns fields)))
-        (count_finding line ∷ [])
+    (filter_map (field_finding line) (enumerate_from 1 (zip columns fields)))
+    (count_finding line ∷ [])
 
 -- the findings of an object, which has an identification and one value for each column
 abbrev pub row_findings : List Column → ℕ → List (List ℕ) → List Finding

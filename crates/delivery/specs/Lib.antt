@@ -1,3 +1,4 @@
+pub mod Answers
 pub mod CommandViews
 pub mod Commands
 pub mod Cursor
@@ -13,6 +14,7 @@ pub mod ModelWords
 pub mod OutcomeViews
 pub mod Outcomes
 pub mod Pieces
+pub mod Publishing
 pub mod Reading
 pub mod Refusals
 pub mod Report

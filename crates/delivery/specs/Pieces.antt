@@ -16,4 +16,4 @@ abbrev pub pieces : (ℕ → Bool) → (ℕ → ℕ → Bool) → List ℕ → L
 pieces divides joins [] = []
 pieces divides joins (c ∷ bytes) =
     cond (divides c) (pieces divides joins bytes)
-        (cond (joins_first joins c bytes) (grown c (pieces divides joins bytes)) ((c ∷ []) ∷ pieces divides joins bytes))
+    (cond (joins_first joins c bytes) (grown c (pieces divides joins bytes)) ((c ∷ []) ∷ pieces divides joins bytes))

@@ -16,6 +16,7 @@ use ports::{Memory, Shelf};
 use std::alloc::Global;
 
 const MODEL_LIMIT: u64 = 4_194_304;
+
 const TRANSFER_LIMIT: u64 = 268_435_456;
 
 // The outcome where a file was not read.
@@ -57,11 +58,7 @@ fn decide_transfer<S: Shelf>(
 }
 
 /// The outcome of a command's files.
-pub fn decide<S: Shelf>(
-    alloc: Global,
-    check: &Check<'_>,
-    shelf: &mut S,
-) -> Result<Outcome, Memory>
+pub fn decide<S: Shelf>(alloc: Global, check: &Check<'_>, shelf: &mut S) -> Result<Outcome, Memory>
     ensures outcome { IfOk result (λ outcome. Has (S.held shelf.old) (λ name. Rose (S.read_faults shelf.old name) (S.read_faults shelf.new name)) (check_of check.now) (outcome_of outcome)) }
     ensures held { S.held shelf.new ≡ S.held shelf.old }
     ensures reads { (q : List ℕ) → S.read_faults shelf.old q ≤ S.read_faults shelf.new q }

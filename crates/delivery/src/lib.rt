@@ -11,10 +11,12 @@ mod model;
 mod names;
 mod objects;
 mod outcome;
+mod publishing;
 mod reading;
 mod records;
 mod report;
 mod status;
+mod top;
 mod transfer;
 mod word;
 

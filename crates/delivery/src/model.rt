@@ -36,7 +36,9 @@ pub struct Attribute<'a> {
 }
 
 const BEFORE_LOW: [&[u8]; 2] = [b":", b"["];
+
 const BETWEEN_BOUNDS: [&[u8]; 1] = [b".."];
+
 const BEHIND_HIGH: [&[u8]; 2] = [b"]", b";"];
 
 // The value of a bound that is a whole number.
@@ -129,9 +131,13 @@ fn attribute_at(text: &[u8]) -> Option<(Attribute<'_>, &[u8])>
 }
 
 const BEFORE_TRANSFER: [&[u8]; 1] = [b"TRANSFER"];
+
 const BEFORE_MODEL: [&[u8]; 2] = [b";", b"MODEL"];
+
 const BEFORE_TOPIC: [&[u8]; 1] = [b"TOPIC"];
+
 const BEFORE_TABLE: [&[u8]; 2] = [b"=", b"TABLE"];
+
 const BEFORE_ATTRIBUTES: [&[u8]; 1] = [b"="];
 
 // The names of a model up to its attributes.
@@ -170,9 +176,39 @@ fn closes(text: &[u8], titles: &Titles<'_>) -> bool
     ensures { result ≡ closes (titles_of titles.now) (lexemes text.now) }
 {
     let tail: [&[u8]; 33] = [
-        b"NO", b"IDENT", b"END", titles.table, b";", b"END", titles.topic, b".", b"END", titles.model, b".",
-        b"FORMAT", b"FREE", b";", b"CODE", b"BLANK", b"=", b"DEFAULT", b",", b"UNDEFINED", b"=", b"DEFAULT",
-        b",", b"CONTINUE", b"=", b"DEFAULT", b";", b"TID", b"=", b"ANY", b";", b"END", b".",
+        b"NO",
+        b"IDENT",
+        b"END",
+        titles.table,
+        b";",
+        b"END",
+        titles.topic,
+        b".",
+        b"END",
+        titles.model,
+        b".",
+        b"FORMAT",
+        b"FREE",
+        b";",
+        b"CODE",
+        b"BLANK",
+        b"=",
+        b"DEFAULT",
+        b",",
+        b"UNDEFINED",
+        b"=",
+        b"DEFAULT",
+        b",",
+        b"CONTINUE",
+        b"=",
+        b"DEFAULT",
+        b";",
+        b"TID",
+        b"=",
+        b"ANY",
+        b";",
+        b"END",
+        b".",
     ];
     match behind_all(text, &tail) {
         Some(rest) => split_lexeme(rest).is_none(),

@@ -76,7 +76,9 @@ impl Text {
         ensures { OnOk result (self.new.bytes.items ≡ self.old.bytes.items ++ report_of (outcome_of outcome.now)) }
     {
         match outcome {
-            Outcome::Usage => self.add(b"FAULT USAGE\nusage: itfcheck compile M, check M T C, verify M T C, trial N C\n"),
+            Outcome::Usage => self.add(
+                b"FAULT USAGE\nusage: itfcheck compile M, check M T C, verify M T C, trial N C\n",
+            ),
             Outcome::Unread(file) => {
                 self.add(b"FAULT READ ")?;
                 self.add(file_text(*file))?;

@@ -21,6 +21,6 @@ returns-then-not-closes_frame-clause-other c =
 pub returns-clause-first : goal.returns-clause-first
 returns-clause-first c =
     let found : AllObjects (entries_of c.frame_at.new.entries) c.args.model.now.columns.items c.in-Some-2.objects.findings.items c.in-Some-2.objects.count (entries_of c.objects_at.new.entries) =
-        subst (λ (columns : List Column). AllObjects (entries_of c.frame_at.new.entries) columns c.in-Some-2.objects.findings.items c.in-Some-2.objects.count (entries_of c.objects_at.new.entries))
-            c.deref.ensures.value (rw c.in-Some-2.is at c.in_ok-objects.ensures.found) in
+    subst (λ (columns : List Column). AllObjects (entries_of c.frame_at.new.entries) columns c.in-Some-2.objects.findings.items c.in-Some-2.objects.count (entries_of c.objects_at.new.entries))
+    c.deref.ensures.value (rw c.in-Some-2.is at c.in_ok-objects.ensures.found) in
     is_transfer _ _ _ _ _ _ _ _ _ c.in-Some.ensures c.in-Some-frame_at.ensures found (sym c.if-not-closes_frame.ensures)

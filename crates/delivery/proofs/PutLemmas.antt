@@ -1,0 +1,32 @@
+-- A file that is started and then appended to holds what was appended.
+use Rattle.std.proofs.Common.{◌≡◌, ℕ, List, [], ◌++◌, Option, Some, None, Bool, true, false, cond, nat_eq, refl, sym, ap, ◌∙◌, subst, length}
+use Rattle.std.specs.Cmp.Lexicographic.{pointwise, nat_list_cmp_total}
+use Rattle.std.specs.FinMap as map
+use Rattle.ports.specs.Files.{Files, Puts, bytes_of}
+use Rattle.ports.specs.Output.{Adds, AddsPrefix}
+use Rattle.std.proofs.Math.Seq.{take-length}
+use Rattle.ports.proofs.Maps.{got_inserted, got_same}
+
+insert_twice : (files : Files) (name first last : List ℕ) → map.insert (map.insert files name first) name last ≡ map.insert files name last
+insert_twice files name first last = map.same_map nat_list_cmp_total (map.slice_cmp-IsAntisymmetric map.nat_cmp-IsAntisymmetric) _ _ (λ q.
+    got_inserted (map.insert files name first) name last q
+    ∙ (ap (λ (o : Option (List ℕ)). cond (pointwise nat_eq q name) (Some last) o) (got_inserted files name first q)
+    ∙ (same (pointwise nat_eq q name) (map.get files q) ∙ sym (got_inserted files name last q))))
+  where
+    same : (b : Bool) (o : Option (List ℕ)) → cond b (Some last) (cond b (Some first) o) ≡ cond b (Some last) o
+    same true o = refl
+    same false o = refl
+
+pub started : (old mid new : Option Files) (name bytes : List ℕ) → Puts old name (λ file. []) mid → Puts mid name (λ file. bytes_of file ++ bytes) new → Puts old name (λ file. bytes) new
+started None mid new name bytes h k = tt
+started (Some files) None new name bytes h k = absurd (cc)
+started (Some files) (Some held) new name bytes h k =
+    let e : held ≡ map.insert files name [] = cc in
+    k ∙ ap (λ (m : Files). Some (map.insert m name (bytes_of (map.get m name) ++ bytes))) e
+    ∙ ap (λ (o : Option (List ℕ)). Some (map.insert (map.insert files name []) name (bytes_of o ++ bytes))) (got_same files name [])
+    ∙ ap (λ (m : Files). Some m) (insert_twice files name [] bytes)
+
+-- all of some bytes is a prefix of them
+pub all_is_prefix : (old : Option (List ℕ)) (bytes : List ℕ) (new : Option (List ℕ)) → Adds old bytes new → AddsPrefix old bytes new
+all_is_prefix None bytes new h = tt
+all_is_prefix (Some old) bytes new h = (length bytes, h ∙ ap (λ (s : List ℕ). Some (old ++ s)) (sym (take-length bytes)))
