@@ -23,4 +23,5 @@ mod word;
 pub use findings::{Code, Finding};
 pub use outcome::File;
 pub use status::Status;
+pub use top::run;
 pub use word::Word;

@@ -1,0 +1,8 @@
+pub mod Twins
+pub mod Extending
+pub mod Joining
+pub mod Linking
+pub mod Pigeons
+pub mod Circles
+pub mod Turning
+pub mod Elsewhere

@@ -1,0 +1,5 @@
+pub mod HalfEdges
+pub mod Meshes
+pub mod Stars
+pub mod Arena
+pub mod Circles

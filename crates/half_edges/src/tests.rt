@@ -1,0 +1,285 @@
+// Small meshes against tables that were worked by hand. What `link` asks of a list is checked as a
+// test runs.
+ghost use Rattle.std.specs.Prelude.{◌≡◌, ◌≢◌, ℕ, ◌<◌, length, slice_index, IsTrue, IfOk, OnOk, false};
+ghost use Rattle.half_edges.specs.HalfEdges.{size};
+ghost use Rattle.half_edges.specs.Stars.{IsOnce, IsStar, IsLoose};
+
+use super::ids::{FaceId, HalfEdgeId, VertexId};
+use super::mesh::Mesh;
+use ports::Memory;
+use std::alloc::Global;
+use std::process::Abort;
+use std::test::Fail;
+
+// What is to be built, and the next, prev and origin of each half-edge then.
+#[derive(Drop)]
+struct Case<'a> {
+    vertices: u32,
+    edges: &'a [(u32, u32)],
+    stars: &'a [&'a [u32]],
+    rows: &'a [(u32, u32, u32)],
+}
+
+// A square with the corners 0 (0 0), 1 (0 1), 2 (1 0) and 3 (1 1). Its inside lies on the left of
+// 0, 3, 7 and 4, in this order, and its outside on the left of 1, 5, 6 and 2.
+const SQUARE: Case<'static> = Case {
+    vertices: 4,
+    edges: &[(0, 1), (0, 2), (1, 3), (2, 3)],
+    stars: &[&[3, 1], &[5, 0], &[7, 2], &[4, 6]],
+    rows: &[
+        (3, 4, 1),
+        (5, 2, 0),
+        (1, 6, 2),
+        (7, 0, 0),
+        (0, 7, 3),
+        (6, 1, 1),
+        (2, 5, 3),
+        (4, 3, 2),
+    ],
+};
+
+// Three edges from vertex 0, as they stand about it in one order and in the other.
+const FORK: Case<'static> = Case {
+    vertices: 4,
+    edges: &[(0, 1), (0, 2), (0, 3)],
+    stars: &[&[1, 3, 5]],
+    rows: &[
+        (5, 1, 1),
+        (0, 2, 0),
+        (1, 3, 2),
+        (2, 4, 0),
+        (3, 5, 3),
+        (4, 0, 0),
+    ],
+};
+
+const FORK_BACKWARDS: Case<'static> = Case {
+    vertices: 4,
+    edges: &[(0, 1), (0, 2), (0, 3)],
+    stars: &[&[5, 3, 1]],
+    rows: &[
+        (3, 1, 1),
+        (0, 4, 0),
+        (5, 3, 2),
+        (2, 0, 0),
+        (1, 5, 3),
+        (4, 2, 0),
+    ],
+};
+
+// Two edges in a row. At their common vertex both orders are one.
+const PATH: Case<'static> = Case {
+    vertices: 3,
+    edges: &[(0, 1), (1, 2)],
+    stars: &[&[0, 3]],
+    rows: &[(1, 2, 1), (3, 0, 0), (0, 3, 2), (2, 1, 1)],
+};
+
+const PATH_BACKWARDS: Case<'static> = Case {
+    vertices: 3,
+    edges: &[(0, 1), (1, 2)],
+    stars: &[&[3, 0]],
+    rows: &[(1, 2, 1), (3, 0, 0), (0, 3, 2), (2, 1, 1)],
+};
+
+// One edge with two free ends, before and after both are linked.
+const LONE: Case<'static> = Case {
+    vertices: 2,
+    edges: &[(0, 1)],
+    stars: &[],
+    rows: &[(1, 1, 1), (0, 0, 0)],
+};
+
+const LONE_LINKED: Case<'static> = Case {
+    vertices: 2,
+    edges: &[(0, 1)],
+    stars: &[&[0], &[1]],
+    rows: &[(1, 1, 1), (0, 0, 0)],
+};
+
+#[test]
+fn tables(rt: HostRuntime) -> Result<(), Fail> {
+    let cases = [
+        SQUARE,
+        FORK,
+        FORK_BACKWARDS,
+        PATH,
+        PATH_BACKWARDS,
+        LONE,
+        LONE_LINKED,
+    ];
+    for case in &cases {
+        let mesh = built(&rt, rt.alloc(), case)?;
+        expect_rows(&rt, &mesh, case.rows);
+    }
+    Ok(())
+}
+
+#[test]
+fn faces_are_set_and_forgotten(rt: HostRuntime) -> Result<(), Fail> {
+    let mut mesh = built(&rt, rt.alloc(), &PATH)?;
+    expect_faces(&rt, &mesh, &[0, 0, 0, 0]);
+    set(
+        &rt,
+        &mut mesh,
+        &[FaceId(7), FaceId(7), FaceId(7), FaceId(7)],
+    );
+    expect_faces(&rt, &mesh, &[7, 7, 7, 7]);
+    expect_rows(&rt, &mesh, PATH.rows);
+    link(&rt, &mut mesh, &[HalfEdgeId(1)]);
+    expect_faces(&rt, &mesh, &[0, 0, 0, 0]);
+    set(
+        &rt,
+        &mut mesh,
+        &[FaceId(7), FaceId(7), FaceId(7), FaceId(7)],
+    );
+    add(&rt, &mut mesh, 0, 2)?;
+    expect_faces(&rt, &mesh, &[0, 0, 0, 0, 0, 0]);
+    Ok(())
+}
+
+#[test]
+fn faces_must_agree(rt: HostRuntime) -> Result<(), Fail> {
+    let mut mesh = built(&rt, rt.alloc(), &SQUARE)?;
+    let (one, two) = (FaceId(1), FaceId(2));
+    let bad = [one, two, two, one, one, two, two, two];
+    assert_eq!(rt; mesh.edges(), 4);
+    assert!(rt; !mesh.faces_agree(&bad));
+    set(&rt, &mut mesh, &[one, two, two, one, one, two, two, one]);
+    expect_faces(&rt, &mesh, &[1, 2, 2, 1, 1, 2, 2, 1]);
+    Ok(())
+}
+
+fn built(rt: &impl Abort, alloc: Global, case: &Case) -> Result<Mesh, Memory>
+    ensures { IfOk result (λ mesh. mesh.vertices ≡ case.now.vertices) }
+{
+    let mut mesh = Mesh::new(alloc, case.vertices)?;
+    for &(low, high) in case.edges {
+        assert!(rt; low < case.vertices && high < case.vertices);
+        add(rt, &mut mesh, low, high)?;
+    }
+    for star in case.stars {
+        let around: Vec<HalfEdgeId> = star.iter().map(|h| HalfEdgeId(*h)).collect(alloc)?;
+        link(rt, &mut mesh, &around);
+    }
+    Ok(mesh)
+}
+
+fn add(rt: &impl Abort, mesh: &mut Mesh, low: u32, high: u32) -> Result<(), Memory>
+    requires low { low < mesh.old.vertices }
+    requires high { high < mesh.old.vertices }
+    ensures { OnOk result (mesh.new.vertices ≡ mesh.old.vertices) }
+{
+    assert!(rt; low != high);
+    let edges = mesh.edges();
+    assert!(rt; edges < 100);
+    let down = mesh.add_edge(VertexId(low), VertexId(high))?;
+    assert_eq!(rt; down, HalfEdgeId(2 * edges));
+    Ok(())
+}
+
+fn set(rt: &impl Abort, mesh: &mut Mesh, faces: &[FaceId])
+    ensures { mesh.new.vertices ≡ mesh.old.vertices }
+{
+    assert_eq!(rt; 2 * mesh.edges() as usize, faces.len());
+    assert!(rt; mesh.faces_agree(faces));
+    mesh.set_faces(faces);
+}
+
+fn expect_rows(rt: &impl Abort, mesh: &Mesh, rows: &[(u32, u32, u32)]) {
+    assert_eq!(rt; 2 * mesh.edges() as usize, rows.len());
+    for (h, &(next, prev, origin)) in rows.iter().enumerate() {
+        let h = HalfEdgeId(h as u32);
+        assert_eq!(rt; mesh.next(h).0, next);
+        assert_eq!(rt; mesh.prev(h).0, prev);
+        assert_eq!(rt; mesh.origin(h).0, origin);
+    }
+}
+
+fn expect_faces(rt: &impl Abort, mesh: &Mesh, faces: &[u32]) {
+    assert_eq!(rt; 2 * mesh.edges() as usize, faces.len());
+    for (h, &face) in faces.iter().enumerate() {
+        assert_eq!(rt; mesh.face(HalfEdgeId(h as u32)).0, face);
+    }
+}
+
+// Links the half-edges that begin at one vertex, whose numbers are given.
+fn link(rt: &impl Abort, mesh: &mut Mesh, around: &[HalfEdgeId])
+    ensures { mesh.new.vertices ≡ mesh.old.vertices }
+{
+    assert!(rt; is_star(mesh, around));
+    assert!(rt; is_loose(mesh, around));
+    mesh.link(around);
+}
+
+fn is_star(mesh: &Mesh, around: &[HalfEdgeId]) -> bool
+    ensures { IsTrue result → IsStar mesh.now around.now }
+{
+    let Some(first) = around.first() else {
+        return false;
+    };
+    if first.0 >= 2 * mesh.edges() {
+        return false;
+    }
+    let vertex = mesh.origin(*first);
+    all_begin_at(mesh, around, vertex) && is_once(around) && holds_all(mesh, around, vertex)
+}
+
+fn all_begin_at(mesh: &Mesh, around: &[HalfEdgeId], vertex: VertexId) -> bool
+    ensures within { IsTrue result → (k : ℕ) → k < length around.now → slice_index around.now k < size mesh.now }
+    ensures start { IsTrue result → (k : ℕ) → k < length around.now → slice_index mesh.now.origin (slice_index around.now k) ≡ vertex }
+{
+    for h in around {
+        if h.0 >= 2 * mesh.edges() || mesh.origin(*h) != vertex {
+            return false;
+        }
+    }
+    true
+}
+
+fn is_once(around: &[HalfEdgeId]) -> bool
+    ensures { IsTrue result → IsOnce around.now }
+{
+    for k in 0..around.len() {
+        if is_among(&around[..k], around[k]) {
+            return false;
+        }
+    }
+    true
+}
+
+fn is_among(around: &[HalfEdgeId], h: HalfEdgeId) -> bool
+    ensures there { IsTrue result → (k : ℕ) × (k < length around.now) × (slice_index around.now k ≡ h) }
+    ensures nowhere { result ≡ false → (k : ℕ) → k < length around.now → slice_index around.now k ≢ h }
+{
+    for x in around {
+        if *x == h {
+            return true;
+        }
+    }
+    false
+}
+
+fn holds_all(mesh: &Mesh, around: &[HalfEdgeId], vertex: VertexId) -> bool
+    ensures { IsTrue result → (h : ℕ) → h < size mesh.now → slice_index mesh.now.origin h ≡ vertex → (k : ℕ) × (k < length around.now) × (slice_index around.now k ≡ h) }
+{
+    for h in 0..2 * mesh.edges() {
+        if mesh.origin(HalfEdgeId(h)) == vertex && !is_among(around, HalfEdgeId(h)) {
+            return false;
+        }
+    }
+    true
+}
+
+fn is_loose(mesh: &Mesh, around: &[HalfEdgeId]) -> bool
+    requires { IsStar mesh.now around.now }
+    ensures { IsTrue result → IsLoose mesh.now around.now }
+{
+    let _ = mesh.edges();
+    for h in around {
+        if mesh.next(mesh.twin(*h)) != *h {
+            return false;
+        }
+    }
+    true
+}

@@ -1,0 +1,59 @@
+//! The program: the words of the command line, real files, and the standard output.
+//!
+//! It hands the words to `delivery::run`, whose contract says what the answer means, and ends
+//! with the number of the answer. Nothing goes to standard error. A word that is not UTF-8 is
+//! handed over as the empty word, which no command takes. Where memory is wanting for the words
+//! the program ends with 8, as `run` does.
+#![tactic(auto)]
+
+use delivery::{Status, Word, run};
+use ports::{Memory, RealShelf, RealSink};
+use std::alloc::Global;
+use std::env::{Env, FillError};
+use std::process::ExitCode;
+
+// The system gives no word that is longer.
+const LONGEST_WORD: usize = 131_072;
+
+// The word at a place of the command line; none behind the last.
+fn word_at(
+    rt: &HostRuntime,
+    alloc: Global,
+    place: usize,
+    buffer: &mut [u8],
+) -> Result<Option<Word>, Memory> {
+    let length = match rt.arg(place, buffer) {
+        Ok(length) => length,
+        Err(FillError::NotPresent) => return Ok(None),
+        Err(FillError::TooLong) => 0,
+    };
+    let text = std::str::from_utf8(&buffer[..length]).unwrap_or("");
+    Ok(Some(Word::new(alloc, text)?))
+}
+
+// The words behind the program's name.
+fn words_of(rt: &HostRuntime, alloc: Global) -> Result<Vec<Word>, Memory> {
+    let mut buffer = vec![in alloc; 0u8; LONGEST_WORD]?;
+    let mut words = Vec::new(alloc);
+    for place in 1..usize::MAX {
+        match word_at(rt, alloc, place, &mut buffer)? {
+            Some(word) => words.push(word)?,
+            None => break,
+        }
+    }
+    Ok(words)
+}
+
+fn main(rt: HostRuntime) -> ExitCode {
+    let alloc = rt.alloc();
+    let status = match words_of(&rt, alloc) {
+        Ok(words) => run(
+            alloc,
+            &words,
+            &mut RealShelf::new(rt),
+            &mut RealSink::new(rt),
+        ),
+        Err(Memory) => Status::Memory,
+    };
+    ExitCode::from(status as u8)
+}

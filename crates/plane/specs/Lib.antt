@@ -1,0 +1,17 @@
+pub mod Lists
+pub mod Numbers
+pub mod Turns
+pub mod Places
+pub mod Straights
+pub mod HalfArcs
+pub mod Curves
+pub mod Triangles
+pub mod Windows
+pub mod Plans
+pub mod Partition
+pub mod BadPairs
+pub mod Paths
+pub mod Vectors
+pub mod Weights
+pub mod Segments
+pub mod Meets
