@@ -1,7 +1,7 @@
 -- The words of a command, one by one.
 use Rattle.std.specs.Prelude.{codes}
 use Rattle.delivery.specs.Commands.{Check, IsCheck, words_of}
-use Rattle.std.proofs.Common.{◌≡◌, ◌≤◌, ◌<◌, ◌+◌, ℕ, List, [], ◌∷◌, length, get_or, refl, sym, ap, ◌∙◌, arith}
+use Rattle.std.proofs.Common.{◌≡◌, ◌≤◌, ◌<◌, ℕ, List, [], ◌∷◌, length, get_or, sym, ap, ◌∙◌, arith}
 
 pub four_words : (ws : List (List ℕ)) (a b c d : List ℕ) → 4 ≤ length ws → length ws < 5 → a ≡ get_or ws 0 a → b ≡ get_or ws 1 b → c ≡ get_or ws 2 c → d ≡ get_or ws 3 d → ws ≡ a ∷ b ∷ c ∷ d ∷ []
 four_words [] a b c d l u ha hb hc hd = absurd (omega arith)

@@ -1,10 +1,8 @@
 -- A line without the blanks at its end.
-use Rattle.std.proofs.Common.{◌≡◌, ◌<◌, ◌≤◌, ◌-◌, ◌+◌, ℕ, suc, Bool, true, false, cond, not, ◌&&◌, List, [], ◌∷◌, ◌++◌, length, take, drop, refl, ap, arith, IsTrue, ◌∙◌, sym, subst, nat_eq, slice_index_or}
-use Rattle.std.specs.Prelude.{◌==◌}
-use Rattle.std.proofs.lemmas.Grind.{common_steps}
+use Rattle.std.proofs.Common.{◌≡◌, ◌≤◌, ◌-◌, ◌+◌, ℕ, Bool, true, false, cond, ◌&&◌, List, [], ◌∷◌, ◌++◌, length, take, refl, ap, arith, ◌∙◌, sym, nat_eq, slice_index_or}
 use Rattle.std.proofs.lemmas.List.{take_more}
 use Rattle.std.proofs.Math.Seq.{take-length}
-use Rattle.delivery.specs.Lines.{is_blank, all_blank, trimmed, ends_in_backslash, goes_on}
+use Rattle.delivery.specs.Lines.{is_blank, all_blank, trimmed, ends_in_backslash}
 
 all_blank-end : (line : List ℕ) (c : ℕ) → is_blank c ≡ true → all_blank (line ++ (c ∷ [])) ≡ all_blank line
 all_blank-end [] c h = rw h refl

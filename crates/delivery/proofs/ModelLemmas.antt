@@ -1,15 +1,13 @@
 -- The descent of a model's text: what it finds is written there, and what is written there is found.
-use Rattle.std.proofs.Common.{T, ◌≡◌, ℕ, ℤ, Bool, true, false, cond, List, [], ◌∷◌, ◌++◌, map, Option, Some, None, refl, ap, sym, ◌∙◌, subst, append_assoc, nat_eq}
+use Rattle.std.proofs.Common.{T, ◌≡◌, ℕ, Bool, true, false, cond, List, [], ◌∷◌, ◌++◌, Option, Some, None, refl, ap, ◌∙◌, subst, nat_eq}
 use Rattle.std.specs.Int.Signed.{le_z_yes}
 use Rattle.std.proofs.lemmas.Float.{T_from_true}
-use Rattle.std.specs.Prelude.{codes, ◌≤ℤ◌, int_le}
-use Rattle.std.specs.List.{AllByRecursion, flat_map}
-use Rattle.std.specs.Bool.{Decides}
+use Rattle.std.specs.Prelude.{codes, ◌≤ℤ◌}
 use Rattle.std.specs.Cmp.Lexicographic.{pointwise}
 use Rattle.std.proofs.lemmas.Slice.Eq.{bytes_eq-Decides}
 use Rattle.delivery.specs.ModelWords.{is_name, is_whole_number}
-use Rattle.delivery.specs.FirstModel.{Attribute, Titles, IsAttribute, bound_of, column_of, attribute_text, tail_text, head_text}
-use Rattle.delivery.specs.Descent.{◌>>=◌, behind, behind_all, one_at, is_ordered, written, if_ordered, attribute_at, is_end, Head, headed, head_at, closes}
+use Rattle.delivery.specs.FirstModel.{Attribute, IsAttribute, bound_of, attribute_text}
+use Rattle.delivery.specs.Descent.{◌>>=◌, behind, behind_all, one_at, is_ordered, written, if_ordered, attribute_at}
 
 -- a step that gave something had something before it
 pub gave : {A B : Type 0} (o : Option A) (f : A → Option B) (y : B) → (o >>= f) ≡ Some y → (x : A) × (o ≡ Some x) × (f x ≡ Some y)

@@ -1,5 +1,5 @@
 -- The head and the close of a model's text, and its attributes together.
-use Rattle.std.proofs.Common.{◌≡◌, ℕ, ℤ, Bool, true, false, cond, List, [], ◌∷◌, ◌++◌, map, Option, Some, None, refl, ap, sym, ◌∙◌, subst, append_assoc, nat_eq, inl, inr}
+use Rattle.std.proofs.Common.{◌≡◌, ℕ, true, false, List, [], ◌∷◌, ◌++◌, map, Option, Some, None, refl, ap, sym, ◌∙◌, subst, append_assoc, nat_eq, inl, inr}
 use Rattle.std.specs.Prelude.{codes}
 use Rattle.std.specs.List.{AllByRecursion, IsDistinct, flat_map, list_any}
 use Rattle.std.specs.Cmp.Lexicographic.{pointwise}
@@ -8,7 +8,7 @@ use Rattle.std.proofs.lemmas.Map.Keys.{IsDistinct-head, IsDistinct-tail}
 use Rattle.std.proofs.lemmas.List.{map-append, append-nil}
 use Rattle.delivery.specs.declared.model.Column.{Column}
 use Rattle.delivery.specs.ModelWords.{lexemes, is_name, is_keyword, keywords}
-use Rattle.delivery.specs.FirstModel.{Attribute, Titles, Model, IsAttribute, IsFirstModel, IsModel, HasNoModel, column_of, columns_of, attribute_names, attribute_text, tail_text, head_text}
+use Rattle.delivery.specs.FirstModel.{Attribute, Titles, Model, IsAttribute, IsFirstModel, IsModel, HasNoModel, column_of, attribute_names, attribute_text, tail_text, head_text}
 use Rattle.delivery.specs.Descent.{◌>>=◌, behind_all, one_at, written, attribute_at, is_end, Head, headed, head_at, closes, Attributes, AllAttributes, TwiceNamed}
 use Rattle.delivery.proofs.ModelLemmas.{gave, chose, one_gave, one_is, behind_all_gave, behind_all_is, attribute_gave, attribute_is, same_word, word_is}
 use Rattle.delivery.proofs.PieceLemmas.{either}

@@ -1,5 +1,5 @@
 -- The findings of an object's fields.
-use Rattle.std.proofs.Common.{◌≡◌, ℕ, List, [], ◌∷◌, ◌++◌, refl, ap, sym, ◌∙◌, subst}
+use Rattle.std.proofs.Common.{◌≡◌, ℕ, List, [], ◌∷◌, ◌++◌, refl, ap, sym, ◌∙◌}
 use Rattle.std.specs.List.{filter_map, zip, enumerate_from}
 use Rattle.std.proofs.lemmas.List.{append-nil}
 use Rattle.delivery.specs.declared.model.Column.{Column}

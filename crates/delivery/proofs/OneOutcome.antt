@@ -1,22 +1,17 @@
 -- The words and the files have one outcome.
-use Rattle.std.proofs.Common.{◌≡◌, ◌<◌, ◌≤◌, ℕ, ◌+◌, Bool, true, false, List, [], ◌∷◌, ◌++◌, length, map, Option, Some, None, refl, ap, sym, ◌∙◌, subst, nat_eq, inl, inr, arith, append_assoc}
-use Rattle.std.specs.Prelude.{codes, ◌⊎◌, ◌≢◌}
-use Rattle.std.specs.List.{AllByRecursion, flat_map}
-use Rattle.std.specs.FinMap as fin
+use Rattle.std.proofs.Common.{◌≡◌, ℕ, true, List, length, Option, Some, refl, ap, sym, ◌∙◌, subst, inl, inr, arith}
+use Rattle.std.specs.Prelude.{◌≢◌}
 use Rattle.ports.specs.Files.{Files}
-use Rattle.delivery.specs.declared.findings.Finding.{Finding}
-use Rattle.delivery.specs.declared.outcome.File.{File}
 use Rattle.delivery.specs.declared.outcome.File.TheVariants.{Model as TheModel, Transfer as TheTransfer}
 use Rattle.delivery.specs.declared.status.Status.{Status}
 use Rattle.delivery.specs.declared.status.Status.TheVariants.{Accepted, Rejected, Undecided, ModelRefused, Usage, ReadFault, WriteFault, OverLimit, Memory, NotProved}
-use Rattle.delivery.specs.Answers.{IsAnswer, IsStopped}
+use Rattle.delivery.specs.Answers.{IsAnswer}
 use Rattle.delivery.specs.Commands.{Check, IsCheck, IsUsage}
-use Rattle.delivery.specs.FirstModel.{Attribute, Titles, Model, IsAttribute, IsFirstModel, columns_of, attribute_text, tail_text}
-use Rattle.delivery.specs.FirstTransfer.{IsObject, IsFirstTransfer, identification}
+use Rattle.delivery.specs.FirstModel.{Titles, Model, IsFirstModel, columns_of}
+use Rattle.delivery.specs.FirstTransfer.{IsFirstTransfer}
 use Rattle.delivery.specs.Findings.{findings}
-use Rattle.delivery.specs.Lines.{Record, Entry, whole, lines, entries}
-use Rattle.delivery.specs.Frames.{frame_at, behind_head}
-use Rattle.delivery.specs.Outcomes.{Outcome, usage, unread, too_long, model_later, transfer_later, rejected, accepted, status_of, IsText, ReadsModel, ReadsOtherModel, ReadsObjects, ReadsOtherTransfer, TooLong, Has, Decides}
+use Rattle.delivery.specs.Lines.{Record}
+use Rattle.delivery.specs.Outcomes.{Outcome, usage, unread, too_long, model_later, transfer_later, rejected, accepted, status_of, ReadsModel, ReadsOtherModel, ReadsObjects, ReadsOtherTransfer, TooLong, Has, Decides}
 use Rattle.delivery.specs.Reading.{IsWhole, IsLonger}
 use Rattle.delivery.proofs.CommandLemmas.{one_check}
 use Rattle.delivery.proofs.ModelLemmas.{chose}

@@ -1,18 +1,16 @@
 -- What stands behind a model of the first form is an outcome of the command.
-use Rattle.std.proofs.Common.{◌≡◌, ℕ, ◌≤◌, ◌+◌, min, List, [], length, Option, Result, Ok, Err, refl, ap, sym, ◌∙◌, subst, arith}
-use Rattle.std.specs.Prelude.{IfOk, ◌≢◌, ◌-◌, ◌^◌}
+use Rattle.std.proofs.Common.{◌≡◌, ℕ, ◌≤◌, List, [], Option, ap, sym, ◌∙◌, subst, arith}
 use Rattle.ports.specs.Files.{Files}
 use Rattle.ports.specs.Faults.{Rose}
 use Rattle.delivery.specs.declared.findings.Finding.{Finding}
 use Rattle.delivery.specs.declared.model.Column.{Column}
 use Rattle.delivery.specs.declared.outcome.File.TheVariants.{Model as TheModel, Transfer as TheTransfer}
 use Rattle.delivery.specs.Commands.{Check}
-use Rattle.delivery.specs.FirstModel.{Titles, Model, IsModel, columns_of}
+use Rattle.delivery.specs.FirstModel.{Titles, IsModel, columns_of}
 use Rattle.delivery.specs.FirstTransfer.{IsFirstTransfer}
 use Rattle.delivery.specs.Findings.{findings}
-use Rattle.delivery.specs.Lines.{Record}
 use Rattle.delivery.specs.Outcomes.{Outcome, usage, unread, too_long, model_later, transfer_later, rejected, accepted, IsText, ReadsModel, ReadsObjects, Has}
-use Rattle.delivery.specs.Refusals.{HasBehind, ReadsTransfer, ReadsNoTransfer}
+use Rattle.delivery.specs.Refusals.{HasBehind, ReadsTransfer}
 
 module _ (told : Option Files) (near far : List ℕ → Type 0) (c : Check) (t : Titles) (columns : List Column) (text : List ℕ) (read : IsText told c TheModel text) (is : IsModel text t columns)
     (counted : (name : List ℕ) → near name → far name) where

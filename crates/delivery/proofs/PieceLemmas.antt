@@ -1,9 +1,8 @@
 -- A line is its first field and what stands behind it.
 use Rattle.std.specs.Prelude.{◌⊎◌, ◌||◌, ◌&&◌}
 use Rattle.std.proofs.lemmas.Bool.{eqb-true}
-use Rattle.std.proofs.Common.{◌+◌, ◌-◌, length-drop, inl, inr, sym, subst, nat_eq, ◌≡◌, ◌<◌, ℕ, suc, Bool, true, false, cond, not, List, [], ◌∷◌, length, take, drop, refl, ap, arith, IsTrue, ◌∙◌}
-use Rattle.std.proofs.lemmas.Grind.{common_steps}
-use Rattle.delivery.specs.Pieces.{grown, pieces}
+use Rattle.std.proofs.Common.{◌+◌, ◌-◌, length-drop, inl, inr, sym, subst, nat_eq, ◌≡◌, ◌<◌, ℕ, suc, Bool, true, false, cond, not, List, [], ◌∷◌, length, take, drop, refl, ap, arith, ◌∙◌}
+use Rattle.delivery.specs.Pieces.{grown}
 use Rattle.delivery.specs.Lines.{is_blank, fields}
 use Rattle.delivery.specs.ModelWords.{is_space, joins, lexemes, is_solid}
 use Rattle.delivery.specs.Fronts.{field_len, begins_with_field, lexeme_len, begins_with_lexeme}

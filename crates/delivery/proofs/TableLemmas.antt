@@ -1,7 +1,7 @@
 -- The objects of a transfer: what is gathered is there, and where nothing can follow there is no table.
-use Rattle.std.proofs.Common.{◌≡◌, ℕ, ◌+◌, Bool, true, false, List, [], ◌∷◌, ◌++◌, length, map, take, refl, ap, sym, ◌∙◌, subst, append_assoc, nat_eq, inl, inr, arith, length-append}
-use Rattle.std.specs.Prelude.{codes, ◌⊎◌}
-use Rattle.std.specs.List.{AllByRecursion, IsDistinct, flat_map, list_all, list_any}
+use Rattle.std.proofs.Common.{◌≡◌, ℕ, ◌+◌, true, false, List, [], ◌∷◌, ◌++◌, map, ap, sym, ◌∙◌, subst, append_assoc, nat_eq, inl, inr, arith, length-append}
+use Rattle.std.specs.Prelude.{codes}
+use Rattle.std.specs.List.{AllByRecursion, IsDistinct, flat_map, list_all}
 use Rattle.std.specs.Cmp.Lexicographic.{pointwise}
 use Rattle.std.proofs.lemmas.Grind.{flat_map-append}
 use Rattle.std.proofs.lemmas.List.{map-append, append-nil}
@@ -10,8 +10,8 @@ use Rattle.delivery.specs.declared.findings.Finding.{Finding}
 use Rattle.delivery.specs.Lines.{Record, Entry, whole, open_line}
 use Rattle.delivery.specs.FirstTransfer.{identification, values, is_plain, IsObject}
 use Rattle.delivery.specs.Findings.{object_findings, findings}
-use Rattle.delivery.specs.Frames.{SomeObjects, AllObjects, IsTable, IsNoTable, IsThere, IsRefused}
-use Rattle.delivery.proofs.ModelParts.{again_in, all_at}
+use Rattle.delivery.specs.Frames.{SomeObjects, IsTable, IsNoTable, IsThere, IsRefused}
+use Rattle.delivery.proofs.ModelParts.{again_in}
 
 all_more : (xs : List Record) (x : Record) → AllByRecursion IsObject xs → IsObject x → AllByRecursion IsObject (xs ++ (x ∷ []))
 all_more [] x h k = (k, tt)

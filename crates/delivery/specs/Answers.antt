@@ -1,5 +1,5 @@
 -- What the top call's answer says.
-use Rattle.std.specs.Prelude.{◌≡◌, ◌≢◌, ℕ, List, [], ◌∷◌, length, Option, Some, ◌⊎◌, ⊤}
+use Rattle.std.specs.Prelude.{◌≡◌, ◌≢◌, ℕ, List, [], Option, ◌⊎◌, ⊤}
 use Rattle.ports.specs.Files.{Files}
 use Rattle.ports.specs.Output.{Adds, AddsPrefix}
 use Rattle.delivery.specs.Commands.{Check, IsCheck, IsUsage}

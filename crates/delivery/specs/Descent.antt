@@ -1,5 +1,5 @@
 -- The parts of a model's text of the first form, from left to right.
-use Rattle.std.specs.Prelude.{◌≡◌, ℕ, ℤ, Bool, true, false, cond, nat_eq, int_le, List, [], ◌∷◌, ◌++◌, map, codes, Option, Some, None}
+use Rattle.std.specs.Prelude.{◌≡◌, ℕ, Bool, true, false, cond, nat_eq, int_le, List, [], ◌∷◌, ◌++◌, map, codes, Option, Some, None}
 use Rattle.std.specs.Cmp.Lexicographic.{pointwise}
 use Rattle.delivery.specs.ModelWords.{is_name, is_whole_number}
 use Rattle.delivery.specs.FirstModel.{Attribute, Titles, IsAttribute, bound_of, column_of, attribute_text, tail_text}

@@ -1,5 +1,5 @@
 -- What is wrong with the objects of a transfer.
-use Rattle.std.specs.Prelude.{ℕ, suc, ◌+◌, ℤ, Bool, true, false, cond, ◌||◌, ◌==◌, int_lt, List, [], ◌∷◌, ◌++◌, length, Option, Some, None, Result, Ok, Err}
+use Rattle.std.specs.Prelude.{ℕ, ℤ, Bool, cond, ◌||◌, ◌==◌, int_lt, List, [], ◌∷◌, length, Option, Some, None, Result, Ok, Err}
 use Rattle.std.specs.List.{flat_map, filter_map, zip, enumerate_from}
 use Rattle.decimals.specs.declared.DecimalFault.{DecimalFault}
 use Rattle.decimals.specs.Scaled.{scaled_of}

@@ -1,9 +1,9 @@
 -- Transfers of the first form: the rows of the one table of a model of the first form.
-use Rattle.std.specs.Prelude.{◌≡◌, ℕ, ◌+◌, Bool, true, false, not, ◌&&◌, ◌||◌, ◌==◌, nat_eq, List, [], ◌∷◌, ◌++◌, length, map, take, drop, codes}
+use Rattle.std.specs.Prelude.{◌≡◌, ℕ, ◌+◌, Bool, true, false, not, ◌&&◌, ◌==◌, nat_eq, List, [], ◌∷◌, ◌++◌, length, map, take, drop, codes}
 use Rattle.std.specs.List.{AllByRecursion, IsDistinct, flat_map, list_all, list_any}
 use Rattle.std.specs.Cmp.Lexicographic.{pointwise}
 use Rattle.delivery.specs.FirstModel.{Titles}
-use Rattle.delivery.specs.Lines.{lines, fields, is_slashes, goes_on, Record, Entry, whole, entries}
+use Rattle.delivery.specs.Lines.{lines, fields, is_slashes, Record, Entry, whole, entries}
 
 -- the identification of an object, none where the line has no field behind its word
 abbrev pub identification : Record → List (List ℕ)

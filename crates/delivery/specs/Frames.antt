@@ -1,12 +1,12 @@
 -- The parts of a transfer of the first form, line by line.
-use Rattle.std.specs.Prelude.{◌≡◌, ℕ, ◌+◌, Bool, true, false, cond, ◌&&◌, nat_eq, List, [], ◌∷◌, ◌++◌, length, map, codes, Option, Some, None, ◌⊎◌}
+use Rattle.std.specs.Prelude.{◌≡◌, ℕ, ◌+◌, Bool, true, false, cond, nat_eq, List, [], ◌∷◌, ◌++◌, length, map, codes, Option, Some, None, ◌⊎◌}
 use Rattle.std.specs.List.{AllByRecursion, IsDistinct, flat_map, list_any, list_all}
 use Rattle.std.specs.Cmp.Lexicographic.{pointwise}
 use Rattle.delivery.specs.declared.model.Column.{Column}
 use Rattle.delivery.specs.declared.findings.Finding.{Finding}
 use Rattle.delivery.specs.Descent.{◌>>=◌}
 use Rattle.delivery.specs.FirstModel.{Titles}
-use Rattle.delivery.specs.Lines.{Record, Entry, whole, open_line, fields, is_slashes, entries}
+use Rattle.delivery.specs.Lines.{Record, Entry, whole, open_line, fields, is_slashes}
 use Rattle.delivery.specs.FirstTransfer.{identification, values, is_plain, has_front, IsObject, IsFirstTransfer}
 use Rattle.delivery.specs.Findings.{findings}
 

@@ -1,5 +1,5 @@
 -- What an object adds to the findings and the number of objects.
-use Rattle.std.specs.Prelude.{◌≡◌, ◌+◌, ◌++◌, Bool, true, List}
+use Rattle.std.specs.Prelude.{◌≡◌, ◌+◌, ◌++◌, true, List}
 use Rattle.std.specs.List.{list_all}
 use Rattle.delivery.specs.declared.model.Column.{Column}
 use Rattle.delivery.specs.declared.objects.Objects.{Objects}

@@ -1,5 +1,5 @@
 -- What a call answers: which outcome the words and the files have, in the order in which they are looked at.
-use Rattle.std.specs.Prelude.{◌≡◌, ◌≢◌, ℕ, List, [], ◌∷◌, ◌++◌, length, Option, Some, None, codes}
+use Rattle.std.specs.Prelude.{◌≡◌, ◌≢◌, ℕ, List, [], length, Option}
 use Rattle.ports.specs.Files.{Files}
 use Rattle.delivery.specs.Commands.{Check, IsCheck, IsUsage}
 use Rattle.delivery.specs.FirstModel.{Model, IsFirstModel, columns_of}

@@ -1,5 +1,5 @@
 -- Outcomes of a part of a call.
-use Rattle.std.specs.Prelude.{◌≡◌, ◌≢◌, ℕ, List, [], length, Option}
+use Rattle.std.specs.Prelude.{◌≡◌, ◌≢◌, ℕ, List, [], Option}
 use Rattle.ports.specs.Files.{Files}
 use Rattle.delivery.specs.declared.findings.Finding.{Finding}
 use Rattle.delivery.specs.declared.model.Column.{Column}
@@ -9,9 +9,8 @@ use Rattle.delivery.specs.declared.reading.ReadRefusal.{ReadRefusal}
 use Rattle.delivery.specs.declared.reading.ReadRefusal.TheVariants.{Failed, TooLong as Longer, Memory}
 use Rattle.delivery.specs.Commands.{Check}
 use Rattle.delivery.specs.FirstModel.{Titles}
-use Rattle.delivery.specs.FirstTransfer.{IsFirstTransfer}
 use Rattle.delivery.specs.Frames.{IsTransfer, HasNoTransfer}
-use Rattle.delivery.specs.Outcomes.{Outcome, usage, unread, too_long, model_later, transfer_later, rejected, accepted, name_of, limit_of, IsText}
+use Rattle.delivery.specs.Outcomes.{Outcome, usage, unread, too_long, model_later, transfer_later, rejected, accepted, limit_of, IsText}
 use Rattle.delivery.specs.Reading.{IsLonger}
 
 -- the outcome where a file was not read

@@ -1,6 +1,6 @@
 -- Values of the code, without where they lie in memory.
-use Rattle.std.specs.Prelude.{◌≡◌, ℕ, List, Option, Some, None}
-use Rattle.delivery.specs.Lines.{Entry, whole, open_line, entries, fields}
+use Rattle.std.specs.Prelude.{ℕ, List}
+use Rattle.delivery.specs.Lines.{Entry, whole, open_line, fields}
 use Rattle.delivery.specs.Lines.{Record}
 use Rattle.delivery.specs.FirstModel.{Titles, Attribute}
 use Rattle.delivery.specs.ModelWords.{lexemes}

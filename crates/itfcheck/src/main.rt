@@ -6,6 +6,9 @@
 //! the program ends with 8, as `run` does.
 #![tactic(auto)]
 
+#[cfg(test)]
+mod tests;
+
 use delivery::{Status, Word, run};
 use ports::{Memory, RealShelf, RealSink};
 use std::alloc::Global;

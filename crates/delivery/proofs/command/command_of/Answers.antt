@@ -1,4 +1,4 @@
-use Rattle.std.proofs.Common.{sym, ◌∙◌, ap}
+use Rattle.std.proofs.Common.{sym}
 use Rattle.delivery.proofs.CommandLemmas.{four_words, spelled_by}
 use Rattle.delivery.proofs.ModelLemmas.{same_word}
 use Rattle.delivery.proofs.command.command_of.Goals as goal

@@ -1,4 +1,4 @@
-use Rattle.std.proofs.Common.{ℕ, List, subst}
+use Rattle.std.proofs.Common.{subst}
 use Rattle.delivery.specs.Frames.{HasNoTransfer}
 use Rattle.delivery.specs.Views.{titles_of}
 use Rattle.delivery.proofs.decision.decide_transfer.Goals as goal

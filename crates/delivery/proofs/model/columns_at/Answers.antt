@@ -1,7 +1,6 @@
-use Rattle.std.proofs.Common.{arith, ap, length, length-append, ℕ, List, subst, sym, ◌∙◌, ◌++◌, ◌∷◌, []}
-use Rattle.delivery.specs.Descent.{Attributes}
+use Rattle.std.proofs.Common.{arith, ap, length, length-append}
 use Rattle.delivery.specs.declared.model.Column.{Column}
-use Rattle.delivery.proofs.ModelParts.{more, more_at, twice_at}
+use Rattle.delivery.proofs.ModelParts.{more_at, twice_at}
 use Rattle.delivery.proofs.model.columns_at.Goals as goal
 
 pub returns-then-not-branch-clause-twice : goal.returns-then-not-branch-clause-twice

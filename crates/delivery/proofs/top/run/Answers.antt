@@ -1,4 +1,3 @@
-use Rattle.std.proofs.Common.{ℕ, List}
 use Rattle.ports.specs.Faults.{Rose}
 use Rattle.delivery.specs.OutcomeViews.{outcome_of}
 use Rattle.delivery.proofs.OneOutcome.{exactly}

@@ -1,0 +1,5 @@
+//! The program's worked rows: inputs with the answers that a reader of the rules expects.
+
+mod endless;
+mod inputs;
+mod rows;
