@@ -9,5 +9,6 @@ pub mod OutcomeLemmas
 pub mod PieceLemmas
 pub mod Pieces
 pub mod PutLemmas
+pub mod RisingLemmas
 pub mod TableLemmas
 pub mod TransferLemmas

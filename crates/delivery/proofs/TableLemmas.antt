@@ -10,7 +10,7 @@ use Rattle.delivery.specs.declared.findings.Finding.{Finding}
 use Rattle.delivery.specs.Lines.{Record, Entry, whole, open_line}
 use Rattle.delivery.specs.FirstTransfer.{identification, values, is_plain, IsObject}
 use Rattle.delivery.specs.Findings.{object_findings, findings}
-use Rattle.delivery.specs.Frames.{SomeObjects, IsTable, IsNoTable, IsThere, IsRefused}
+use Rattle.delivery.specs.Frames.{SomeObjects, AllObjects, IsTable, IsNoTable, IsThere, IsRefused}
 use Rattle.delivery.proofs.ModelParts.{again_in}
 
 all_more : (xs : List Record) (x : Record) → AllByRecursion IsObject xs → IsObject x → AllByRecursion IsObject (xs ++ (x ∷ []))
@@ -112,3 +112,9 @@ module _ {body : List Entry} {ids : List (List ℕ)} {columns : List Column} {fo
       no (one_more q others is f o d) = let same : r ≡ q = cc in again q is o d (subst (λ (x : Record). IsRefused x ids) same k)
       no (end q others f o) = let same : q ≡ r = cc in let w : r.word ≡ codes "ETAB" = ap (λ (x : Record). x.word) (sym same) ∙ o in
           let k : true ≡ false = ap (λ (x : List ℕ). pointwise nat_eq x (codes "ETAB")) (sym w) ∙ no_etab in absurd (cc k)
+
+-- where ETAB follows, the objects that were gathered are all
+pub all_objects : (body : List Entry) (ids : List (List ℕ)) (columns : List Column) (found : List Finding) (count : ℕ) (rest behind : List Entry) (etab : Record)
+    → SomeObjects body ids columns found count rest → rest ≡ whole etab ∷ behind → IsDistinct (pointwise nat_eq) ids → etab.word ≡ codes "ETAB" → AllObjects body columns found count behind
+all_objects body ids columns found count rest behind etab h e d w =
+    record { ids = ids; etab = etab; before = subst (SomeObjects body ids columns found count) e h; differ = d; ends = w }

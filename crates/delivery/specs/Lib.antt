@@ -18,4 +18,5 @@ pub mod Publishing
 pub mod Reading
 pub mod Refusals
 pub mod Report
+pub mod Rising
 pub mod Views

@@ -1,5 +1,5 @@
 -- Values of the code, without where they lie in memory.
-use Rattle.std.specs.Prelude.{ℕ, List}
+use Rattle.std.specs.Prelude.{nat_eq, map, ℕ, List}
 use Rattle.delivery.specs.Lines.{Entry, whole, open_line, fields}
 use Rattle.delivery.specs.Lines.{Record}
 use Rattle.delivery.specs.FirstModel.{Titles, Attribute}
@@ -10,6 +10,11 @@ use Rattle.delivery.specs.declared.model.Attribute.{Attribute as CodeAttribute}
 use Rattle.delivery.specs.Descent.{Head}
 use Rattle.delivery.specs.declared.model.Head.{Head as CodeHead}
 use Rattle.delivery.specs.declared.distinct.Distinct.{Distinct}
+use Rattle.delivery.specs.declared.distinct.Words.{Words}
+use Rattle.delivery.specs.declared.distinct.Words.TheVariants.{Rising, Kept}
+use Rattle.delivery.specs.Rising.{IsRising}
+use Rattle.std.specs.List.{IsDistinct}
+use Rattle.std.specs.Cmp.Lexicographic.{pointwise}
 use Rattle.indexmap.specs.IndexSet.{keys}
 use Rattle.delivery.specs.declared.records.Record.{Record as CodeRecord}
 use Rattle.delivery.specs.declared.records.Entry.{Entry as CodeEntry}
@@ -22,9 +27,21 @@ abbrev pub entry_of : CodeEntry → Entry
 entry_of (Whole r) = whole (record_of r)
 entry_of Open = open_line
 
--- the words of a set, in the order in which they came
+-- the words that were added, in the order in which they came
+abbrev pub words_of : Words → List (List ℕ)
+words_of (Rising words) = map (λ word. word.now) words.items
+words_of (Kept set) = keys set
+
 abbrev pub words_in : Distinct → List (List ℕ)
-words_in d = keys d.keys
+words_in d = words_of d.words
+
+-- the words are all different, and those that are only listed rise
+abbrev pub AreKept : Words → Type 0
+AreKept (Rising words) = IsRising (map (λ word. word.now) words.items)
+AreKept (Kept set) = IsDistinct (pointwise nat_eq) (keys set)
+
+abbrev pub IsKept : Distinct → Type 0
+IsKept d = AreKept d.words
 
 abbrev pub titles_of : CodeTitles → Titles
 titles_of t = record { model = t.model.now; topic = t.topic.now; table = t.table.now }

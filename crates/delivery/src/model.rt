@@ -218,6 +218,7 @@ fn closes(text: &[u8], titles: &Titles<'_>) -> bool
 
 // The columns of the attributes at the front of a text, and the text behind them; none where two
 // attributes have one name.
+#[tactic(auto, using(crate::proofs::RisingLemmas::kept_distinct))]
 fn columns_at(alloc: Global, text: &[u8]) -> Result<Option<(Vec<Column>, &[u8])>, Memory>
     ensures found { IfOk result (λ found. IfSome found (λ parts. AllAttributes (lexemes text.entry.now) parts.0.items (lexemes parts.1.now))) }
     ensures twice { IfOk result (λ found. IfNone found (TwiceNamed (lexemes text.entry.now))) }

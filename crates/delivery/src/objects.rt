@@ -1,13 +1,12 @@
 // The objects of a transfer, and what is wrong with them.
 ghost use Rattle.std.specs.Prelude.{◌≡◌, ◌≤◌, ◌<◌, ◌+◌, ◌^◌, ◌++◌, ◌-◌, ◌∷◌, [], ◌⊎◌, nat_eq, length, true, false, Some, None, IfOk, IfSome, IfNone, OnOk, IsTrue, IsFalse};
-ghost use Rattle.std.specs.List.{list_all, filter_map, zip, enumerate_from, IsDistinct};
-ghost use Rattle.std.specs.Cmp.Lexicographic.{pointwise};
+ghost use Rattle.std.specs.List.{list_all, filter_map, zip, enumerate_from};
 ghost use Rattle.decimals.specs.Scaled.{scaled_of};
 ghost use Rattle.delivery.specs.Lines.{fields};
 ghost use Rattle.delivery.specs.FirstTransfer.{is_plain, identification};
 ghost use Rattle.delivery.specs.Findings.{is_outside, code_of, field_finding, count_finding, value_findings};
 ghost use Rattle.delivery.specs.Frames.{IsRefused};
-ghost use Rattle.delivery.specs.Views.{record_of, words_in};
+ghost use Rattle.delivery.specs.Views.{record_of, words_in, IsKept};
 
 use crate::distinct::Distinct;
 use crate::fields::split_field;
@@ -147,10 +146,11 @@ impl Objects {
     ) -> Result<bool, Memory>
         requires few { length columns.now < 2 ^ 32 }
         requires count { self.old.count < 2 ^ 32 - 1 }
+        requires kept { IsKept ids.old }
         ensures added { IfOk result (λ new. IsTrue new → Adds columns.now (record_of object.now) self.old self.new) }
         ensures ids { IfOk result (λ new. IsTrue new → words_in ids.new ≡ words_in ids.old ++ identification (record_of object.now)) }
         ensures refused { IfOk result (λ new. IsFalse new → IsRefused (record_of object.now) (words_in ids.old)) }
-        ensures distinct { IsDistinct (pointwise nat_eq) (words_in ids.old) → IsDistinct (pointwise nat_eq) (words_in ids.new) }
+        ensures kept { OnOk result (IsKept ids.new) }
     {
         let Some((identification, values)) = split_field(object.rest) else {
             self.add_count(object.line)?;

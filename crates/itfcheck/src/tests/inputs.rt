@@ -16,7 +16,7 @@ const TWO_COLUMNS: &str =
 const LATER: &str = "LATER transfer\nVERDICT UNDECIDED\n";
 
 // Transfers for the model with two columns, and their reports.
-const TRANSFERS: [(&str, &str); 20] = [
+const TRANSFERS: [(&str, &str); 22] = [
     // the last line may end with the file, lines may end with CR LF, and lines without fields are skipped
     (
         "SCNT x\r\nfree\r\n\r\n////  \r\n\r\nMTID\r\nMODL M\r\nTOPI T\r\nTABL A\r\n \t\r\nOBJE a -5 +1\r\nETAB x\r\nETOP\r\nEMOD\r\nENDE",
@@ -39,6 +39,14 @@ const TRANSFERS: [(&str, &str); 20] = [
     (
         "SCNT\n////\nMTID\nMODL M\nTOPI T\nTABL A\nOBJE 1 1 1\nOBJE 1 1 1\nETAB\nETOP\nEMOD\nENDE\n",
         LATER,
+    ),
+    (
+        "SCNT\n////\nMTID\nMODL M\nTOPI T\nTABL A\nOBJE 10 1 1\nOBJE 9 1 1\nOBJE a 1 1\nOBJE 9 1 1\nETAB\nETOP\nEMOD\nENDE\n",
+        LATER,
+    ),
+    (
+        "SCNT\n////\nMTID\nMODL M\nTOPI T\nTABL A\nOBJE 10 1 1\nOBJE 9 1 1\nOBJE a 1 1\nETAB\nETOP\nEMOD\nENDE\n",
+        "VERDICT ACCEPTED 3\n",
     ),
     // no value is the undefined word or has a full stop
     (

@@ -10,5 +10,5 @@ pub loop-attribute-preserved : goal.loop-attribute-preserved
 loop-attribute-preserved c = record {
   before = more_at _ _ _ _ _ _ _ _ c.loop-attribute.invariant.before c.in-Some.ensures.value (c.in_ok-add.ensures.added c.if-not-branch.false) (search (c.in_ok-push.ensures.items, c.column.ensures));
   few = omega (arith, c.loop-attribute.invariant.few, c.in-Some.ensures.shorter, ap length c.in_ok-push.ensures.items, length-append {A = Column});
-  differ = c.in_ok-add.ensures.distinct;
+  kept = c.in_ok-add.ensures.kept;
 }

@@ -1,6 +1,7 @@
 use Rattle.std.proofs.Common.{arith, sym, ◌∙◌}
 use Rattle.delivery.proofs.ModelLemmas.{same_word}
-use Rattle.delivery.proofs.TableLemmas.{more, ended, opened, strange, refused}
+use Rattle.delivery.proofs.TableLemmas.{all_objects, more, ended, opened, strange, refused}
+use Rattle.delivery.proofs.RisingLemmas.{kept_distinct}
 use Rattle.delivery.proofs.EntryLemmas.{opened_by, whole_by}
 use Rattle.delivery.proofs.transfer.objects_at.Goals as goal
 
@@ -16,9 +17,13 @@ returns-then-not-branch-clause-other c = refused c.loop-entry.invariant.before _
 pub loop-entry-preserved : goal.loop-entry-preserved
 loop-entry-preserved c = let a = c.in_ok-add.ensures.added c.if-not-branch.false in record {
   before = more _ _ _ _ _ _ _ _ _ _ _ c.loop-entry.invariant.before (whole_by _ _ _ _ c.in-Some.ensures.some c.in-Whole.is) (same_word _ _ (sym c.has_word-in-Some.ensures ∙ c.if-not-has_word.false)) a.plain (c.in_ok-add.ensures.ids c.if-not-branch.false) a.findings a.count;
-  differ = c.in_ok-add.ensures.distinct c.loop-entry.invariant.differ;
+  kept = c.in_ok-add.ensures.kept;
   short = omega (arith, a.count, c.in-Some.ensures.progress, c.loop-entry.invariant.short);
 }
 
 pub returns-clause-other : goal.returns-clause-other
 returns-clause-other c = ended c.loop-entry.invariant.before c.in_default.ensures.none
+
+pub returns-then-has_word-clause-found : goal.returns-then-has_word-clause-found
+returns-then-has_word-clause-found c =
+    all_objects _ _ _ _ _ _ _ _ c.loop-entry.invariant.before (whole_by _ _ _ _ c.in-Some.ensures.some c.in-Whole.is) (kept_distinct c.loop-entry.ids c.loop-entry.invariant.kept) (same_word _ _ (sym c.if-has_word.ensures))

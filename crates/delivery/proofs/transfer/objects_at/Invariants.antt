@@ -1,15 +1,13 @@
-use Rattle.std.proofs.Common.{◌≤◌, ◌+◌, length, nat_eq}
-use Rattle.std.specs.List.{IsDistinct}
-use Rattle.std.specs.Cmp.Lexicographic.{pointwise}
+use Rattle.std.proofs.Common.{◌≤◌, ◌+◌, length}
 use Rattle.delivery.specs.Cursor.{entries_of}
 use Rattle.delivery.specs.Frames.{SomeObjects}
-use Rattle.delivery.specs.Views.{words_in}
+use Rattle.delivery.specs.Views.{words_in, IsKept}
 use Rattle.delivery.proofs.transfer.objects_at.Given as goal
 
 abbrev pub invariant-loop-entry : goal.invariant-loop-entry
 invariant-loop-entry l = record {
   before : SomeObjects (entries_of l.fn.entries) (words_in l.ids) l.columns l.objects.findings.items l.objects.count (entries_of l.entries);
-  differ : IsDistinct (pointwise nat_eq) (words_in l.ids);
+  kept : IsKept l.ids;
   short : l.objects.count + length l.entries.lines ≤ length l.fn.entries.lines;
 }
 
