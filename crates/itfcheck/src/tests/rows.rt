@@ -212,3 +212,26 @@ fn the_first_rows_hold(rt: HostRuntime) -> Result<(), Fail> {
     }
     Ok(())
 }
+
+// Where a growth is refused, the answer is the defined one, or want of memory with nothing done.
+#[test]
+fn a_refused_growth_leaves_all_as_it_was(rt: HostRuntime) -> Result<(), Fail> {
+    let alloc = rt.alloc();
+    let words = words_of(alloc, CHECK)?;
+    let mut shelf = MemoryShelf::new(alloc);
+    shelf.with_file("M", MODEL.as_bytes())?;
+    shelf.with_file("T", SEVEN.as_bytes())?;
+    shelf.make_room("C", 64)?;
+    let mut out = MemorySink::new(alloc);
+    out.make_room(64)?;
+    let status = run(alloc, &words, &mut shelf, &mut out);
+    let written = certificate(alloc, &mut shelf)?;
+    if status == Status::Memory {
+        assert_eq!(rt; out.bytes(), b"".as_slice());
+        assert!(rt; written.is_none());
+        return Ok(());
+    }
+    assert_eq!(rt; status, Status::Accepted);
+    assert_eq!(rt; out.bytes(), b"VERDICT ACCEPTED 1\n".as_slice());
+    Ok(())
+}
