@@ -37,7 +37,13 @@ fn judge<'a, S: Shelf>(
     Ok((outcome, check.certificate))
 }
 
-/// Does what the words ask for, over files by name and an output.
+/// Does what the words ask for, over files by name and an output, and answers with a status
+/// whose number is the exit status of the program.
+///
+/// `words` are those behind the program's name. The files that they name are read whole, in
+/// pieces of 65,536 bytes, and no more than one byte past their limits: 4,194,304 bytes for a
+/// model, 268,435,456 for a transfer. Want of memory is the one answer without a cause. It never
+/// comes after the first write.
 pub fn run<S: Shelf, K: Sink>(alloc: Global, words: &[Word], shelf: &mut S, out: &mut K) -> Status
     // The cause of the answer: the headline.
     ensures means { Means (S.held shelf.old) (λ name. Rose (S.read_faults shelf.old name) (S.read_faults shelf.new name)) words.now result }
