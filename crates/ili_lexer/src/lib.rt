@@ -1,0 +1,37 @@
+//! The tokens of a model: bytes become a list of tokens, or the first place where a rule of the
+//! tokens is broken.
+//!
+//! At each place stands the longest token there is, but a full stop belongs to a number only
+//! where a digit follows it. Spaces, tabs, CR and LF divide tokens; a comment goes from `!!` to
+//! the end of its line, which is a LF; an explanation goes from `//` to the next `//`. Inside
+//! these two any byte may stand, elsewhere a byte that begins no token is a fault.
+//!
+//! - **What is proved.** `lex` answers exactly the tokens of the text (`AreTokens`), each with
+//!   its kind, line, column and span, or exactly the first fault (`IsFault`), or `Memory`.
+//!   A text has one answer (`one_answer`). Spans are in order, not empty, and end by the end of
+//!   the text (`AreInOrder`).
+//! - **What the next layer may use.** A token's bytes are the slice of the text from `from` up
+//!   to `upto`. Lines and columns count from 1, columns in bytes.
+//! - **Not here:** whether the tokens are a model. The text is lexed whole, so a fault of a
+//!   token at the end of a text comes before any fault of its grammar.
+//! - **Degenerate cases:** an empty text has no tokens. `0x` without a hexadecimal digit is a
+//!   fault where it would begin a token, but `+0x1` is a number and a name. A lone CR divides
+//!   tokens and ends neither a line nor a comment.
+//!
+//! Cost: time in proportion to the length of the text, whose bytes are never copied, and memory
+//! for the tokens alone.
+#![tactic(auto)]
+
+mod fronts;
+mod keywords;
+mod laws;
+mod lexing;
+mod places;
+#[cfg(test)]
+mod tests;
+mod tokens;
+
+pub use keywords::Keyword;
+pub use laws::one_answer;
+pub use lexing::lex;
+pub use tokens::{Kind, LexFault, Mark, Token};
