@@ -1,0 +1,116 @@
+#!/bin/sh
+# Writes a certificate with a million edges and reads it again, beside a C program that only parses
+# its numbers. Builds both in a scratch folder. Usage: bench/certificate.sh [edges]
+set -eu
+edges=${1:-1000000}
+top=$(cd "$(dirname "$0")/.." && pwd)
+work=$(mktemp -d)
+trap 'rm -rf "$work"' EXIT
+mkdir -p "$work/crates/certificate_bench/src"
+for crate in ports certificate; do
+    mkdir "$work/crates/$crate"
+    cp -r "$top/crates/$crate/src" "$top/crates/$crate/specs" "$top/crates/$crate/proofs" "$work/crates/$crate"
+done
+cat > "$work/crates.txt" <<'END'
+ports:
+certificate: ports itoa thiserror
+certificate_bench: certificate ports
+END
+cat > "$work/crates/certificate_bench/src/main.rt" <<'END'
+// Writes a certificate where there is none, else reads it.
+#![tactic(auto)]
+
+use certificate::{Certificate, HalfNote, Link, PointPlace, read, write};
+use ports::{Memory, Name, RealShelf, Shelf};
+use std::alloc::Global;
+
+const EDGES: u32 = NUMBER;
+
+fn made(alloc: Global) -> Result<Vec<Certificate>, Memory> {
+    let mut positions = Vec::new(alloc);
+    let mut notes = Vec::new(alloc);
+    let mut places = Vec::new(alloc);
+    for i in 0..EDGES {
+        let half = i.wrapping_mul(7919) % (2 * EDGES);
+        notes.push(HalfNote { label: i / 4, link: Link::Across(half), rank: i % 1000 })?;
+        notes.push(HalfNote { label: half / 8, link: Link::Next, rank: i % 77 })?;
+        if i % 2 == 0 {
+            positions.push(half % 3000)?;
+            places.push(PointPlace::Cell(half % 3000))?;
+        }
+    }
+    let mut all = Vec::new(alloc);
+    all.push(Certificate {
+        topic: Name::new(alloc, b"Cover".as_slice())?,
+        table: Name::new(alloc, b"Parcel".as_slice())?,
+        attribute: Name::new(alloc, b"Form".as_slice())?,
+        level: 0,
+        positions,
+        notes,
+        places,
+    })?;
+    Ok(all)
+}
+
+// The bytes of the file, none where there is none.
+fn file(alloc: Global, shelf: &mut RealShelf) -> Result<Vec<u8>, Memory> {
+    let mut piece = [0u8; 4096];
+    let mut bytes = Vec::new(alloc);
+    for _ in 0..100000 {
+        match shelf.read("certificate.txt", bytes.len() as u64, &mut piece) {
+            Ok(0) => break,
+            Ok(n) => bytes.extend_from_slice(&piece[..n])?,
+            Err(_) => break,
+        }
+    }
+    Ok(bytes)
+}
+
+fn main(rt: HostRuntime) {
+    let alloc = rt.alloc();
+    let mut shelf = RealShelf::new(rt);
+    let Ok(bytes) = file(alloc, &mut shelf) else {
+        return;
+    };
+    if bytes.is_empty() {
+        let Ok(all) = made(alloc) else {
+            return;
+        };
+        let done = write(&all, &mut shelf, "certificate.txt").is_ok();
+        let _ = println!(rt; "written {done}");
+    } else if bytes.len() <= 1 << 30 {
+        let found = read(alloc, &bytes).is_ok();
+        let _ = println!(rt; "read {found}");
+    }
+}
+END
+sed -i "s/NUMBER/$edges/" "$work/crates/certificate_bench/src/main.rt"
+cat > "$work/numbers.c" <<'END'
+#include <stdio.h>
+#include <stdlib.h>
+int main(void) {
+    FILE *f = fopen("certificate.txt", "rb");
+    char *p = malloc(1 << 27);
+    size_t n = fread(p, 1, 1 << 27, f);
+    unsigned *numbers = malloc(n * sizeof *numbers);
+    size_t count = 0;
+    for (size_t i = 0; i < n;) {
+        if (p[i] < '0' || p[i] > '9') { i++; continue; }
+        unsigned value = 0;
+        while (i < n && p[i] >= '0' && p[i] <= '9') value = value * 10 + (p[i++] - '0');
+        numbers[count++] = value;
+    }
+    printf("C: %zu bytes, %zu numbers\n", n, count);
+    return 0;
+}
+END
+cc -O2 -o "$work/numbers" "$work/numbers.c"
+cd "$work/crates/certificate_bench"
+rt run > "$work/build.log" 2>&1 || { cat "$work/build.log"; exit 1; }
+program=$(find "$work/crates/certificate_bench/out" -type f -perm -u+x -size +20k | head -1)
+cd "$work"
+rm -f certificate.txt
+echo "write:"; time "$program"
+echo "read:"; time "$program"
+echo "the numbers alone, in C:"; time ./numbers
+ls -l certificate.txt

@@ -1,0 +1,15 @@
+use Rattle.std.specs.Prelude.{codes}
+use Rattle.std.specs.Fmt.{decimal}
+use Rattle.std.proofs.lemmas.Result.{err_from_is_err_and}
+use Rattle.certificate.proofs.Files.{writes_then, writes_failed}
+use Rattle.certificate.proofs.lines.put_across.Goals as goal
+
+pub returns-in_err-put-clause-written : goal.returns-in_err-put-clause-written
+returns-in_err-put-clause-written g c =
+    let p = err_from_is_err_and c.from_residual.result c.from_residual.ensures.1 in
+    let e = c.in_err-put.field-0.0 in
+    let h = writes_failed c.args.name.now (codes "C") (decimal c.args.half) (g.S.Shelf.held c.args.shelf.now) c.args.page.now e p.0 (g.S.Shelf.held c.put.new.shelf) c.put.new.page c.put.new.page c.in_err-put.ensures.written in
+    rw p.1 (h)
+
+pub returns-clause-written : goal.returns-clause-written
+returns-clause-written g c = writes_then c.args.name.now (codes "C") (decimal c.args.half) (g.S.Shelf.held c.args.shelf.now) c.args.page.now (g.S.Shelf.held c.put.new.shelf) c.put.new.page c.put_number.result (g.S.Shelf.held c.put_number.new.shelf) c.put_number.new.page c.in_ok-put.ensures.written c.put_number.ensures.written

@@ -1,0 +1,27 @@
+use Rattle.std.proofs.Common.{◌++◌, List, ℕ, Err, sym, subst, ◌∙◌, append_assoc}
+use Rattle.std.specs.Prelude.{codes}
+use Rattle.std.specs.List.{flat_map}
+use Rattle.std.proofs.lemmas.Result.{err_from_is_err_and}
+use Rattle.certificate.specs.Appending.{Writes, next_word}
+use Rattle.certificate.proofs.Files.{writes_then, writes_failed, line_words}
+use Rattle.certificate.proofs.lines.put_line.Goals as goal
+
+pub returns-in_err-put-clause-written : goal.returns-in_err-put-clause-written
+returns-in_err-put-clause-written g c =
+    let p = err_from_is_err_and c.from_residual.result c.from_residual.ensures.1 in
+    let e = c.in_err-put.field-0.0 in
+    let h = writes_failed c.args.name.now (c.args.first.now) (flat_map next_word c.args.words.now ++ (codes "\n")) (g.S.Shelf.held c.args.shelf.now) c.args.page.now e p.0 (g.S.Shelf.held c.put.new.shelf) c.put.new.page c.put.new.page c.in_err-put.ensures.written in
+    rw p.1 (subst (λ (t : List ℕ). Writes c.args.name.now t (g.S.Shelf.held c.args.shelf.now) c.args.page.now (Err p.0) (g.S.Shelf.held c.put.new.shelf) c.put.new.page) (sym (line_words c.args.first.now c.args.words.now)) h)
+
+pub returns-in_err-put_words-clause-written : goal.returns-in_err-put_words-clause-written
+returns-in_err-put_words-clause-written g c =
+    let p = err_from_is_err_and c.from_residual-in_err-put_words.result c.from_residual-in_err-put_words.ensures.1 in
+    let e = c.in_err-put_words.field-0.0 in
+    let h = writes_failed c.args.name.now ((c.args.first.now) ++ (flat_map next_word c.args.words.now)) (codes "\n") (g.S.Shelf.held c.args.shelf.now) c.args.page.now e p.0 (g.S.Shelf.held c.put_words.new.shelf) c.put_words.new.page c.put_words.new.page (writes_then c.args.name.now (c.args.first.now) (flat_map next_word c.args.words.now) (g.S.Shelf.held c.args.shelf.now) c.args.page.now (g.S.Shelf.held c.put.new.shelf) c.put.new.page (Err e) (g.S.Shelf.held c.put_words.new.shelf) c.put_words.new.page c.in_ok-put.ensures.written c.in_err-put_words.ensures.written) in
+    rw p.1 (subst (λ (t : List ℕ). Writes c.args.name.now t (g.S.Shelf.held c.args.shelf.now) c.args.page.now (Err p.0) (g.S.Shelf.held c.put_words.new.shelf) c.put_words.new.page) (append_assoc (c.args.first.now) (flat_map next_word c.args.words.now) (codes "\n") ∙ sym (line_words c.args.first.now c.args.words.now)) h)
+
+pub returns-clause-written : goal.returns-clause-written
+returns-clause-written g c =
+    let h = writes_then c.args.name.now (flat_map next_word c.args.words.now) (codes "\n") (g.S.Shelf.held c.put.new.shelf) c.put.new.page (g.S.Shelf.held c.put_words.new.shelf) c.put_words.new.page c.put-2.result (g.S.Shelf.held c.put-2.new.shelf) c.put-2.new.page c.in_ok-put_words.ensures.written c.put-2.ensures.written in
+    subst (λ (t : List ℕ). Writes c.args.name.now t (g.S.Shelf.held c.args.shelf.now) c.args.page.now c.put-2.result (g.S.Shelf.held c.put-2.new.shelf) c.put-2.new.page) (sym (line_words c.args.first.now c.args.words.now))
+    (writes_then c.args.name.now (c.args.first.now) ((flat_map next_word c.args.words.now) ++ (codes "\n")) (g.S.Shelf.held c.args.shelf.now) c.args.page.now (g.S.Shelf.held c.put.new.shelf) c.put.new.page c.put-2.result (g.S.Shelf.held c.put-2.new.shelf) c.put-2.new.page c.in_ok-put.ensures.written h)

@@ -1,0 +1,37 @@
+-- What writing in pieces adds to a file.
+use Rattle.std.specs.Prelude.{◌≡◌, ℕ, List, [], ◌++◌, codes, Option, Some, None, Result, Ok, Err, ⊤, ◌⊎◌}
+use Rattle.std.specs.Fmt.{decimal}
+use Rattle.std.specs.FinMap as map
+use Rattle.ports.specs.declared.Failed.{Failed}
+use Rattle.ports.specs.Files.{Files, Gained, bytes_of}
+use Rattle.certificate.specs.declared.words.Word.{Word}
+use Rattle.certificate.specs.declared.words.Word.TheVariants.{Text, Number, Across}
+
+abbrev pub word_text : Word → List ℕ
+word_text (Text bytes) = bytes.now
+word_text (Number n) = decimal n
+word_text (Across half) = codes "C" ++ decimal half
+
+-- a blank and a word
+abbrev pub next_word : Word → List ℕ
+next_word word = codes " " ++ word_text word
+
+-- the file of that name gained these bytes
+abbrev pub Added : Option Files → List ℕ → List ℕ → Option Files → Type 0
+Added None name bytes now = ⊤
+Added (Some files) name bytes now = ((bytes ≡ []) × (now ≡ Some files)) ⊎ (now ≡ Some (map.insert files name (bytes_of (map.get files name) ++ bytes)))
+
+-- of this text the front was added to the file, and the rest waits
+pub record Pending (before : Option Files) (name text : List ℕ) (now : Option Files) (waits : List ℕ) : Type 0 where
+  pub gained : List ℕ
+  pub parts : text ≡ gained ++ waits
+  pub added : Added before name gained now
+
+-- after a failure only a front of the text was added
+abbrev pub Outcome : Result (Unit {0}) Failed → Option Files → List ℕ → List ℕ → Option Files → List ℕ → Type 0
+Outcome (Ok u) before name text now waits = Pending before name text now waits
+Outcome (Err e) before name text now waits = Gained before name text now
+
+-- a call wrote these bytes behind whatever text was written before it
+abbrev pub Writes : List ℕ → List ℕ → Option Files → List ℕ → Result (Unit {0}) Failed → Option Files → List ℕ → Type 0
+Writes name bytes held waits result now left = (before : Option Files) (text : List ℕ) → Pending before name text held waits → Outcome result before name (text ++ bytes) now left

@@ -1,0 +1,5 @@
+pub mod Spelling
+pub mod Parts
+pub mod Reading
+pub mod Views
+pub mod Appending

@@ -1,0 +1,140 @@
+// Lines that are gathered, and appended to a file a page at a time.
+ghost use Rattle.std.specs.Prelude.{◌≡◌, ◌≤◌, ◌++◌, ◌∷◌, ◌<◌, [], ℕ, List, OnOk, OnErr, map, codes};
+ghost use Rattle.std.specs.Fmt.{decimal};
+ghost use Rattle.std.specs.List.{flat_map};
+ghost use Rattle.ports.specs.Faults.{Rose};
+ghost use Rattle.certificate.specs.Spelling.{line};
+ghost use Rattle.certificate.specs.Appending.{Writes, word_text, next_word};
+
+use crate::page::Page;
+use crate::words::Word;
+use itoa::Buffer;
+use ports::{Failed, Shelf};
+
+/// Appends the bytes that wait.
+pub fn flush<S: Shelf>(shelf: &mut S, name: &str, page: &mut Page) -> Result<(), Failed>
+    ensures written { Writes name.now [] (S.held shelf.old) page.old result (S.held shelf.new) page.new }
+    ensures empty { OnOk result (page.new ≡ []) }
+    ensures reads { (q : List ℕ) → S.read_faults shelf.old q ≤ S.read_faults shelf.new q }
+    ensures writes { S.write_faults shelf.old ≤ S.write_faults shelf.new }
+    ensures cause { OnErr result (Rose (S.write_faults shelf.old) (S.write_faults shelf.new)) }
+{
+    shelf.append(name, page.bytes())?;
+    page.clear();
+    Ok(())
+}
+
+// Adds some bytes; what has no room in a page is appended at once.
+fn put<S: Shelf>(shelf: &mut S, name: &str, page: &mut Page, bytes: &[u8]) -> Result<(), Failed>
+    ensures written { Writes name.now bytes.now (S.held shelf.old) page.old result (S.held shelf.new) page.new }
+    ensures reads { (q : List ℕ) → S.read_faults shelf.old q ≤ S.read_faults shelf.new q }
+    ensures writes { S.write_faults shelf.old ≤ S.write_faults shelf.new }
+    ensures cause { OnErr result (Rose (S.write_faults shelf.old) (S.write_faults shelf.new)) }
+{
+    if page.add(bytes) {
+        return Ok(());
+    }
+    flush(shelf, name, page)?;
+    if page.add(bytes) {
+        return Ok(());
+    }
+    shelf.append(name, bytes)
+}
+
+// Adds a number in decimal.
+fn put_number<S: Shelf>(
+    shelf: &mut S,
+    name: &str,
+    page: &mut Page,
+    number: u64,
+) -> Result<(), Failed>
+    ensures written { Writes name.now (decimal number) (S.held shelf.old) page.old result (S.held shelf.new) page.new }
+    ensures reads { (q : List ℕ) → S.read_faults shelf.old q ≤ S.read_faults shelf.new q }
+    ensures writes { S.write_faults shelf.old ≤ S.write_faults shelf.new }
+    ensures cause { OnErr result (Rose (S.write_faults shelf.old) (S.write_faults shelf.new)) }
+{
+    let mut digits = Buffer::new();
+    put(shelf, name, page, digits.format(number).as_bytes())
+}
+
+// Adds `C` and the number of a half-edge.
+fn put_across<S: Shelf>(shelf: &mut S, name: &str, page: &mut Page, half: u64) -> Result<(), Failed>
+    ensures written { Writes name.now (codes "C" ++ decimal half) (S.held shelf.old) page.old result (S.held shelf.new) page.new }
+    ensures reads { (q : List ℕ) → S.read_faults shelf.old q ≤ S.read_faults shelf.new q }
+    ensures writes { S.write_faults shelf.old ≤ S.write_faults shelf.new }
+    ensures cause { OnErr result (Rose (S.write_faults shelf.old) (S.write_faults shelf.new)) }
+{
+    put(shelf, name, page, b"C")?;
+    put_number(shelf, name, page, half)
+}
+
+// Adds a word.
+fn put_word<S: Shelf>(
+    shelf: &mut S,
+    name: &str,
+    page: &mut Page,
+    word: &Word<'_>,
+) -> Result<(), Failed>
+    ensures written { Writes name.now (word_text word.now) (S.held shelf.old) page.old result (S.held shelf.new) page.new }
+    ensures reads { (q : List ℕ) → S.read_faults shelf.old q ≤ S.read_faults shelf.new q }
+    ensures writes { S.write_faults shelf.old ≤ S.write_faults shelf.new }
+    ensures cause { OnErr result (Rose (S.write_faults shelf.old) (S.write_faults shelf.new)) }
+{
+    match *word {
+        Word::Text(bytes) => put(shelf, name, page, bytes),
+        Word::Number(number) => put_number(shelf, name, page, number),
+        Word::Across(half) => put_across(shelf, name, page, u64::from(half)),
+    }
+}
+
+// Adds a blank and a word.
+fn put_next<S: Shelf>(
+    shelf: &mut S,
+    name: &str,
+    page: &mut Page,
+    word: &Word<'_>,
+) -> Result<(), Failed>
+    ensures written { Writes name.now (next_word word.now) (S.held shelf.old) page.old result (S.held shelf.new) page.new }
+    ensures reads { (q : List ℕ) → S.read_faults shelf.old q ≤ S.read_faults shelf.new q }
+    ensures writes { S.write_faults shelf.old ≤ S.write_faults shelf.new }
+    ensures cause { OnErr result (Rose (S.write_faults shelf.old) (S.write_faults shelf.new)) }
+{
+    put(shelf, name, page, b" ")?;
+    put_word(shelf, name, page, word)
+}
+
+// Adds words, a blank before each.
+fn put_words<S: Shelf>(
+    shelf: &mut S,
+    name: &str,
+    page: &mut Page,
+    words: &[Word<'_>],
+) -> Result<(), Failed>
+    ensures written { Writes name.now (flat_map next_word words.now) (S.held shelf.old) page.old result (S.held shelf.new) page.new }
+    ensures reads { (q : List ℕ) → S.read_faults shelf.old q ≤ S.read_faults shelf.new q }
+    ensures writes { S.write_faults shelf.old ≤ S.write_faults shelf.new }
+    ensures cause { OnErr result (Rose (S.write_faults shelf.old) (S.write_faults shelf.new)) }
+{
+    for word in words {
+        put_next(shelf, name, page, word)?;
+    }
+    Ok(())
+}
+
+/// Adds a line: a first word and others, one blank between two, and LF.
+pub fn put_line<S: Shelf>(
+    shelf: &mut S,
+    name: &str,
+    page: &mut Page,
+    first: &[u8],
+    words: &[Word<'_>],
+) -> Result<(), Failed>
+    ensures written { Writes name.now (line (first.now ∷ map word_text words.now)) (S.held shelf.old) page.old result (S.held shelf.new) page.new }
+    ensures reads { (q : List ℕ) → S.read_faults shelf.old q ≤ S.read_faults shelf.new q }
+    ensures writes { S.write_faults shelf.old ≤ S.write_faults shelf.new }
+    ensures cause { OnErr result (Rose (S.write_faults shelf.old) (S.write_faults shelf.new)) }
+{
+    put(shelf, name, page, first)?;
+    put_words(shelf, name, page, words)?;
+    put(shelf, name, page, b"\n")
+}

@@ -1,0 +1,65 @@
+// Bytes that wait to be appended to a file.
+ghost use Rattle.std.specs.Prelude.{◌≡◌, ◌++◌, [], IsTrue, IsFalse};
+
+use std::marker::Model;
+
+// How many bytes are gathered before they are appended: a file system's block, so that some
+// two hundred lines go out in one call, and the stack holds it with ease.
+const SIZE: usize = 4096;
+
+/// Bytes that wait to be appended, seen as a list.
+#[derive(Drop)]
+pub struct Page {
+    bytes: [u8; SIZE],
+    len: usize,
+}
+
+impl Model for Page {
+    ghost use Rattle.std.specs.Prelude.{List, ℕ, ◌≤◌, take};
+
+    ghost Value = { List ℕ };
+
+    ghost view = { λ p. take p.len p.bytes };
+
+    ghost invariant = { λ p. p.len ≤ 4096 };
+}
+
+impl Page {
+    /// Nothing waits.
+    pub fn new() -> Page
+        ensures { result ≡ [] }
+    {
+        Page {
+            bytes: [0; SIZE],
+            len: 0,
+        }
+    }
+
+    /// The bytes that wait.
+    pub fn bytes(&self) -> &[u8]
+        ensures { result.now ≡ self.now }
+    {
+        &self.bytes[..self.len]
+    }
+
+    /// Adds some bytes, where they have room.
+    pub fn add(&mut self, bytes: &[u8]) -> bool
+        ensures added { IsTrue result → self.new ≡ self.old ++ bytes.now }
+        ensures full { IsFalse result → self.new ≡ self.old }
+    {
+        if bytes.len() > SIZE - self.len {
+            return false;
+        }
+        let end = self.len + bytes.len();
+        self.bytes[self.len..end].copy_from_slice(bytes);
+        self.len = end;
+        true
+    }
+
+    /// Lets the bytes go.
+    pub fn clear(&mut self)
+        ensures { self.new ≡ [] }
+    {
+        self.len = 0;
+    }
+}

@@ -1,0 +1,156 @@
+// The parts of a line, from left to right.
+ghost use Rattle.std.specs.Prelude.{◌≡◌, ◌<◌, ◌≤◌, ◌^◌, ◌+◌, min, length, IfSome, true};
+ghost use Rattle.std.specs.List.{prefix_len};
+ghost use Rattle.std.specs.Char.{is_ascii_digit};
+ghost use Rattle.std.specs.Str.{all_ascii_digits};
+ghost use Rattle.std.specs.Str.Parse.{digits_value};
+ghost use Rattle.certificate.specs.Spelling.{is_name_byte};
+ghost use Rattle.certificate.specs.Reading.{Finds, seen};
+ghost use Rattle.certificate.specs.Parts.{behind, name_at, number, number_at, link_at, half_note, half_at, has_leading_zero, side_at};
+
+use crate::notes::{HalfNote, Link};
+
+// The bytes behind a word at the front.
+pub fn behind<'a>(bytes: &'a [u8], word: &[u8]) -> Option<&'a [u8]>
+    ensures value { Finds (λ rest. rest.now) result (behind word.now bytes.now) }
+    ensures shorter { IfSome result (λ rest. length rest.now + length word.now ≤ length bytes.now) }
+{
+    bytes.strip_prefix(word)
+}
+
+// How many bytes at the front are of a name.
+fn name_len(bytes: &[u8]) -> usize
+    ensures value { result ≡ prefix_len is_name_byte bytes.now }
+    ensures within { result ≤ length bytes.now }
+{
+    for (i, byte) in bytes.iter().enumerate() {
+        if *byte == b' ' || *byte == b'\n' {
+            return i;
+        }
+    }
+    bytes.len()
+}
+
+// A name at the front, and the bytes behind it.
+pub fn name_at(bytes: &[u8]) -> Option<(&[u8], &[u8])>
+    ensures value { Finds (λ found. (found.0.now, found.1.now)) result (name_at bytes.now) }
+    ensures shorter { IfSome result (λ found. length found.1.now < length bytes.now) }
+{
+    let length = name_len(bytes);
+    if length == 0 {
+        return None;
+    }
+    Some(bytes.split_at(length))
+}
+
+// How many bytes at the front are digits.
+fn digits_len(bytes: &[u8]) -> usize
+    ensures value { result ≡ prefix_len is_ascii_digit bytes.now }
+    ensures within { result ≤ length bytes.now }
+{
+    for (i, byte) in bytes.iter().enumerate() {
+        if !byte.is_ascii_digit() {
+            return i;
+        }
+    }
+    bytes.len()
+}
+
+// The value of some digits, or 2^32 where it is greater.
+fn value(digits: &[u8]) -> u64
+    requires { all_ascii_digits digits.now ≡ true }
+    ensures { result ≡ min (digits_value 10 digits.now) (2 ^ 32) }
+{
+    let mut value: u64 = 0;
+    for digit in digits {
+        value = (value * 10 + u64::from(*digit - b'0')).min(1 << 32);
+    }
+    value
+}
+
+fn has_leading_zero(digits: &[u8]) -> bool
+    ensures { result ≡ has_leading_zero digits.now }
+{
+    matches!(digits, [b'0', _, ..])
+}
+
+// The number that some digits spell; none with a leading zero, or from 2^32 on.
+fn number(digits: &[u8]) -> Option<u32>
+    requires { all_ascii_digits digits.now ≡ true }
+    ensures { result ≡ number digits.now }
+{
+    if has_leading_zero(digits) {
+        return None;
+    }
+    let value = value(digits);
+    if value > u64::from(u32::MAX) {
+        return None;
+    }
+    Some(value as u32)
+}
+
+// A run of digits at the front, read as a number, and the bytes behind it.
+#[tactic(auto, using(crate::proofs::Digits::front_is_digits))]
+pub fn number_at(bytes: &[u8]) -> Option<(Option<u32>, &[u8])>
+    ensures value { Finds seen result (number_at bytes.now) }
+    ensures shorter { IfSome result (λ found. length found.1.now < length bytes.now) }
+{
+    let length = digits_len(bytes);
+    if length == 0 {
+        return None;
+    }
+    let (digits, rest) = bytes.split_at(length);
+    Some((number(digits), rest))
+}
+
+// A link at the front, and the bytes behind it.
+fn link_at(bytes: &[u8]) -> Option<(Option<Link>, &[u8])>
+    ensures value { Finds seen result (link_at bytes.now) }
+    ensures shorter { IfSome result (λ found. length found.1.now < length bytes.now) }
+{
+    match bytes {
+        [b'R', rest @ ..] => Some((Some(Link::Root), rest)),
+        [b'N', rest @ ..] => Some((Some(Link::Next), rest)),
+        [b'P', rest @ ..] => Some((Some(Link::Prev), rest)),
+        [b'C', rest @ ..] => match number_at(rest)? {
+            (Some(half), rest) => Some((Some(Link::Across(half)), rest)),
+            (None, rest) => Some((None, rest)),
+        },
+        _ => None,
+    }
+}
+
+// The note of these three, where each of them is spelt right.
+fn half_note(label: Option<u32>, link: Option<Link>, rank: Option<u32>) -> Option<HalfNote>
+    ensures { result ≡ half_note label link rank }
+{
+    Some(HalfNote {
+        label: label?,
+        link: link?,
+        rank: rank?,
+    })
+}
+
+// The note of a half-edge at the front, and the bytes behind it.
+#[tactic(auto, unfolding(crate::specs::Parts::half_at))]
+pub fn half_at(bytes: &[u8]) -> Option<(Option<HalfNote>, &[u8])>
+    ensures value { Finds seen result (half_at bytes.now) }
+    ensures shorter { IfSome result (λ found. length found.1.now < length bytes.now) }
+{
+    let (label, rest) = number_at(bytes)?;
+    let (link, rest) = link_at(behind(rest, b" ")?)?;
+    let (rank, rest) = number_at(behind(rest, b" ")?)?;
+    Some((half_note(label, link, rank), rest))
+}
+
+// The side of a point in a tube at the front, true for inside, and the bytes behind it.
+pub fn side_at(bytes: &[u8]) -> Option<(bool, &[u8])>
+    ensures value { Finds seen result (side_at bytes.now) }
+    ensures shorter { IfSome result (λ found. length found.1.now < length bytes.now) }
+{
+    match bytes {
+        [b'I', rest @ ..] => Some((true, rest)),
+        [b'O', rest @ ..] => Some((false, rest)),
+        _ => None,
+    }
+}

@@ -1,0 +1,166 @@
+// A certificate's text, read line by line.
+ghost use Rattle.std.specs.Prelude.{◌≡◌, ◌<◌, ◌≤◌, ◌^◌, ◌+◌, length, IfSome, IfOk, Ok, List, ℕ};
+ghost use Rattle.std.specs.Option.{option_map};
+ghost use Rattle.std.specs.List.{AllByRecursion};
+ghost use Rattle.certificate.specs.Spelling.{Plain, AreSpelt, ArePaired, pairs, view, views, spelling};
+ghost use Rattle.certificate.specs.Reading.{Gives, seen, Text, text_of, line_of, line_at, many_at, certificate_at, list_of};
+ghost use Rattle.certificate.specs.Parts.{title_at, sizes_at, event_at, edge_at, place_at, end_at};
+
+use crate::fault::CertFault;
+use crate::forms::{areas_at, edge_at, end_at, event_at, place_at, sizes_at, title_at, version_at};
+use crate::notes::{Certificate, HalfNote, PointPlace};
+use crate::text::Text;
+use ports::Name;
+use std::alloc::Global;
+
+// The line that was found at the front of a text, or its fault.
+fn line_of<'a, T: Copy>(
+    text: Text<'a>,
+    found: Option<(Option<T>, &'a [u8])>,
+) -> Result<(T, Text<'a>), CertFault>
+    requires { IfSome found (λ found. length found.1.now < length text.rest.now) }
+    ensures { Gives (λ x. (x.0, text_of x.1)) result (line_of (text_of text.entry) (option_map seen found.entry)) }
+{
+    if text.rest.is_empty() {
+        return Err(CertFault::Short(text.line));
+    }
+    match found {
+        None => Err(CertFault::Line(text.line)),
+        Some((None, _)) => Err(CertFault::Number(text.line)),
+        Some((Some(value), rest)) => Ok((
+            value,
+            Text {
+                rest,
+                line: text.line + 1,
+            },
+        )),
+    }
+}
+
+fn positions_at<'a>(
+    alloc: Global,
+    count: u32,
+    text: Text<'a>,
+) -> Result<(Vec<u32>, Text<'a>), CertFault>
+    ensures { Gives (λ x. (x.0.items, text_of x.1)) result (many_at (line_at event_at) count (text_of text.entry)) }
+{
+    let mut positions = Vec::new(alloc);
+    let mut left = text;
+    for _ in 0..count {
+        let (position, after) = line_of(left, event_at(left.rest))?;
+        positions.push(position)?;
+        left = after;
+    }
+    Ok((positions, left))
+}
+
+fn notes_at<'a>(
+    alloc: Global,
+    count: u32,
+    text: Text<'a>,
+) -> Result<(Vec<HalfNote>, Text<'a>), CertFault>
+    ensures value { Gives (λ x. (pairs x.0.items, text_of x.1)) result (many_at (line_at edge_at) count (text_of text.entry)) }
+    ensures paired { IfOk result (λ x. ArePaired x.0.items) }
+{
+    let mut notes = Vec::new(alloc);
+    let mut left = text;
+    for _ in 0..count {
+        let ((below, above), after) = line_of(left, edge_at(left.rest))?;
+        notes.push(below)?;
+        notes.push(above)?;
+        left = after;
+    }
+    Ok((notes, left))
+}
+
+fn places_at<'a>(
+    alloc: Global,
+    count: u32,
+    text: Text<'a>,
+) -> Result<(Vec<PointPlace>, Text<'a>), CertFault>
+    ensures { Gives (λ x. (x.0.items, text_of x.1)) result (many_at (line_at place_at) count (text_of text.entry)) }
+{
+    let mut places = Vec::new(alloc);
+    let mut left = text;
+    for _ in 0..count {
+        let (place, after) = line_of(left, place_at(left.rest))?;
+        places.push(place)?;
+        left = after;
+    }
+    Ok((places, left))
+}
+
+#[tactic(auto, unfolding(crate::specs::Reading::certificate_at))]
+fn certificate_at<'a>(alloc: Global, text: Text<'a>) -> Result<(Certificate, Text<'a>), CertFault>
+    ensures value { Gives (λ x. (view x.0, text_of x.1)) result (certificate_at (text_of text.entry)) }
+    ensures paired { IfOk result (λ x. ArePaired x.0.notes.items) }
+{
+    let (title, text) = line_of(text, title_at(text.rest))?;
+    let ((level, counts), text) = line_of(text, sizes_at(text.rest))?;
+    let (positions, text) = positions_at(alloc, counts.events, text)?;
+    let (notes, text) = notes_at(alloc, counts.edges, text)?;
+    let (places, text) = places_at(alloc, counts.points, text)?;
+    let (_, text) = line_of(text, end_at(text.rest))?;
+    let certificate = Certificate {
+        topic: Name::new(alloc, title.topic)?,
+        table: Name::new(alloc, title.table)?,
+        attribute: Name::new(alloc, title.attribute)?,
+        level,
+        positions,
+        notes,
+        places,
+    };
+    Ok((certificate, text))
+}
+
+fn certificates_at<'a>(
+    alloc: Global,
+    count: u32,
+    text: Text<'a>,
+) -> Result<(Vec<Certificate>, Text<'a>), CertFault>
+    ensures value { Gives (λ x. (views x.0.items, text_of x.1)) result (many_at certificate_at count (text_of text.entry)) }
+    ensures paired { IfOk result (λ x. AllByRecursion (λ c. ArePaired c.notes.items) x.0.items) }
+{
+    let mut list = Vec::new(alloc);
+    let mut left = text;
+    for _ in 0..count {
+        let (certificate, after) = certificate_at(alloc, left)?;
+        list.push(certificate)?;
+        left = after;
+    }
+    Ok((list, left))
+}
+
+#[tactic(auto, unfolding(crate::specs::Reading::list_of))]
+fn list_of(alloc: Global, bytes: &[u8]) -> Result<Vec<Certificate>, CertFault>
+    requires { length bytes.now ≤ 2 ^ 30 }
+    ensures value { Gives (λ list. views list.items) result (list_of bytes.now) }
+    ensures paired { IfOk result (λ list. AllByRecursion (λ c. ArePaired c.notes.items) list.items) }
+{
+    let text = Text {
+        rest: bytes,
+        line: 1,
+    };
+    let (_, text) = line_of(text, version_at(text.rest))?;
+    let (count, text) = line_of(text, areas_at(text.rest))?;
+    let (list, text) = certificates_at(alloc, count, text)?;
+    if !text.rest.is_empty() {
+        return Err(CertFault::Line(text.line));
+    }
+    Ok(list)
+}
+
+/// The list of certificates that the bytes spell, or the first bad line.
+pub fn read(alloc: Global, bytes: &[u8]) -> Result<Vec<Certificate>, CertFault>
+    requires { length bytes.now ≤ 2 ^ 30 }
+    // What is read is spelt so.
+    ensures found { IfOk result (λ list. AreSpelt (views list.items) × (bytes.now ≡ spelling (views list.items))) }
+    // What is spelt so is read, unless memory runs out.
+    ensures only { (list : List Plain) → AreSpelt list → bytes.now ≡ spelling list → Gives (λ list. views list.items) result (Ok list) }
+    // Which line is the first bad one, and what is wrong with it.
+    ensures exact { Gives (λ list. views list.items) result (list_of bytes.now) }
+    // Each note has a partner.
+    ensures paired { IfOk result (λ list. AllByRecursion (λ c. ArePaired c.notes.items) list.items) }
+{
+    list_of(alloc, bytes)
+}

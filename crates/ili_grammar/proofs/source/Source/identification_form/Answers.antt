@@ -1,0 +1,12 @@
+use Rattle.ili_grammar.specs.Tokens.{tok, explanation, word, I16, I32, ANY}
+use Rattle.ili_grammar.specs.Models.{free, i16, i32, any}
+use Rattle.ili_grammar.proofs.source.Source.identification_form.Goals.{then-is-via-then-is, then-is-via-else-is+then-is_keyword, then-is-via-else-is+else-is_keyword+then-is_keyword-2, then-is-via-else-is+else-is_keyword+else-is_keyword-2+then-is_keyword-3}
+use Rattle.ili_grammar.proofs.source.Source.identification_form.Goals as goal
+
+pub returns-then-is-clause-reads : goal.returns-then-is-clause-reads
+returns-then-is-clause-reads c = elim c.then-is.branch [
+  | then-is-via-then-is w ↦ let h = w.if-is.ensures.here in (tok explanation h.0, h.1, free h.0)
+  | then-is-via-else-is+then-is_keyword w ↦ let h = w.if-is_keyword.ensures.here in (tok (word I16) h.0, h.1, i16 h.0)
+  | then-is-via-else-is+else-is_keyword+then-is_keyword-2 w ↦ let h = w.if-is_keyword-2.ensures.here in (tok (word I32) h.0, h.1, i32 h.0)
+  | then-is-via-else-is+else-is_keyword+else-is_keyword-2+then-is_keyword-3 w ↦ let h = w.if-is_keyword-3.ensures.here in (tok (word ANY) h.0, h.1, any h.0)
+]

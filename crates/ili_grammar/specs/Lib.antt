@@ -1,0 +1,15 @@
+pub mod Tokens
+pub mod Syntax
+pub mod Numbers
+pub mod Types
+pub mod Models
+pub mod Codes
+pub mod Faults
+pub mod Kinds
+pub mod Machine
+pub mod Run
+pub mod Slices
+pub mod Values
+pub mod Wants
+pub mod Steps
+pub mod Parts

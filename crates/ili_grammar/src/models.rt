@@ -1,0 +1,231 @@
+// Domains, tables, topics and whole models.
+ghost use Rattle.std.specs.Prelude.{◌≡◌, ◌<◌, ◌≤◌, length, IfOk, IsTrue};
+ghost use Rattle.ili_grammar.specs.Models.{IsDomains, IsMaybeDomains, IsTable, IsBody, IsTopics, IsModel, IsFont, IsTransfer};
+ghost use Rattle.ili_grammar.specs.Slices.{word_of, mark_of};
+ghost use Rattle.ili_grammar.specs.Values.{ident_of, domain_of, domains_of, table_of, tables_of, topic_of, topics_of, model_of};
+ghost use Rattle.ili_grammar.specs.Steps.{rest, is_plain};
+ghost use Rattle.ili_grammar.specs.Tokens.{word};
+ghost use Rattle.ili_grammar.specs.Parts.{ReadsDomain, ReadsTable, ReadsTopic, ReadsHeading, ReadsEnding, ReadsEndName};
+
+use super::source::{DEEPEST, Source, Wanted, keep, keep_all};
+use super::syntax::{DomainSyntax, Ident, ModelSyntax, SyntaxFault, TableSyntax, TopicSyntax};
+use ili_lexer::{Keyword, Kind, Mark};
+
+impl Source<'_> {
+    pub fn transfer(&self, at: usize) -> Result<(ModelSyntax, usize), SyntaxFault>
+        requires { at ≤ length self.now.tokens.now }
+        ensures reads { IfOk result (λ p. IsTransfer 32 (model_of p.0) (rest self.now at) (rest self.now p.1)) }
+        ensures within { IfOk result (λ p. p.1 ≤ length self.now.tokens.now) }
+    {
+        let next = self.expect_keyword(at, Keyword::Transfer)?;
+        let (transfer, next) = self.ident(next)?;
+        let next = self.expect_mark(next, Mark::Semicolon)?;
+        let (outer, next) = self.optional_domains(next)?;
+        let (model, domains, topics, next) = self.model(next)?;
+        let next = self.expect_keyword(next, Keyword::Format)?;
+        let next = self.expect_free(next)?;
+        let next = self.expect_mark(next, Mark::Semicolon)?;
+        let next = self.expect_keyword(next, Keyword::Code)?;
+        let next = self.font(next)?;
+        let (codes, next) = self.codes(next)?;
+        let syntax = ModelSyntax {
+            transfer,
+            outer,
+            model,
+            domains,
+            topics,
+            codes,
+        };
+        Ok((syntax, next))
+    }
+
+    fn model(
+        &self,
+        at: usize,
+    ) -> Result<(Ident, Vec<DomainSyntax>, Vec<TopicSyntax>, usize), SyntaxFault>
+        requires { at ≤ length self.now.tokens.now }
+        ensures reads { IfOk result (λ p. IsModel 32 (ident_of p.0) (domains_of p.1.items) (topics_of p.2.items) (rest self.now at) (rest self.now p.3)) }
+        ensures within { IfOk result (λ p. p.3 ≤ length self.now.tokens.now) }
+    {
+        let next = self.expect_keyword(at, Keyword::Model)?;
+        let (model, next) = self.ident(next)?;
+        let (domains, next) = self.optional_domains(next)?;
+        let (topics, next) = self.topics(next)?;
+        let next = self.ending(next, &model, Mark::Period)?;
+        Ok((model, domains, topics, next))
+    }
+
+    // DOMAIN and its domains, if it stands here.
+    fn optional_domains(&self, at: usize) -> Result<(Vec<DomainSyntax>, usize), SyntaxFault>
+        requires { at ≤ length self.now.tokens.now }
+        ensures reads { IfOk result (λ p. IsMaybeDomains 32 (domains_of p.0.items) (rest self.now at) (rest self.now p.1)) }
+        ensures within { IfOk result (λ p. (at ≤ p.1) × (p.1 ≤ length self.now.tokens.now)) }
+    {
+        if !self.is_keyword(at, Keyword::Domain) {
+            return Ok((Vec::new(self.alloc), at));
+        }
+        let (domains, next) = self.domains(at + 1)?;
+        Ok((domains, next))
+    }
+
+    // The domains that stand behind DOMAIN.
+    fn domains(&self, at: usize) -> Result<(Vec<DomainSyntax>, usize), SyntaxFault>
+        requires { at ≤ length self.now.tokens.now }
+        ensures reads { IfOk result (λ p. IsDomains 32 (domains_of p.0.items) (rest self.now at) (rest self.now p.1)) }
+        ensures within { IfOk result (λ p. (at ≤ p.1) × (p.1 ≤ length self.now.tokens.now)) }
+    {
+        let mut domains = Vec::new(self.alloc);
+        let mut first = at;
+        'domains: while self.is(first, Kind::Name) {
+            let (domain, next) = self.domain(first)?;
+            keep(&mut domains, domain)?;
+            first = next;
+        }
+        Ok((domains, first))
+    }
+
+    fn domain(&self, at: usize) -> Result<(DomainSyntax, usize), SyntaxFault>
+        requires { at ≤ length self.now.tokens.now }
+        ensures reads { IfOk result (λ p. ReadsDomain (domain_of p.0) (rest self.now at) (rest self.now p.1)) }
+        ensures within { IfOk result (λ p. (at < p.1) × (p.1 ≤ length self.now.tokens.now)) }
+    {
+        let (name, next) = self.ident(at)?;
+        let next = self.expect_mark(next, Mark::Equals)?;
+        let (kind, next) = self.type_syntax(next, DEEPEST)?;
+        let next = self.explanation(next);
+        let next = self.expect_mark(next, Mark::Semicolon)?;
+        Ok((DomainSyntax { name, kind }, next))
+    }
+
+    fn topics(&self, at: usize) -> Result<(Vec<TopicSyntax>, usize), SyntaxFault>
+        requires { at ≤ length self.now.tokens.now }
+        ensures reads { IfOk result (λ p. IsTopics 32 (topics_of p.0.items) (rest self.now at) (rest self.now p.1)) }
+        ensures within { IfOk result (λ p. (at ≤ p.1) × (p.1 ≤ length self.now.tokens.now)) }
+    {
+        let mut topics = Vec::new(self.alloc);
+        let mut first = at;
+        'topics: while self.is_keyword(first, Keyword::Topic)
+            || self.is_keyword(first, Keyword::Optional)
+        {
+            let (topic, next) = self.topic(first)?;
+            keep(&mut topics, topic)?;
+            first = next;
+        }
+        Ok((topics, first))
+    }
+
+    fn topic(&self, at: usize) -> Result<(TopicSyntax, usize), SyntaxFault>
+        requires { at ≤ length self.now.tokens.now }
+        ensures reads { IfOk result (λ p. ReadsTopic (topic_of p.0) (rest self.now at) (rest self.now p.1)) }
+        ensures within { IfOk result (λ p. (at < p.1) × (p.1 ≤ length self.now.tokens.now)) }
+    {
+        let (_, next) = self.optional(at);
+        let (name, next) = self.heading(next, Keyword::Topic)?;
+        let (domains, tables, next) = self.body(next)?;
+        let next = self.ending(next, &name, Mark::Period)?;
+        let topic = TopicSyntax {
+            name,
+            domains,
+            tables,
+        };
+        Ok((topic, next))
+    }
+
+    // The domains and the tables of a topic.
+    fn body(&self, at: usize) -> Result<(Vec<DomainSyntax>, Vec<TableSyntax>, usize), SyntaxFault>
+        requires { at ≤ length self.now.tokens.now }
+        ensures reads { IfOk result (λ p. IsBody 32 (domains_of p.0.items) (tables_of p.1.items) (rest self.now at) (rest self.now p.2)) }
+        ensures within { IfOk result (λ p. (at ≤ p.2) × (p.2 ≤ length self.now.tokens.now)) }
+    {
+        let mut domains = Vec::new(self.alloc);
+        let mut tables = Vec::new(self.alloc);
+        let mut first = at;
+        'body: loop {
+            if self.is_keyword(first, Keyword::Domain) {
+                let (more, next) = self.domains(first + 1)?;
+                keep_all(&mut domains, more)?;
+                first = next;
+                continue;
+            }
+            if !self.is_keyword(first, Keyword::Table)
+                && !self.is_keyword(first, Keyword::Optional)
+            {
+                return Ok((domains, tables, first));
+            }
+            let (table, next) = self.table(first)?;
+            keep(&mut tables, table)?;
+            first = next;
+        }
+    }
+
+    fn table(&self, at: usize) -> Result<(TableSyntax, usize), SyntaxFault>
+        requires { at ≤ length self.now.tokens.now }
+        ensures reads { IfOk result (λ p. ReadsTable (table_of p.0) (rest self.now at) (rest self.now p.1)) }
+        ensures within { IfOk result (λ p. (at < p.1) × (p.1 ≤ length self.now.tokens.now)) }
+    {
+        let (optional, next) = self.optional(at);
+        let (name, next) = self.heading(next, Keyword::Table)?;
+        let (attributes, next) = self.attributes(next, DEEPEST)?;
+        let (idents, next) = self.idents(next)?;
+        let next = self.ending(next, &name, Mark::Semicolon)?;
+        let table = TableSyntax {
+            name,
+            optional,
+            attributes,
+            idents,
+        };
+        Ok((table, next))
+    }
+
+    // A keyword, a name and `=`.
+    fn heading(&self, at: usize, keyword: Keyword) -> Result<(Ident, usize), SyntaxFault>
+        requires plain { IsTrue (is_plain (word (word_of keyword))) }
+        ensures reads { IfOk result (λ p. ReadsHeading (word_of keyword) (ident_of p.0) (rest self.now at) (rest self.now p.1)) }
+        ensures within { IfOk result (λ p. (at < p.1) × (p.1 ≤ length self.now.tokens.now)) }
+    {
+        let next = self.expect_keyword(at, keyword)?;
+        let (name, next) = self.ident(next)?;
+        let next = self.expect_mark(next, Mark::Equals)?;
+        Ok((name, next))
+    }
+
+    // END, the opened name, and a mark.
+    fn ending(&self, at: usize, name: &Ident, mark: Mark) -> Result<usize, SyntaxFault>
+        requires plain { IsTrue (is_plain (mark_of mark)) }
+        ensures reads { IfOk result (λ next. ReadsEnding (mark_of mark) (ident_of name.now) (rest self.now at) (rest self.now next)) }
+        ensures within { IfOk result (λ next. (at < next) × (next ≤ length self.now.tokens.now)) }
+    {
+        let next = self.expect_keyword(at, Keyword::End)?;
+        let next = self.end_name(next, name)?;
+        let next = self.expect_mark(next, mark)?;
+        Ok(next)
+    }
+
+    // The opened name.
+    fn end_name(&self, at: usize, name: &Ident) -> Result<usize, SyntaxFault>
+        ensures reads { IfOk result (λ next. ReadsEndName (ident_of name.now) (rest self.now at) (rest self.now next)) }
+        ensures within { IfOk result (λ next. (at < next) × (next ≤ length self.now.tokens.now)) }
+    {
+        if self.is(at, Kind::Name) {
+            let token = self.tokens[at];
+            if self.bytes(&token) == name.text.bytes() {
+                return Ok(at + 1);
+            }
+        }
+        Err(self.fault(at, Wanted::EndName))
+    }
+
+    fn font(&self, at: usize) -> Result<usize, SyntaxFault>
+        requires { at ≤ length self.now.tokens.now }
+        ensures reads { IfOk result (λ next. IsFont (rest self.now at) (rest self.now next)) }
+        ensures within { IfOk result (λ next. (at ≤ next) × (next ≤ length self.now.tokens.now)) }
+    {
+        if !self.is_keyword(at, Keyword::Font) {
+            return Ok(at);
+        }
+        let next = self.expect_mark(at + 1, Mark::Equals)?;
+        let next = self.expect(next, Kind::Explanation)?;
+        let next = self.expect_mark(next, Mark::Semicolon)?;
+        Ok(next)
+    }
+}

@@ -1,0 +1,29 @@
+// Reading a model.
+ghost use Rattle.std.specs.Prelude.{◌≡◌, ◌≤◌, length, IfOk};
+ghost use Rattle.ili_lexer.specs.Tokens.{AreTokens};
+ghost use Rattle.ili_grammar.specs.Models.{Spells};
+ghost use Rattle.ili_grammar.specs.Slices.{toks};
+ghost use Rattle.ili_grammar.specs.Values.{model_of};
+
+use super::source::{Source, Wanted};
+use super::syntax::{ModelSyntax, SyntaxFault};
+use ili_lexer::Token;
+use std::alloc::Global;
+
+/// Reads a model from the tokens of its text.
+pub fn parse(alloc: Global, text: &[u8], tokens: &[Token]) -> Result<ModelSyntax, SyntaxFault>
+    requires short { length text.now ≤ 4194304 }
+    requires tokens { AreTokens text.now tokens.now }
+    ensures spelt { IfOk result (λ model. Spells (model_of model) (toks text.now tokens.now)) }
+{
+    let source = Source {
+        alloc,
+        text,
+        tokens,
+    };
+    let (model, next) = source.transfer(0)?;
+    if next < tokens.len() {
+        return Err(source.fault(next, Wanted::Other));
+    }
+    Ok(model)
+}
