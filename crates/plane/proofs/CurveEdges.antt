@@ -64,7 +64,8 @@ common_from s t c d z hs ht Z both =
     let e = one_point p q (same_trans (point p) z (point q) Z (same_sym z (point p) zp) zq) in
     record { at = p; of_first = end_of_edge s c p hs of_c; of_second = end_of_edge t d p ht (subst (λ (r : Point). IsEndOf d r) (sym e) of_d); is = zp }
 
-controls_from : (s t : Edge) (c d : Curve) (z : Vector) → IsEdgeOf s c → IsEdgeOf t d → edges.CommonEnd s t z → IsControl c z × IsControl d z
+-- a common end of two edges is a control point of both straights
+pub controls_from : (s t : Edge) (c d : Curve) (z : Vector) → IsEdgeOf s c → IsEdgeOf t d → edges.CommonEnd s t z → IsControl c z × IsControl d z
 controls_from s t c d z hs ht e = (control_of c e.at z e.is (edge_end s c e.at hs e.of_first), control_of d e.at z e.is (edge_end t d e.at ht e.of_second))
 
 pub bad_edges_is : (s t : Edge) (c d : Curve) → IsEdgeOf s c → IsEdgeOf t d → c.kind ≡ kind.Straight → d.kind ≡ kind.Straight → edges.Bad s t ↔ StraightsMeet c d
