@@ -52,24 +52,10 @@ fn made(alloc: Global) -> Result<Vec<Certificate>, Memory> {
     Ok(all)
 }
 
-// The bytes of the file, none where there is none.
-fn file(alloc: Global, shelf: &mut RealShelf) -> Result<Vec<u8>, Memory> {
-    let mut piece = [0u8; 4096];
-    let mut bytes = Vec::new(alloc);
-    for _ in 0..100000 {
-        match shelf.read("certificate.txt", bytes.len() as u64, &mut piece) {
-            Ok(0) => break,
-            Ok(n) => bytes.extend_from_slice(&piece[..n])?,
-            Err(_) => break,
-        }
-    }
-    Ok(bytes)
-}
-
 fn main(rt: HostRuntime) {
     let alloc = rt.alloc();
     let mut shelf = RealShelf::new(rt);
-    let Ok(bytes) = file(alloc, &mut shelf) else {
+    let Ok(bytes) = whole_file(alloc, &mut shelf, "certificate.txt") else {
         return;
     };
     if bytes.is_empty() {
@@ -85,6 +71,7 @@ fn main(rt: HostRuntime) {
 }
 END
 sed -i "s/NUMBER/$edges/" "$work/crates/certificate_bench/src/main.rt"
+{ echo; sh "$top/bench/whole_file.sh"; } >> "$work/crates/certificate_bench/src/main.rt"
 cat > "$work/numbers.c" <<'END'
 #include <stdio.h>
 #include <stdlib.h>

@@ -22,28 +22,13 @@ cat > "$work/crates/models_bench/src/main.rt" <<'END'
 
 use ili_grammar::{SyntaxFault, parse};
 use ili_lexer::lex;
-use ports::{RealShelf, Shelf};
+use ports::{Memory, RealShelf, Shelf};
 use std::alloc::Global;
-use std::string::Memory;
-
-// The bytes of the file.
-fn file(alloc: Global, shelf: &mut RealShelf) -> Result<Vec<u8>, ports::Memory> {
-    let mut piece = [0u8; 4096];
-    let mut bytes = Vec::new(alloc);
-    for _ in 0..2000 {
-        match shelf.read("model.ili", bytes.len() as u64, &mut piece) {
-            Ok(0) => break,
-            Ok(n) => bytes.extend_from_slice(&piece[..n])?,
-            Err(_) => break,
-        }
-    }
-    Ok(bytes)
-}
 
 fn main(rt: HostRuntime) {
     let alloc = rt.alloc();
     let mut shelf = RealShelf::new(rt);
-    let Ok(text) = file(alloc, &mut shelf) else {
+    let Ok(text) = whole_file(alloc, &mut shelf, "model.ili") else {
         return;
     };
     if text.len() > 4194304 {
@@ -70,7 +55,7 @@ fn main(rt: HostRuntime) {
     }
 }
 END
-sed -i '/^use std::string::Memory;$/d' "$work/crates/models_bench/src/main.rt"
+{ echo; sh "$top/bench/whole_file.sh"; } >> "$work/crates/models_bench/src/main.rt"
 
 cd "$work/crates/models_bench"
 rt run > "$work/build.log" 2>&1 < /dev/null || { tail -40 "$work/build.log"; exit 1; }
