@@ -34,4 +34,5 @@ mod tokens;
 pub use keywords::Keyword;
 pub use laws::one_answer;
 pub use lexing::lex;
+pub use places::end_place;
 pub use tokens::{Kind, LexFault, Mark, Token};

@@ -1,6 +1,6 @@
 // Lines and columns.
 ghost use Rattle.std.specs.Prelude.{◌≡◌, ◌≤◌, length};
-ghost use Rattle.ili_lexer.specs.Places.{StandsAt};
+ghost use Rattle.ili_lexer.specs.Places.{StandsAt, line_after, column_after};
 
 /// A byte of a text, by its number from 0, its line and its column.
 #[derive(Clone, Copy)]
@@ -48,4 +48,15 @@ impl Place {
             column,
         }
     }
+}
+
+/// The line and the column behind the last byte of a text of at most 4,194,304 bytes: where a
+/// text that ends too soon is at fault.
+pub fn end_place(text: &[u8]) -> (u32, u32)
+    requires { length text.now ≤ 4194304 }
+    ensures line { result.0 ≡ line_after text.now }
+    ensures column { result.1 ≡ column_after text.now }
+{
+    let end = Place::start(text).moved_to(text, text.len());
+    (end.line, end.column)
 }

@@ -130,7 +130,7 @@ fn tokens_know_their_places(rt: HostRuntime) {
 
 #[test]
 fn the_first_fault_of_a_text_is_named(rt: HostRuntime) {
-    let rows: [(&[u8], LexFault); 18] = [
+    let rows: [(&[u8], LexFault); 20] = [
         (
             b"TRANSFER One;\n#MODEL M\n",
             LexFault::BadByte { line: 2, column: 1 },
@@ -139,6 +139,14 @@ fn the_first_fault_of_a_text_is_named(rt: HostRuntime) {
         (b"0x", LexFault::BadByte { line: 1, column: 1 }),
         (b"0xg", LexFault::BadByte { line: 1, column: 1 }),
         (b"a\x0cb", LexFault::BadByte { line: 1, column: 2 }),
+        (b"a\x0bb", LexFault::BadByte { line: 1, column: 2 }),
+        (
+            b"VIEW FIX #",
+            LexFault::BadByte {
+                line: 1,
+                column: 10,
+            },
+        ),
         (b"\x00", LexFault::BadByte { line: 1, column: 1 }),
         (b"a\xe4", LexFault::BadByte { line: 1, column: 2 }),
         (b"_a", LexFault::BadByte { line: 1, column: 1 }),

@@ -1,4 +1,6 @@
 // Tokens and the faults of a text.
+ghost use Rattle.std.specs.Prelude.{◌≡◌, ◌-◌, take, drop};
+
 use super::keywords::Keyword;
 use thiserror::Error;
 
@@ -45,6 +47,17 @@ pub struct Token {
     pub column: u32,
     pub from: u32,
     pub upto: u32,
+}
+
+impl Token {
+    /// The bytes of the token, in the text from which it was cut.
+    pub fn bytes<'a>(&self, text: &'a [u8]) -> &'a [u8]
+        ensures { result.now ≡ take (self.now.upto - self.now.from) (drop self.now.from text.now) }
+    {
+        let upto = (self.upto as usize).min(text.len());
+        let from = (self.from as usize).min(upto);
+        &text[from..upto]
+    }
 }
 
 /// Why a text has no list of tokens, with the line and the column of the first byte of what
