@@ -1,5 +1,5 @@
 -- The tokens of a text, one by one.
-use Rattle.std.proofs.Common.{◌≡◌, ℕ, zero, suc, ◌+◌, ◌<◌, ◌≤◌, List, [], ◌∷◌, length, drop, get_or, Option, Some, None, Bool, true, false, refl, sym, ap, ◌∙◌, subst, arith, add-one, ◌&&◌, ◌-◌, ◌==◌, cond, count_by, nat_le, nat_eq}
+use Rattle.std.proofs.Common.{◌≡◌, ℕ, zero, suc, ◌+◌, ◌<◌, ◌≤◌, List, [], ◌∷◌, length, drop, get_or, Option, Some, None, Bool, true, false, refl, sym, ap, ◌∙◌, subst, arith, add-one, ◌&&◌, ◌-◌, ◌==◌, cond, count_by, nat_le}
 use Rattle.std.proofs.lemmas.Bool.{and_parts, leb-true}
 use Rattle.std.specs.Char.{is_ascii_digit}
 use Rattle.ili_grammar.specs.Numbers.{is_short, decimals}
@@ -8,9 +8,11 @@ use Rattle.std.specs.Str.{bytes_eq}
 use Rattle.std.proofs.lemmas.Slice.Eq.{bytes_eq-Decides}
 use Rattle.ili_lexer.specs.declared.tokens.Kind as kind
 use Rattle.ili_lexer.specs.declared.tokens.Kind.TheVariants as kinds
+use Rattle.ili_lexer.specs.declared.tokens.Mark.TheVariants as marks
+use Rattle.ili_lexer.specs.declared.keywords.Keyword as keyword
 use Rattle.ili_grammar.specs.Tokens.{Kind}
 use Rattle.ili_grammar.specs.Kinds.{same_kind, Not, Off}
-use Rattle.ili_grammar.specs.Steps.{Leads, kind_at, leads_with, scales_here}
+use Rattle.ili_grammar.specs.Steps.{NoWord, Leads, kind_at, leads_with, scales_here}
 use Rattle.ili_grammar.specs.Codes.{begins_with_s}
 use Rattle.std.proofs.lemmas.Bool.Decides.{nat_tests}
 use Rattle.ili_grammar.proofs.SameKind.{same_is}
@@ -123,14 +125,6 @@ short_at text [] i h e = absurd (omega arith)
 short_at text (t ∷ ts) zero h e = (and_parts (is_short_token text t) (are_short text ts) e).0
 short_at text (t ∷ ts) (suc i) h e = short_at text ts i (omega arith) (and_parts (is_short_token text t) (are_short text ts) e).1
 
-decimals_at_most : (bs : List ℕ) → decimals bs ≤ length bs
-decimals_at_most [] = omega arith
-decimals_at_most (b ∷ bs) = of (nat_eq b 46) (decimals_at_most bs)
-  where
-    of : (t : Bool) → decimals bs ≤ length bs → cond t (length bs) (decimals bs) ≤ length (b ∷ bs)
-    of true h = omega arith
-    of false h = omega arith
-
 pub short_here : (text : List ℕ) (ts : List Token) (at : ℕ) (i : Info) (v : List Tok) → are_short text ts ≡ true → at < length ts → drop at (toks text ts) ≡ tok number i ∷ v
     → (count_by is_ascii_digit (bytes_of text (get_or ts at nothing)) ≤ 18) × (decimals (bytes_of text (get_or ts at nothing)) ≤ 20)
 short_here text ts at i v e h f =
@@ -140,9 +134,9 @@ short_here text ts at i v e h f =
     let b = bytes_of text t in
     let s = (and_parts (cond (same_kind number (kind_of t.kind)) (is_short b) true) (cond (same_kind hex (kind_of t.kind)) (nat_le (length b) 4) true) (short_at text ts at h e)).0 in
     let r = subst (λ (k : Kind). cond (same_kind number k) (is_short b) true ≡ true) q s in
-    let p = and_parts (nat_le (count_by is_ascii_digit b) 18) (nat_le (length b) 20) r in
-    let l = leb-true (length b) 20 p.1 in
-    (leb-true (count_by is_ascii_digit b) 18 p.0, omega (arith, l, decimals_at_most b))
+    let p = and_parts (nat_le (count_by is_ascii_digit b) 18) (nat_le (decimals b) 9) r in
+    let l = leb-true (decimals b) 9 p.1 in
+    (leb-true (count_by is_ascii_digit b) 18 p.0, omega (arith, l))
 
 pub hex_here : (text : List ℕ) (ts : List Token) (at : ℕ) (i : Info) (v : List Tok) → are_short text ts ≡ true → at < length ts → drop at (toks text ts) ≡ tok hex i ∷ v → length (bytes_of text (get_or ts at nothing)) ≤ 4
 hex_here text ts at i v e h f =
@@ -155,3 +149,30 @@ hex_here text ts at i v e h f =
 
 pub equal_bytes : (a b : List ℕ) → true ≡ bytes_eq a b → a ≡ b
 equal_bytes a b e = grind (arith, bytes_eq-Decides a b)
+
+-- ---- no keyword
+pub no_word_end : (text : List ℕ) (ts : List Token) (i : ℕ) → length ts ≤ i → NoWord (drop i (toks text ts))
+no_word_end text ts i h = subst NoWord (sym (none_left text ts i h)) tt
+
+no_word : (k : kind.Kind) (i : Info) (r : List Tok) → ((w : keyword.Keyword) → k ≡ kinds.Keyword w → ⊥) → NoWord (tok (kind_of k) i ∷ r)
+no_word kinds.Name i r n = tt
+no_word (kinds.Keyword k) i r n = absurd (n k refl)
+no_word kinds.Number i r n = tt
+no_word kinds.Hex i r n = tt
+no_word kinds.Explanation i r n = tt
+no_word (kinds.Mark marks.Semicolon) i r n = tt
+no_word (kinds.Mark marks.Colon) i r n = tt
+no_word (kinds.Mark marks.Comma) i r n = tt
+no_word (kinds.Mark marks.Equals) i r n = tt
+no_word (kinds.Mark marks.LeftParen) i r n = tt
+no_word (kinds.Mark marks.RightParen) i r n = tt
+no_word (kinds.Mark marks.LeftBracket) i r n = tt
+no_word (kinds.Mark marks.RightBracket) i r n = tt
+no_word (kinds.Mark marks.Star) i r n = tt
+no_word (kinds.Mark marks.Greater) i r n = tt
+no_word (kinds.Mark marks.Period) i r n = tt
+no_word (kinds.Mark marks.TwoPeriods) i r n = tt
+no_word (kinds.Mark marks.Arrow) i r n = tt
+
+pub no_word_at : (text : List ℕ) (ts : List Token) (i : ℕ) (d : Token) → i < length ts → ((w : keyword.Keyword) → (get_or ts i d).kind ≡ kinds.Keyword w → ⊥) → NoWord (drop i (toks text ts))
+no_word_at text ts i d h n = subst NoWord (sym (leads text ts i d h)) (no_word (get_or ts i d).kind (info_of text (before None ts i d) (get_or ts i d)) (drop (i + 1) (toks text ts)) n)

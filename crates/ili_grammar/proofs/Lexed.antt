@@ -1,5 +1,5 @@
 -- What is known of the tokens of a text: how many there are, and how long numbers are.
-use Rattle.std.proofs.Common.{◌≡◌, ℕ, ◌+◌, ◌-◌, ◌≤◌, List, [], ◌∷◌, ◌++◌, length, take, drop, Bool, true, false, cond, Option, Some, None, refl, sym, ap, ◌∙◌, subst, arith, codes, nat_eq, nat_lt, nat_le, count_by, length-take, take-add}
+use Rattle.std.proofs.Common.{◌≡◌, ℕ, suc, ◌+◌, ◌-◌, ◌≤◌, List, [], ◌∷◌, ◌++◌, length, take, drop, Bool, true, false, cond, Option, Some, None, refl, sym, ap, ◌∙◌, subst, arith, codes, nat_eq, nat_lt, nat_le, count_by, length-take, take-add}
 use Rattle.std.specs.Prelude.{◌||◌, if◌then◌else◌}
 use Rattle.std.specs.List.{prefix_len}
 use Rattle.std.specs.Option.{option_map_or}
@@ -22,7 +22,7 @@ use Rattle.ili_lexer.specs.Tokens.{Answer, tokens, fault, and_before, token_at, 
 use Rattle.ili_lexer.proofs.Orders.{in_order}
 use Rattle.ili_grammar.specs.Tokens as grammar
 use Rattle.ili_grammar.specs.Kinds.{same_kind}
-use Rattle.ili_grammar.specs.Numbers.{is_short}
+use Rattle.ili_grammar.specs.Numbers.{is_short, decimals, has}
 use Rattle.ili_grammar.specs.Slices.{kind_of, bytes_of, is_short_token, are_short}
 use Rattle.ili_grammar.proofs.SameKind.{same_is}
 use Rattle.ili_grammar.proofs.KindBack.{kinds_differ}
@@ -86,7 +86,7 @@ digits_at_most s w d t h g = go (nat_eq d 0) refl
 
 -- what a token says of its bytes
 abbrev IsShortKind : List ℕ → Kind → ℕ → Type 0
-IsShortKind t k n = (k ≡ kind.Number → (digits (take n t) ≤ 18) × (n ≤ 20)) × (k ≡ kind.Hex → n ≤ 4)
+IsShortKind t k n = (k ≡ kind.Number → (digits (take n t) ≤ 18) × (decimals (take n t) ≤ 9)) × (k ≡ kind.Hex → n ≤ 4)
 
 abbrev IsShortFront : List ℕ → Front → Type 0
 IsShortFront t (front.Token k n) = IsShortKind t k n
@@ -106,6 +106,73 @@ mark_short (b ∷ bs) =
     one None = tt
     one (Some m) = (λ q. absurd (cc), λ q. absurd (cc))
 
+-- ---- the full stop
+front_decimals : (x y : List ℕ) → has 46 x ≡ false → decimals (x ++ y) ≤ length y - 1
+front_decimals [] y h = few y
+  where
+    few : (y : List ℕ) → decimals y ≤ length y - 1
+    few [] = omega arith
+    few (b ∷ bs) = of (nat_eq b 46) (few bs)
+      where
+        of : (t : Bool) → decimals bs ≤ length bs - 1 → cond t (length bs) (decimals bs) ≤ length (b ∷ bs) - 1
+        of true h = omega arith
+        of false h = omega arith
+front_decimals (b ∷ x) y h = let p = or_parts (nat_eq b 46) (has 46 x) h in rw p.0 (front_decimals x y p.1)
+
+has_both : (x y : List ℕ) → has 46 x ≡ false → has 46 y ≡ false → has 46 (x ++ y) ≡ false
+has_both [] y h g = g
+has_both (b ∷ x) y h g = let p = or_parts (nat_eq b 46) (has 46 x) h in rw (p.0, has_both x y p.1 g) refl
+
+no_stop_in : (x : List ℕ) → has 46 (take (prefix_len is_ascii_digit x) x) ≡ false
+no_stop_in [] = refl
+no_stop_in (b ∷ x) = of (no_stop_in x) (is_ascii_digit b) refl
+  where
+    no_digit : (b : ℕ) → is_ascii_digit b ≡ true → nat_eq b 46 ≡ false
+    no_digit b e = grind (arith, nat_tests)
+
+    of : has 46 (take (prefix_len is_ascii_digit x) x) ≡ false → (t : Bool) → is_ascii_digit b ≡ t → has 46 (take (cond t (1 + prefix_len is_ascii_digit x) 0) (b ∷ x)) ≡ false
+    of h true e = let q : 1 + prefix_len is_ascii_digit x ≡ suc (prefix_len is_ascii_digit x) = omega arith in rw q (rw (no_digit b e, h) refl)
+    of h false e = refl
+
+one_stop : (x : List ℕ) (c : ℕ) → begins x (c ∷ []) ≡ true → nat_eq c 46 ≡ false → has 46 (take 1 x) ≡ false
+one_stop [] c h n = absurd (cc)
+one_stop (b ∷ x) c h n =
+    let e = eqb-true c b (and_parts (nat_eq c b) _ h).0 in
+    let m : nat_eq b 46 ≡ false = subst (λ (b : ℕ). nat_eq b 46 ≡ false) e n in
+    rw m refl
+
+no_stop_sign : (t : List ℕ) → has 46 (take (sign_length t) t) ≡ false
+no_stop_sign t = plus (begins t (codes "+")) refl
+  where
+    minus : (b : Bool) → begins t (codes "-") ≡ b → has 46 (take (if b then 1 else 0) t) ≡ false
+    minus true e = one_stop t 45 e refl
+    minus false e = refl
+
+    plus : (b : Bool) → begins t (codes "+") ≡ b → has 46 (take (if b || begins t (codes "-") then 1 else 0) t) ≡ false
+    plus true e = one_stop t 43 e refl
+    plus false e = minus (begins t (codes "-")) refl
+
+no_stop_front : (s w : ℕ) (t : List ℕ) → has 46 (take s t) ≡ false → has 46 (take w (drop s t)) ≡ false → has 46 (take (s + w) t) ≡ false
+no_stop_front s w t h g = subst (λ (x : List ℕ). has 46 x ≡ false) (sym (take-add s w t)) (has_both (take s t) (take w (drop s t)) h g)
+
+decimals_at_most : (s w d : ℕ) (t : List ℕ) → has 46 (take (s + w) t) ≡ false → d ≤ 9 → decimals (take (s + w + (if nat_eq d 0 then 0 else 1) + d) t) ≤ 9
+decimals_at_most s w d t h g = of (nat_eq d 0) refl
+  where
+    so_many : (n : ℕ) → n ≤ 10 → decimals (take ((s + w) + n) t) ≤ 9
+    so_many n k =
+        let e = ap decimals (take-add (s + w) n t) in
+        omega (arith, e, front_decimals (take (s + w) t) (take n (drop (s + w) t)) h, length-take n (drop (s + w) t), k)
+
+    of : (b : Bool) → nat_eq d 0 ≡ b → decimals (take (s + w + (if b then 0 else 1) + d) t) ≤ 9
+    of true e = subst (λ (n : ℕ). decimals (take n t) ≤ 9) (same 0) (so_many (0 + d) (omega (arith, g)))
+      where
+        same : (k : ℕ) → (s + w) + (k + d) ≡ s + w + k + d
+        same k = omega arith
+    of false e = subst (λ (n : ℕ). decimals (take n t) ≤ 9) (same 1) (so_many (1 + d) (omega (arith, g)))
+      where
+        same : (k : ℕ) → (s + w) + (k + d) ≡ s + w + k + d
+        same k = omega arith
+
 number_short : (t : List ℕ) → IsShortFront t (number_front t)
 number_short t =
     let s = sign_length t in
@@ -113,18 +180,12 @@ number_short t =
     let d = decimals_of (drop (s + w) t) in
     either (IsShortFront t) (nat_eq w 0) _ _ (λ e. mark_short t)
     (λ e. either (IsShortFront t) (nat_lt 9 d || nat_lt 18 (w + d)) _ _ (λ f. tt)
-    (λ f. go s w d (ltb-false 18 (w + d) (or_parts (nat_lt 9 d) (nat_lt 18 (w + d)) f).1) (sign_short (begins t (codes "+") || begins t (codes "-"))) (no_sign_digit t) (no_stop_digit (drop (s + w) t))))
+    (λ f.
+    let p = or_parts (nat_lt 9 d) (nat_lt 18 (w + d)) f in
+    go s w d (ltb-false 18 (w + d) p.1) (ltb-false 9 d p.0) (no_stop_front s w t (no_stop_sign t) (no_stop_in (drop s t))) (no_sign_digit t) (no_stop_digit (drop (s + w) t))))
   where
-    sign_short : (b : Bool) → (if b then 1 else 0) ≤ 1
-    sign_short true = omega arith
-    sign_short false = omega arith
-
-    go : (s w d : ℕ) → w + d ≤ 18 → s ≤ 1 → digits (take s t) ≡ 0 → ((d ≡ 0 → ⊥) → digits (take 1 (drop (s + w) t)) ≡ 0) → IsShortKind t kind.Number (s + w + (if nat_eq d 0 then 0 else 1) + d)
-    go s w d f g h i = (λ q. (omega (arith, f, digits_at_most s w d t h i), stop (nat_eq d 0)), λ q. absurd (cc))
-      where
-        stop : (b : Bool) → s + w + (if b then 0 else 1) + d ≤ 20
-        stop true = omega (arith, f, g)
-        stop false = omega (arith, f, g)
+    go : (s w d : ℕ) → w + d ≤ 18 → d ≤ 9 → has 46 (take (s + w) t) ≡ false → digits (take s t) ≡ 0 → ((d ≡ 0 → ⊥) → digits (take 1 (drop (s + w) t)) ≡ 0) → IsShortKind t kind.Number (s + w + (if nat_eq d 0 then 0 else 1) + d)
+    go s w d f g m h i = (λ q. (omega (arith, f, digits_at_most s w d t h i), decimals_at_most s w d t m g), λ q. absurd (cc))
 
 word_short : (t : List ℕ) → IsShortFront t (word_front t)
 word_short t = go (keyword_of (take (prefix_len is_name_byte t) t))
@@ -175,7 +236,7 @@ token_short text i n k h =
     number false q b f = refl
     number true q b f =
         let p = h.0 (kinds_differ k kind.Number (sym (same_is grammar.number (kind_of k) q))) in
-        subst (λ (b : List ℕ). is_short b ≡ true) (sym f) (both_true (le_true (digits (take n (drop i text))) 18 p.0) (le_true (length (take n (drop i text))) 20 (omega (arith, p.1, length-take n (drop i text)))))
+        subst (λ (b : List ℕ). is_short b ≡ true) (sym f) (both_true (le_true (digits (take n (drop i text))) 18 p.0) (le_true (decimals (take n (drop i text))) 9 p.1))
 
     hex : (t : Bool) → same_kind grammar.hex (kind_of k) ≡ t → (b : List ℕ) → b ≡ take n (drop i text) → cond t (nat_le (length b) 4) true ≡ true
     hex false q b f = refl

@@ -22,3 +22,10 @@ pub mod RulesRead
 pub mod Powers
 pub mod ModelsRead
 pub mod Lexed
+pub mod Follow
+pub mod Symbols
+pub mod FirstFault
+pub mod Stuck
+pub mod Names
+pub mod Small
+pub mod NoType

@@ -14,7 +14,8 @@ use Rattle.ili_grammar.specs.Kinds.{same_kind, Not, Off}
 use Rattle.ili_grammar.specs.Machine.{Sym, want, optional, step, at_limit}
 use Rattle.ili_grammar.specs.Run.{wants_free, wants_form, wants_end_name, wants_value}
 use Rattle.ili_grammar.specs.Slices.{toks}
-use Rattle.ili_grammar.specs.Wants.{code_of, symbol_of, is_too_deep}
+use Rattle.ili_grammar.specs.Codes.{code_of}
+use Rattle.ili_grammar.specs.Wants.{symbol_of, is_too_deep}
 use Rattle.ili_grammar.specs.Steps.{Refuses, IsFaultAt, code_here, is_plain}
 use Rattle.ili_grammar.proofs.Leads.{nothing, leads, none_left}
 
@@ -43,13 +44,13 @@ abbrev pub Stuck : Sym → wanted.Wanted → List Tok → Type 0
 Stuck x d [] = Unit {0}
 Stuck x d (tok k i ∷ r) = (step x (tok k i) ≡ None) × (at_limit x k ≡ is_too_deep d)
 
-pub stops : (all w : List Tok) (x : Sym) (d : wanted.Wanted) (f : fault.SyntaxFault) → AsksFor x d → Stuck x d w → IsFaultAt all w d f → Refuses all w x f
-stops all [] x d (faults.At c None) a h e s stack = e
-stops all [] x d (faults.At c (Some n)) a h e s stack = absurd e
-stops all [] x d faults.Memory a h e s stack = absurd e
-stops all (tok k i ∷ r) x d (faults.At c None) a h e s stack = absurd e
-stops all (tok k i ∷ r) x d (faults.At c (Some n)) a h e s stack = rw (h.0, a.must, a.free, a.form, a.end_name, a.value, h.1, or-false) e
-stops all (tok k i ∷ r) x d faults.Memory a h e s stack = absurd e
+pub stops : (all w : List Tok) (x : Sym) (d : wanted.Wanted) (f : fault.SyntaxFault) → AsksFor x d → Stuck x d w → IsFaultAt all w d f → Refuses all w (x ∷ []) f
+stops all [] x d (faults.At c None) a h e = record { told = λ stack. e }
+stops all [] x d (faults.At c (Some n)) a h e = absurd e
+stops all [] x d faults.Memory a h e = absurd e
+stops all (tok k i ∷ r) x d (faults.At c None) a h e = absurd e
+stops all (tok k i ∷ r) x d (faults.At c (Some n)) a h e = record { told = λ stack. rw (h.0, a.must, a.free, a.form, a.end_name, a.value, h.1, or-false) e }
+stops all (tok k i ∷ r) x d faults.Memory a h e = absurd e
 
 -- a single token that must come
 pub wants_plain : (k : Kind) → is_plain k ≡ true → AsksFor (want k) wants.Other
@@ -63,7 +64,7 @@ wants_plain k h =
     not_true true h = sym h
     not_true false h = refl
 
-off : (b : Bool) → Off b → b ≡ false
+pub off : (b : Bool) → Off b → b ≡ false
 off true h = absurd h
 off false h = refl
 
@@ -72,10 +73,10 @@ pub stuck_want : (k : Kind) (w : List Tok) → Not k w → Stuck (want k) wants.
 stuck_want k [] n = tt
 stuck_want k (tok h i ∷ r) n = (rw (off (same_kind k h) n) refl, refl)
 
-pub stops_want : (all w : List Tok) (k : Kind) (f : fault.SyntaxFault) → is_plain k ≡ true → Not k w → IsFaultAt all w wants.Other f → Refuses all w (want k) f
+pub stops_want : (all w : List Tok) (k : Kind) (f : fault.SyntaxFault) → is_plain k ≡ true → Not k w → IsFaultAt all w wants.Other f → Refuses all w (want k ∷ []) f
 stops_want all w k f h n e = stops all w (want k) wants.Other f (wants_plain k h) (stuck_want k w n) e
 
-pub stops_free : (all w : List Tok) (f : fault.SyntaxFault) → Not (word FREE) w → IsFaultAt all w wants.Free f → Refuses all w (want (word FREE)) f
+pub stops_free : (all w : List Tok) (f : fault.SyntaxFault) → Not (word FREE) w → IsFaultAt all w wants.Free f → Refuses all w (want (word FREE) ∷ []) f
 stops_free all w f n e = stops all w (want (word FREE)) wants.Free f (record { must = refl; free = refl; form = refl; end_name = refl; value = refl }) (stuck w n) e
   where
     stuck : (w : List Tok) → Not (word FREE) w → Stuck (want (word FREE)) wants.Free w

@@ -13,3 +13,4 @@ pub mod Values
 pub mod Wants
 pub mod Steps
 pub mod Parts
+pub mod Limits

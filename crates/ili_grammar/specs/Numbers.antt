@@ -50,6 +50,6 @@ ident i = record { text = i.text; line = i.line; column = i.column }
 abbrev pub decimal : Info → Decimal
 decimal i = record { digits = signed i.text; scale = decimals i.text; line = i.line; column = i.column }
 
--- at most 18 digits, and at most 20 bytes
+-- at most 18 digits, and at most 9 behind the full stop
 abbrev pub is_short : List ℕ → Bool
-is_short bs = nat_le (count_by is_ascii_digit bs) 18 && nat_le (length bs) 20
+is_short bs = nat_le (count_by is_ascii_digit bs) 18 && nat_le (decimals bs) 9

@@ -103,7 +103,7 @@ toks_behind text p (t ∷ ts) = tok (kind_of t.kind) (info_of text p t) ∷ toks
 unfoldable pub toks : List ℕ → List Token → List Tok
 toks text ts = toks_behind text None ts
 
--- a number has few digits, a Hex has at most 4 bytes
+-- a number has at most 18 digits and at most 9 behind its full stop, a Hex has at most 4 bytes
 abbrev pub is_short_token : List ℕ → Token → Bool
 is_short_token text t =
     cond (same_kind number (kind_of t.kind)) (is_short (bytes_of text t)) true

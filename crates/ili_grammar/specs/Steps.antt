@@ -1,17 +1,19 @@
 -- Words for the contracts of the reader.
-use Rattle.std.specs.Prelude.{◌≡◌, ℕ, List, [], ◌∷◌, drop, Bool, false, Option, Some, None, ⊤, ◌&&◌, ◌||◌, not, cond}
+use Rattle.std.specs.Prelude.{◌≡◌, ℕ, List, [], ◌∷◌, ◌++◌, drop, Bool, true, false, Option, Some, None, ⊤, ◌&&◌, ◌||◌, not, cond}
 use Rattle.ili_grammar.specs.declared.source.Source.{Source}
 use Rattle.ili_grammar.specs.declared.source.Wanted as wanted
-use Rattle.ili_grammar.specs.Wants.{code_of, symbol_of, is_too_deep}
+use Rattle.ili_grammar.specs.Wants.{symbol_of, is_too_deep}
 use Rattle.ili_grammar.specs.declared.syntax.SyntaxFault as fault
 use Rattle.ili_grammar.specs.declared.syntax.SyntaxFault.TheVariants as faults
 use Rattle.ili_grammar.specs.Tokens.{Kind, name, number, hex, word, VIEW, DERIVATIVES, FIX, FREE, STRAIGHTS, DEFAULT, Info, Tok, tok}
 use Rattle.ili_grammar.specs.Kinds.{same_kind}
 use Rattle.ili_grammar.specs.Syntax.{Ident, Decimal, Elements, an_element}
 use Rattle.ili_grammar.specs.Types.{IsElement}
-use Rattle.ili_grammar.specs.Numbers.{ident, decimal}
-use Rattle.ili_grammar.specs.Codes.{Code, Expected, EndName, FixFormat, Views, LineForm, Scaling, Codes, Deep, begins_with_s}
-use Rattle.ili_grammar.specs.Machine.{Sym, elements, maybe_parts, more_parts}
+use Rattle.ili_grammar.specs.Numbers.{ident, decimal, whole_code, hex_code}
+use Rattle.ili_grammar.specs.Codes.{Code, Expected, EndName, FixFormat, Views, LineForm, Scaling, Codes, Deep, begins_with_s, code_of}
+use Rattle.ili_grammar.specs.Machine.{Sym, blank_value, undefined_value, continue_value}
+use Rattle.ili_lexer.specs.declared.keywords.Keyword as keyword
+use Rattle.ili_lexer.specs.declared.keywords.Keyword.TheVariants as keywords
 use Rattle.ili_grammar.specs.Run.{wants_free, wants_form, wants_end_name, wants_value, Outcome, short, stopped, run}
 use Rattle.ili_grammar.specs.Slices.{toks}
 
@@ -48,13 +50,56 @@ IsToldBy all short (faults.At c None) = code_of c ≡ Expected
 IsToldBy all (stopped e v) (faults.At c (Some k)) = (code_of c ≡ e) × (v ≡ drop k all)
 IsToldBy all _ (faults.At c t) = ⊥
 
--- whatever comes behind this symbol, the machine stops as the fault tells
-abbrev pub Refuses : List Tok → List Tok → Sym → fault.SyntaxFault → Type 0
-Refuses all w x f = (s : Sym) (stack : List Sym) → IsToldBy all (run w (x ∷ s ∷ stack)) f
+-- whatever comes behind these symbols, the machine stops as the fault tells
+pub record Refuses (all w : List Tok) (new : List Sym) (f : fault.SyntaxFault) : Type 0 where
+  pub told : (stack : List Sym) → IsToldBy all (run w (new ++ stack)) f
 
--- whatever comes behind this symbol, the machine goes on from the one list to the other
-abbrev pub RunsOn : Sym → List Tok → List Tok → Type 0
-RunsOn x w v = (s : Sym) (stack : List Sym) → run w (x ∷ s ∷ stack) ≡ run v (s ∷ stack)
+-- something is left to come
+abbrev pub Left : List Sym → Type 0
+Left [] = ⊥
+Left (s ∷ stack) = Unit {0}
+
+-- from the one list and these symbols the machine goes on to the other list and those, where something is left to come
+pub record Goes (w : List Tok) (new : List Sym) (v : List Tok) (left : List Sym) : Type 0 where
+  pub by : (stack : List Sym) → Left (left ++ stack) → run w (new ++ stack) ≡ run v (left ++ stack)
+
+-- the list behind a first token of this kind
+abbrev pub past : Kind → List Tok → List Tok
+past k [] = []
+past k (tok h i ∷ r) = cond (same_kind k h) r (tok h i ∷ r)
+
+-- the bytes of the second token
+abbrev pub second : List Tok → List ℕ
+second [] = []
+second (t ∷ []) = []
+second (t ∷ tok k i ∷ r) = i.text
+
+-- the first token is no keyword
+abbrev pub NoWord : List Tok → Type 0
+NoWord [] = Unit {0}
+NoWord (tok (word k) i ∷ r) = ⊥
+NoWord (tok _ i ∷ r) = Unit {0}
+
+-- the byte that the first token stands for as a value with this default
+abbrev pub value_here : ℕ → List Tok → Option ℕ
+value_here d [] = None
+value_here d (tok k i ∷ r) = cond (same_kind (word DEFAULT) k) (Some d) (cond (same_kind number k) (whole_code i.text) (cond (same_kind hex k) (hex_code i.text) None))
+
+-- a symbol for a value: its default, and the bytes that it may not stand for
+pub data TakesValue : ℕ → List ℕ → Sym → Type 0 where
+  for_blank : TakesValue 95 [] blank_value
+  for_undefined : (b : ℕ) → TakesValue 64 (b ∷ []) (undefined_value b)
+  for_continue : (b u : ℕ) → TakesValue 92 (b ∷ u ∷ []) (continue_value b u)
+
+-- a type that begins with this keyword is no type of numbers
+abbrev pub is_unnumbered : keyword.Keyword → Bool
+is_unnumbered keywords.Date = true
+is_unnumbered keywords.Halignment = true
+is_unnumbered keywords.Valignment = true
+is_unnumbered keywords.Polyline = true
+is_unnumbered keywords.Surface = true
+is_unnumbered keywords.Area = true
+is_unnumbered _ = false
 
 -- the first token begins with S and stands directly after a number
 abbrev pub scales_here : List Tok → Bool
@@ -87,12 +132,3 @@ is_plain k = not (same_kind k (word FREE) || (same_kind k (word STRAIGHTS) || sa
 -- behind a name: the parts of its element
 abbrev pub ReadsParts : ℕ → Elements → List Tok → List Tok → Type 0
 ReadsParts d es w r = (n : Info) → IsElement d (an_element (ident n) es) (tok name n ∷ w) r
-
-abbrev pub RunsElement : ℕ → List Tok → List Tok → Type 0
-RunsElement d w v = (stack : List Sym) → run w (elements d ∷ stack) ≡ run v (more_parts d ∷ stack)
-
-abbrev pub RunsParts : ℕ → List Tok → List Tok → Type 0
-RunsParts d w v = (stack : List Sym) → run w (maybe_parts d ∷ more_parts d ∷ stack) ≡ run v (more_parts d ∷ stack)
-
-abbrev pub RefusesParts : List Tok → List Tok → ℕ → fault.SyntaxFault → Type 0
-RefusesParts all w d f = (stack : List Sym) → IsToldBy all (run w (maybe_parts d ∷ more_parts d ∷ stack)) f

@@ -2,9 +2,6 @@
 use Rattle.std.specs.Prelude.{[], Bool, true, false}
 use Rattle.ili_grammar.specs.declared.source.Wanted.{Wanted}
 use Rattle.ili_grammar.specs.declared.source.Wanted.TheVariants as wants
-use Rattle.ili_grammar.specs.declared.syntax.SyntaxCode.TheVariants as codes
-use Rattle.ili_grammar.specs.declared.syntax.SyntaxCode as code
-use Rattle.ili_grammar.specs.Codes.{Code, Expected, EndName, FixFormat, Views, LineForm, Scaling, Codes, Deep}
 use Rattle.ili_grammar.specs.Tokens.{word, FREE, semicolon}
 use Rattle.ili_grammar.specs.Machine.{Sym, want, the_name, forms, blank_value}
 
@@ -20,14 +17,3 @@ symbol_of wants.Other = want semicolon
 abbrev pub is_too_deep : Wanted → Bool
 is_too_deep wants.Shallower = true
 is_too_deep _ = false
-
--- the codes of the grammar
-abbrev pub code_of : code.SyntaxCode → Code
-code_of codes.Expected = Expected
-code_of codes.EndName = EndName
-code_of codes.FixFormat = FixFormat
-code_of codes.Views = Views
-code_of codes.LineForm = LineForm
-code_of codes.Scaling = Scaling
-code_of codes.Codes = Codes
-code_of codes.Deep = Deep

@@ -1,8 +1,9 @@
 // Enumerations.
-ghost use Rattle.std.specs.Prelude.{◌≡◌, ◌<◌, ◌≤◌, length, IfOk};
+ghost use Rattle.std.specs.Prelude.{◌≡◌, ◌<◌, ◌≤◌, ◌∷◌, [], length, IfOk, IfErr};
 ghost use Rattle.ili_grammar.specs.Types.{IsElements, IsElement};
 ghost use Rattle.ili_grammar.specs.Values.{element_of, elements_of};
-ghost use Rattle.ili_grammar.specs.Steps.{rest, ReadsParts};
+ghost use Rattle.ili_grammar.specs.Steps.{all, rest, ReadsParts, Refuses, Goes};
+ghost use Rattle.ili_grammar.specs.Machine.{elements, more_parts, maybe_parts};
 
 use super::source::{Source, Wanted, keep};
 use super::syntax::{Element, SyntaxFault};
@@ -15,6 +16,8 @@ impl Source<'_> {
         requires { at ≤ length self.now.tokens.now }
         ensures reads { IfOk result (λ p. IsElements depth (elements_of p.0.items) (rest self.now at) (rest self.now p.1)) }
         ensures within { IfOk result (λ p. (at < p.1) × (p.1 ≤ length self.now.tokens.now)) }
+        ensures runs { IfOk result (λ p. Goes (rest self.now at) (elements depth ∷ []) (rest self.now p.1) []) }
+        ensures stops { IfErr result (λ fault. Refuses (all self.now) (rest self.now at) (elements depth ∷ []) fault) }
     {
         let mut elements = Vec::new(self.alloc);
         let mut first = at;
@@ -35,6 +38,8 @@ impl Source<'_> {
         requires { at ≤ length self.now.tokens.now }
         ensures reads { IfOk result (λ p. IsElement depth (element_of p.0) (rest self.now at) (rest self.now p.1)) }
         ensures within { IfOk result (λ p. (at < p.1) × (p.1 ≤ length self.now.tokens.now)) }
+        ensures runs { IfOk result (λ p. Goes (rest self.now at) (elements depth ∷ []) (rest self.now p.1) (more_parts depth ∷ [])) }
+        ensures stops { IfErr result (λ fault. Refuses (all self.now) (rest self.now at) (elements depth ∷ []) fault) }
     {
         let (name, next) = self.ident(at)?;
         let (parts, next) = self.parts(next, depth)?;
@@ -47,6 +52,8 @@ impl Source<'_> {
         requires { at ≤ length self.now.tokens.now }
         ensures reads { IfOk result (λ p. ReadsParts depth (elements_of p.0.items) (rest self.now at) (rest self.now p.1)) }
         ensures within { IfOk result (λ p. (at ≤ p.1) × (p.1 ≤ length self.now.tokens.now)) }
+        ensures runs { IfOk result (λ p. Goes (rest self.now at) (maybe_parts depth ∷ []) (rest self.now p.1) []) }
+        ensures stops { IfErr result (λ fault. Refuses (all self.now) (rest self.now at) (maybe_parts depth ∷ []) fault) }
     {
         if !self.is_mark(at, Mark::LeftParen) {
             return Ok((Vec::new(self.alloc), at));

@@ -10,11 +10,13 @@
 //!   of the syntax, by a grammar that is a relation on whole lists of tokens (`Spells`), with
 //!   the bytes and places of names and the values of numbers. At most one syntax is spelt by a
 //!   list of tokens (`one_model`).
-//! - **What is tested and not yet proved.** The token and the code of a fault, and that a model
-//!   is never refused. Of the grammar alone it is proved that a machine with a stack stops
-//!   exactly at the first token after which no model can follow, with the first code that fits.
+//! - **Faults.** A fault is the first token with which the tokens begin no model, or the end of
+//!   the text, with the first code that fits (`IsFirstFault`). Tokens that spell a model are
+//!   refused only for want of memory. No tokens have two faults, or a fault and a model
+//!   (`one_fault`).
 //! - **What the next layer may use.** The syntax as it is written, in the order of the text. Its
-//!   twin without memory is `model_of`.
+//!   twin without memory is `model_of`. Numbers, the count of names and the three codes keep the
+//!   limits of `IsWithinLimits`.
 //! - **Not here:** what names mean, whether bounds are in order, and which types may stand where.
 //!   OPTIONAL before a topic, explanations, FONT and the form of identifications leave no mark.
 //! - **Degenerate cases:** a topic without tables and a table without attributes are good. A
@@ -38,7 +40,7 @@ mod syntax;
 mod tests;
 mod types;
 
-pub use laws::one_model;
+pub use laws::{one_fault, one_model};
 pub use parsing::parse;
 pub use syntax::{
     AttributeSyntax, Codes, Content, Corners2, Corners3, Decimal, DomainSyntax, Element, Ident,

@@ -1,10 +1,11 @@
 // Lines and IDENT lists.
-ghost use Rattle.std.specs.Prelude.{◌≡◌, ◌<◌, ◌≤◌, length, cond, IfOk};
+ghost use Rattle.std.specs.Prelude.{◌≡◌, ◌<◌, ◌≤◌, ◌∷◌, [], length, cond, IfOk, IfErr};
 ghost use Rattle.std.specs.Option.{option_map};
 ghost use Rattle.ili_grammar.specs.Types.{IsForms, IsBase, IsOverlap, IsLine, IsList, IsIdents, IsMaybeIdents};
-ghost use Rattle.ili_grammar.specs.Tokens.{word, STRAIGHTS, ARCS};
+ghost use Rattle.ili_grammar.specs.Tokens.{word, STRAIGHTS, ARCS, semicolon};
 ghost use Rattle.ili_grammar.specs.Values.{decimal_of, names_of, lists_of};
-ghost use Rattle.ili_grammar.specs.Steps.{rest, Leads};
+ghost use Rattle.ili_grammar.specs.Steps.{all, rest, Leads, Refuses, Goes};
+ghost use Rattle.ili_grammar.specs.Machine.{want, the_line, forms, more_forms, maybe_base, maybe_overlap, maybe_idents, idents, lists, name_list};
 ghost use Rattle.ili_grammar.specs.Parts.{head_of, ReadsLists, ReadsEndedList};
 
 use super::source::{Source, Wanted, keep};
@@ -25,6 +26,8 @@ impl Source<'_> {
         requires { at ≤ length self.now.tokens.now }
         ensures reads { IfOk result (λ p. IsLine (head_of p.0) (rest self.now at) (rest self.now p.1)) }
         ensures within { IfOk result (λ p. (at < p.1) × (p.1 ≤ length self.now.tokens.now)) }
+        ensures runs { IfOk result (λ p. Goes (rest self.now at) (the_line ∷ []) (rest self.now p.1) []) }
+        ensures stops { IfErr result (λ fault. Refuses (all self.now) (rest self.now at) (the_line ∷ []) fault) }
     {
         let next = self.expect_keyword(at, Keyword::With)?;
         let next = self.expect_mark(next, Mark::LeftParen)?;
@@ -47,6 +50,8 @@ impl Source<'_> {
         requires { at ≤ length self.now.tokens.now }
         ensures reads { IfOk result (λ p. IsForms p.0 p.1 (rest self.now at) (rest self.now p.2)) }
         ensures within { IfOk result (λ p. (at < p.2) × (p.2 ≤ length self.now.tokens.now)) }
+        ensures runs { IfOk result (λ p. Goes (rest self.now at) (forms ∷ []) (rest self.now p.2) []) }
+        ensures stops { IfErr result (λ fault. Refuses (all self.now) (rest self.now at) (forms ∷ []) fault) }
     {
         let mut straights = false;
         let mut arcs = false;
@@ -67,6 +72,8 @@ impl Source<'_> {
     fn form(&self, at: usize) -> Result<(bool, usize), SyntaxFault>
         ensures reads { IfOk result (λ p. Leads (cond p.0 (word ARCS) (word STRAIGHTS)) (rest self.now at) (rest self.now p.1)) }
         ensures within { IfOk result (λ p. (at < p.1) × (p.1 ≤ length self.now.tokens.now)) }
+        ensures runs { IfOk result (λ p. Goes (rest self.now at) (forms ∷ []) (rest self.now p.1) (more_forms ∷ [])) }
+        ensures stops { IfErr result (λ fault. Refuses (all self.now) (rest self.now at) (forms ∷ []) fault) }
     {
         if self.is_keyword(at, Keyword::Straights) {
             return Ok((false, at + 1));
@@ -81,6 +88,8 @@ impl Source<'_> {
         requires { at ≤ length self.now.tokens.now }
         ensures reads { IfOk result (λ next. IsBase (rest self.now at) (rest self.now next)) }
         ensures within { IfOk result (λ next. (at ≤ next) × (next ≤ length self.now.tokens.now)) }
+        ensures runs { IfOk result (λ next. Goes (rest self.now at) (maybe_base ∷ []) (rest self.now next) []) }
+        ensures stops { IfErr result (λ fault. Refuses (all self.now) (rest self.now at) (maybe_base ∷ []) fault) }
     {
         if !self.is_keyword(at, Keyword::Base) {
             return Ok(at);
@@ -93,6 +102,8 @@ impl Source<'_> {
         requires { at ≤ length self.now.tokens.now }
         ensures reads { IfOk result (λ p. IsOverlap (option_map decimal_of p.0) (rest self.now at) (rest self.now p.1)) }
         ensures within { IfOk result (λ p. (at ≤ p.1) × (p.1 ≤ length self.now.tokens.now)) }
+        ensures runs { IfOk result (λ p. Goes (rest self.now at) (maybe_overlap ∷ []) (rest self.now p.1) []) }
+        ensures stops { IfErr result (λ fault. Refuses (all self.now) (rest self.now at) (maybe_overlap ∷ []) fault) }
     {
         if !self.is_keyword(at, Keyword::Without) {
             return Ok((None, at));
@@ -108,6 +119,8 @@ impl Source<'_> {
         requires { at ≤ length self.now.tokens.now }
         ensures reads { IfOk result (λ p. IsMaybeIdents (lists_of p.0.items) (rest self.now at) (rest self.now p.1)) }
         ensures within { IfOk result (λ p. (at ≤ p.1) × (p.1 ≤ length self.now.tokens.now)) }
+        ensures runs { IfOk result (λ p. Goes (rest self.now at) (maybe_idents ∷ []) (rest self.now p.1) []) }
+        ensures stops { IfErr result (λ fault. Refuses (all self.now) (rest self.now at) (maybe_idents ∷ []) fault) }
     {
         if self.is_keyword(at, Keyword::No) || self.is_keyword(at, Keyword::Ident) {
             let (lists, next) = self.idents(at)?;
@@ -121,6 +134,8 @@ impl Source<'_> {
         requires { at ≤ length self.now.tokens.now }
         ensures reads { IfOk result (λ p. IsIdents (lists_of p.0.items) (rest self.now at) (rest self.now p.1)) }
         ensures within { IfOk result (λ p. (at < p.1) × (p.1 ≤ length self.now.tokens.now)) }
+        ensures runs { IfOk result (λ p. Goes (rest self.now at) (idents ∷ []) (rest self.now p.1) []) }
+        ensures stops { IfErr result (λ fault. Refuses (all self.now) (rest self.now at) (idents ∷ []) fault) }
     {
         if self.is_keyword(at, Keyword::No) {
             let next = self.expect_keyword(at + 1, Keyword::Ident)?;
@@ -136,6 +151,8 @@ impl Source<'_> {
         requires { at ≤ length self.now.tokens.now }
         ensures reads { IfOk result (λ p. ReadsLists (lists_of p.0.items) (rest self.now at) (rest self.now p.1)) }
         ensures within { IfOk result (λ p. (at < p.1) × (p.1 ≤ length self.now.tokens.now)) }
+        ensures runs { IfOk result (λ p. Goes (rest self.now at) (name_list ∷ want semicolon ∷ lists ∷ []) (rest self.now p.1) []) }
+        ensures stops { IfErr result (λ fault. Refuses (all self.now) (rest self.now at) (name_list ∷ want semicolon ∷ lists ∷ []) fault) }
     {
         let mut lists = Vec::new(self.alloc);
         let (list, next) = self.ended_list(at)?;
@@ -154,6 +171,8 @@ impl Source<'_> {
         requires { at ≤ length self.now.tokens.now }
         ensures reads { IfOk result (λ p. ReadsEndedList (names_of p.0) (rest self.now at) (rest self.now p.1)) }
         ensures within { IfOk result (λ p. (at < p.1) × (p.1 ≤ length self.now.tokens.now)) }
+        ensures runs { IfOk result (λ p. Goes (rest self.now at) (name_list ∷ want semicolon ∷ []) (rest self.now p.1) []) }
+        ensures stops { IfErr result (λ fault. Refuses (all self.now) (rest self.now at) (name_list ∷ want semicolon ∷ []) fault) }
     {
         let (list, next) = self.name_list(at)?;
         let next = self.expect_mark(next, Mark::Semicolon)?;
@@ -164,6 +183,8 @@ impl Source<'_> {
         requires { at ≤ length self.now.tokens.now }
         ensures reads { IfOk result (λ p. IsList (names_of p.0) (rest self.now at) (rest self.now p.1)) }
         ensures within { IfOk result (λ p. (at < p.1) × (p.1 ≤ length self.now.tokens.now)) }
+        ensures runs { IfOk result (λ p. Goes (rest self.now at) (name_list ∷ []) (rest self.now p.1) []) }
+        ensures stops { IfErr result (λ fault. Refuses (all self.now) (rest self.now at) (name_list ∷ []) fault) }
     {
         let mut names = Vec::new(self.alloc);
         let mut first = at;

@@ -1,10 +1,11 @@
 // Domains, tables, topics and whole models.
-ghost use Rattle.std.specs.Prelude.{◌≡◌, ◌<◌, ◌≤◌, length, IfOk, IsTrue};
+ghost use Rattle.std.specs.Prelude.{◌≡◌, ◌<◌, ◌≤◌, ◌∷◌, [], length, IfOk, IfErr, IsTrue};
 ghost use Rattle.ili_grammar.specs.Models.{IsDomains, IsMaybeDomains, IsTable, IsBody, IsTopics, IsModel, IsFont, IsTransfer};
 ghost use Rattle.ili_grammar.specs.Slices.{word_of, mark_of};
 ghost use Rattle.ili_grammar.specs.Values.{ident_of, domain_of, domains_of, table_of, tables_of, topic_of, topics_of, model_of};
-ghost use Rattle.ili_grammar.specs.Steps.{rest, is_plain};
-ghost use Rattle.ili_grammar.specs.Tokens.{word};
+ghost use Rattle.ili_grammar.specs.Steps.{all, rest, is_plain, Refuses, Goes, past};
+ghost use Rattle.ili_grammar.specs.Machine.{want, the_name, start, the_model, topics, the_topic, body, the_table, items, maybe_domains, a_type, maybe_explanation, maybe_font};
+ghost use Rattle.ili_grammar.specs.Tokens.{word, name as a_name, equals, semicolon, OPTIONAL, END};
 ghost use Rattle.ili_grammar.specs.Parts.{ReadsDomain, ReadsTable, ReadsTopic, ReadsHeading, ReadsEnding, ReadsEndName};
 
 use super::source::{DEEPEST, Source, Wanted, keep, keep_all};
@@ -16,6 +17,7 @@ impl Source<'_> {
         requires { at ≤ length self.now.tokens.now }
         ensures reads { IfOk result (λ p. IsTransfer 32 (model_of p.0) (rest self.now at) (rest self.now p.1)) }
         ensures within { IfOk result (λ p. p.1 ≤ length self.now.tokens.now) }
+        ensures stops { IfErr result (λ fault. Refuses (all self.now) (rest self.now at) (start 32 ∷ []) fault) }
     {
         let next = self.expect_keyword(at, Keyword::Transfer)?;
         let (transfer, next) = self.ident(next)?;
@@ -46,6 +48,8 @@ impl Source<'_> {
         requires { at ≤ length self.now.tokens.now }
         ensures reads { IfOk result (λ p. IsModel 32 (ident_of p.0) (domains_of p.1.items) (topics_of p.2.items) (rest self.now at) (rest self.now p.3)) }
         ensures within { IfOk result (λ p. p.3 ≤ length self.now.tokens.now) }
+        ensures runs { IfOk result (λ p. Goes (rest self.now at) (the_model 32 ∷ []) (rest self.now p.3) []) }
+        ensures stops { IfErr result (λ fault. Refuses (all self.now) (rest self.now at) (the_model 32 ∷ []) fault) }
     {
         let next = self.expect_keyword(at, Keyword::Model)?;
         let (model, next) = self.ident(next)?;
@@ -60,6 +64,8 @@ impl Source<'_> {
         requires { at ≤ length self.now.tokens.now }
         ensures reads { IfOk result (λ p. IsMaybeDomains 32 (domains_of p.0.items) (rest self.now at) (rest self.now p.1)) }
         ensures within { IfOk result (λ p. (at ≤ p.1) × (p.1 ≤ length self.now.tokens.now)) }
+        ensures runs { IfOk result (λ p. Goes (rest self.now at) (maybe_domains 32 ∷ []) (rest self.now p.1) []) }
+        ensures stops { IfErr result (λ fault. Refuses (all self.now) (rest self.now at) (maybe_domains 32 ∷ []) fault) }
     {
         if !self.is_keyword(at, Keyword::Domain) {
             return Ok((Vec::new(self.alloc), at));
@@ -73,6 +79,8 @@ impl Source<'_> {
         requires { at ≤ length self.now.tokens.now }
         ensures reads { IfOk result (λ p. IsDomains 32 (domains_of p.0.items) (rest self.now at) (rest self.now p.1)) }
         ensures within { IfOk result (λ p. (at ≤ p.1) × (p.1 ≤ length self.now.tokens.now)) }
+        ensures runs { IfOk result (λ p. Goes (rest self.now at) (items 32 ∷ []) (rest self.now p.1) []) }
+        ensures stops { IfErr result (λ fault. Refuses (all self.now) (rest self.now at) (items 32 ∷ []) fault) }
     {
         let mut domains = Vec::new(self.alloc);
         let mut first = at;
@@ -88,6 +96,8 @@ impl Source<'_> {
         requires { at ≤ length self.now.tokens.now }
         ensures reads { IfOk result (λ p. ReadsDomain (domain_of p.0) (rest self.now at) (rest self.now p.1)) }
         ensures within { IfOk result (λ p. (at < p.1) × (p.1 ≤ length self.now.tokens.now)) }
+        ensures runs { IfOk result (λ p. Goes (rest self.now at) (want a_name ∷ want equals ∷ a_type 32 ∷ maybe_explanation ∷ want semicolon ∷ []) (rest self.now p.1) []) }
+        ensures stops { IfErr result (λ fault. Refuses (all self.now) (rest self.now at) (want a_name ∷ want equals ∷ a_type 32 ∷ maybe_explanation ∷ want semicolon ∷ []) fault) }
     {
         let (name, next) = self.ident(at)?;
         let next = self.expect_mark(next, Mark::Equals)?;
@@ -101,6 +111,8 @@ impl Source<'_> {
         requires { at ≤ length self.now.tokens.now }
         ensures reads { IfOk result (λ p. IsTopics 32 (topics_of p.0.items) (rest self.now at) (rest self.now p.1)) }
         ensures within { IfOk result (λ p. (at ≤ p.1) × (p.1 ≤ length self.now.tokens.now)) }
+        ensures runs { IfOk result (λ p. Goes (rest self.now at) (topics 32 ∷ []) (rest self.now p.1) []) }
+        ensures stops { IfErr result (λ fault. Refuses (all self.now) (rest self.now at) (topics 32 ∷ []) fault) }
     {
         let mut topics = Vec::new(self.alloc);
         let mut first = at;
@@ -118,6 +130,8 @@ impl Source<'_> {
         requires { at ≤ length self.now.tokens.now }
         ensures reads { IfOk result (λ p. ReadsTopic (topic_of p.0) (rest self.now at) (rest self.now p.1)) }
         ensures within { IfOk result (λ p. (at < p.1) × (p.1 ≤ length self.now.tokens.now)) }
+        ensures runs { IfOk result (λ p. Goes (past (word OPTIONAL) (rest self.now at)) (the_topic 32 ∷ []) (rest self.now p.1) []) }
+        ensures stops { IfErr result (λ fault. Refuses (all self.now) (past (word OPTIONAL) (rest self.now at)) (the_topic 32 ∷ []) fault) }
     {
         let (_, next) = self.optional(at);
         let (name, next) = self.heading(next, Keyword::Topic)?;
@@ -136,6 +150,8 @@ impl Source<'_> {
         requires { at ≤ length self.now.tokens.now }
         ensures reads { IfOk result (λ p. IsBody 32 (domains_of p.0.items) (tables_of p.1.items) (rest self.now at) (rest self.now p.2)) }
         ensures within { IfOk result (λ p. (at ≤ p.2) × (p.2 ≤ length self.now.tokens.now)) }
+        ensures runs { IfOk result (λ p. Goes (rest self.now at) (body 32 ∷ []) (rest self.now p.2) []) }
+        ensures stops { IfErr result (λ fault. Refuses (all self.now) (rest self.now at) (body 32 ∷ []) fault) }
     {
         let mut domains = Vec::new(self.alloc);
         let mut tables = Vec::new(self.alloc);
@@ -162,6 +178,8 @@ impl Source<'_> {
         requires { at ≤ length self.now.tokens.now }
         ensures reads { IfOk result (λ p. ReadsTable (table_of p.0) (rest self.now at) (rest self.now p.1)) }
         ensures within { IfOk result (λ p. (at < p.1) × (p.1 ≤ length self.now.tokens.now)) }
+        ensures runs { IfOk result (λ p. Goes (past (word OPTIONAL) (rest self.now at)) (the_table 32 ∷ []) (rest self.now p.1) []) }
+        ensures stops { IfErr result (λ fault. Refuses (all self.now) (past (word OPTIONAL) (rest self.now at)) (the_table 32 ∷ []) fault) }
     {
         let (optional, next) = self.optional(at);
         let (name, next) = self.heading(next, Keyword::Table)?;
@@ -182,6 +200,8 @@ impl Source<'_> {
         requires plain { IsTrue (is_plain (word (word_of keyword))) }
         ensures reads { IfOk result (λ p. ReadsHeading (word_of keyword) (ident_of p.0) (rest self.now at) (rest self.now p.1)) }
         ensures within { IfOk result (λ p. (at < p.1) × (p.1 ≤ length self.now.tokens.now)) }
+        ensures runs { IfOk result (λ p. Goes (rest self.now at) (want (word (word_of keyword)) ∷ want a_name ∷ want equals ∷ []) (rest self.now p.1) []) }
+        ensures stops { IfErr result (λ fault. Refuses (all self.now) (rest self.now at) (want (word (word_of keyword)) ∷ want a_name ∷ want equals ∷ []) fault) }
     {
         let next = self.expect_keyword(at, keyword)?;
         let (name, next) = self.ident(next)?;
@@ -194,6 +214,8 @@ impl Source<'_> {
         requires plain { IsTrue (is_plain (mark_of mark)) }
         ensures reads { IfOk result (λ next. ReadsEnding (mark_of mark) (ident_of name.now) (rest self.now at) (rest self.now next)) }
         ensures within { IfOk result (λ next. (at < next) × (next ≤ length self.now.tokens.now)) }
+        ensures runs { IfOk result (λ next. Goes (rest self.now at) (want (word END) ∷ the_name (ident_of name.now).text ∷ want (mark_of mark) ∷ []) (rest self.now next) []) }
+        ensures stops { IfErr result (λ fault. Refuses (all self.now) (rest self.now at) (want (word END) ∷ the_name (ident_of name.now).text ∷ want (mark_of mark) ∷ []) fault) }
     {
         let next = self.expect_keyword(at, Keyword::End)?;
         let next = self.end_name(next, name)?;
@@ -205,6 +227,8 @@ impl Source<'_> {
     fn end_name(&self, at: usize, name: &Ident) -> Result<usize, SyntaxFault>
         ensures reads { IfOk result (λ next. ReadsEndName (ident_of name.now) (rest self.now at) (rest self.now next)) }
         ensures within { IfOk result (λ next. (at < next) × (next ≤ length self.now.tokens.now)) }
+        ensures runs { IfOk result (λ next. Goes (rest self.now at) (the_name (ident_of name.now).text ∷ []) (rest self.now next) []) }
+        ensures stops { IfErr result (λ fault. Refuses (all self.now) (rest self.now at) (the_name (ident_of name.now).text ∷ []) fault) }
     {
         if self.is(at, Kind::Name) {
             let token = self.tokens[at];
@@ -219,6 +243,8 @@ impl Source<'_> {
         requires { at ≤ length self.now.tokens.now }
         ensures reads { IfOk result (λ next. IsFont (rest self.now at) (rest self.now next)) }
         ensures within { IfOk result (λ next. (at ≤ next) × (next ≤ length self.now.tokens.now)) }
+        ensures runs { IfOk result (λ next. Goes (rest self.now at) (maybe_font ∷ []) (rest self.now next) []) }
+        ensures stops { IfErr result (λ fault. Refuses (all self.now) (rest self.now at) (maybe_font ∷ []) fault) }
     {
         if !self.is_keyword(at, Keyword::Font) {
             return Ok(at);

@@ -1,7 +1,8 @@
 // The tokens of a text, and single steps of reading them.
-ghost use Rattle.std.specs.Prelude.{◌≡◌, ◌≤◌, ◌++◌, ◌∷◌, [], length, Some, OnOk, IsTrue};
+ghost use Rattle.std.specs.Prelude.{◌≡◌, ◌≤◌, ◌++◌, ◌∷◌, [], length, Some, OnOk, IfErr, IsTrue};
 ghost use Rattle.ili_grammar.specs.Slices.{kind_of, are_short};
-ghost use Rattle.ili_grammar.specs.Wants.{code_of, symbol_of, is_too_deep};
+ghost use Rattle.ili_grammar.specs.Codes.{code_of};
+ghost use Rattle.ili_grammar.specs.Wants.{symbol_of, is_too_deep};
 
 use super::decimals::{decimals_of, digits_of};
 use super::syntax::{Decimal, Ident, SyntaxCode, SyntaxFault};
@@ -37,7 +38,8 @@ pub const DEEPEST: u32 = 32;
 
 /// Adds items to a list.
 pub fn keep_all<T: Drop>(items: &mut Vec<T>, more: Vec<T>) -> Result<(), SyntaxFault>
-    ensures { OnOk result (items.new.items ≡ items.old.items ++ more.items) }
+    ensures added { OnOk result (items.new.items ≡ items.old.items ++ more.items) }
+    ensures memory { IfErr result (λ fault. fault ≡ SyntaxFault.Memory) }
 {
     let mut more = more;
     match items.append(&mut more) {
@@ -48,7 +50,8 @@ pub fn keep_all<T: Drop>(items: &mut Vec<T>, more: Vec<T>) -> Result<(), SyntaxF
 
 /// Adds an item to a list.
 pub fn keep<T: Drop>(items: &mut Vec<T>, item: T) -> Result<(), SyntaxFault>
-    ensures { OnOk result (items.new.items ≡ items.old.items ++ item ∷ []) }
+    ensures added { OnOk result (items.new.items ≡ items.old.items ++ item ∷ []) }
+    ensures memory { IfErr result (λ fault. fault ≡ SyntaxFault.Memory) }
 {
     match items.push(item) {
         Ok(()) => Ok(()),
@@ -91,15 +94,15 @@ impl Wanted {
 }
 
 impl<'a> Source<'a> {
-    ghost use Rattle.std.specs.Prelude.{◌+◌, ◌-◌, ◌<◌, take, drop, IfOk, IfErr, IfSome, MatchBool, ⊤};
+    ghost use Rattle.std.specs.Prelude.{◌+◌, ◌-◌, ◌<◌, ℕ, take, drop, IfOk, IfSome, None, MatchBool, ⊤};
     ghost use Rattle.std.specs.Option.{option_map};
     ghost use Rattle.ili_grammar.specs.Kinds.{Not};
-    ghost use Rattle.ili_grammar.specs.Machine.{want};
+    ghost use Rattle.ili_grammar.specs.Machine.{want, maybe_explanation, first_content, content};
     ghost use Rattle.ili_grammar.specs.Tokens.{name, number, word, FREE, OPTIONAL};
     ghost use Rattle.ili_grammar.specs.Types.{IsExplained};
     ghost use Rattle.ili_grammar.specs.Slices.{bytes_of, word_of};
     ghost use Rattle.ili_grammar.specs.Values.{ident_of, decimal_of};
-    ghost use Rattle.ili_grammar.specs.Steps.{all, rest, Leads, LeadsName, LeadsNumber, kind_at, leads_with, code_here, scales_here, is_plain, Refuses, IsFaultAt};
+    ghost use Rattle.ili_grammar.specs.Steps.{all, rest, Leads, LeadsName, LeadsNumber, kind_at, leads_with, code_here, scales_here, is_plain, Refuses, Goes, past, NoWord, IsFaultAt};
 
     /// The kind of a token, if there is one.
     pub fn kind(&self, at: usize) -> Option<Kind>
@@ -142,6 +145,7 @@ impl<'a> Source<'a> {
     pub fn keyword(&self, at: usize) -> Option<Keyword>
         ensures here { IfSome result (λ keyword. Leads (word (word_of keyword)) (rest self.now at) (rest self.now (at + 1))) }
         ensures within { IfSome result (λ keyword. at < length self.now.tokens.now) }
+        ensures none { result ≡ None → NoWord (rest self.now at) }
     {
         if at < self.tokens.len() {
             if let Kind::Keyword(keyword) = self.tokens[at].kind {
@@ -156,6 +160,8 @@ impl<'a> Source<'a> {
         requires { at ≤ length self.now.tokens.now }
         ensures here { MatchBool result.0 (Leads (word OPTIONAL) (rest self.now at) (rest self.now result.1)) (result.1 ≡ at) }
         ensures within { (at ≤ result.1) × (result.1 ≤ length self.now.tokens.now) }
+        ensures past { rest self.now result.1 ≡ past (word OPTIONAL) (rest self.now at) }
+        ensures content { (d : ℕ) → Goes (rest self.now at) (first_content d ∷ []) (rest self.now result.1) (content d ∷ []) }
     {
         if self.is_keyword(at, Keyword::Optional) {
             return (true, at + 1);
@@ -168,6 +174,7 @@ impl<'a> Source<'a> {
         requires { at ≤ length self.now.tokens.now }
         ensures reads { IsExplained (rest self.now at) (rest self.now result) }
         ensures within { (at ≤ result) × (result ≤ length self.now.tokens.now) }
+        ensures runs { Goes (rest self.now at) (maybe_explanation ∷ []) (rest self.now result) [] }
     {
         if self.is(at, Kind::Explanation) {
             return at + 1;
@@ -179,9 +186,7 @@ impl<'a> Source<'a> {
     pub fn bytes(&self, token: &Token) -> &'a [u8]
         ensures { result.now ≡ bytes_of self.now.text.now token.now }
     {
-        let upto = (token.upto as usize).min(self.text.len());
-        let from = (token.from as usize).min(upto);
-        &self.text[from..upto]
+        token.bytes(self.text)
     }
 
     /// Passes over a token of this kind.
@@ -189,7 +194,8 @@ impl<'a> Source<'a> {
         requires { IsTrue (is_plain (kind_of kind)) }
         ensures reads { IfOk result (λ next. Leads (kind_of kind) (rest self.now at) (rest self.now next)) }
         ensures within { IfOk result (λ next. (next ≡ at + 1) × (at < length self.now.tokens.now)) }
-        ensures stops { IfErr result (λ fault. Refuses (all self.now) (rest self.now at) (want (kind_of kind)) fault) }
+        ensures stops { IfErr result (λ fault. Refuses (all self.now) (rest self.now at) (want (kind_of kind) ∷ []) fault) }
+        ensures runs { IfOk result (λ next. Goes (rest self.now at) (want (kind_of kind) ∷ []) (rest self.now next) []) }
     {
         if self.is(at, kind) {
             return Ok(at + 1);
@@ -200,7 +206,8 @@ impl<'a> Source<'a> {
     pub fn expect_free(&self, at: usize) -> Result<usize, SyntaxFault>
         ensures reads { IfOk result (λ next. Leads (word FREE) (rest self.now at) (rest self.now next)) }
         ensures within { IfOk result (λ next. (next ≡ at + 1) × (at < length self.now.tokens.now)) }
-        ensures stops { IfErr result (λ fault. Refuses (all self.now) (rest self.now at) (want (word FREE)) fault) }
+        ensures stops { IfErr result (λ fault. Refuses (all self.now) (rest self.now at) (want (word FREE) ∷ []) fault) }
+        ensures runs { IfOk result (λ next. Goes (rest self.now at) (want (word FREE) ∷ []) (rest self.now next) []) }
     {
         if self.is_keyword(at, Keyword::Free) {
             return Ok(at + 1);
@@ -212,7 +219,8 @@ impl<'a> Source<'a> {
         requires { IsTrue (is_plain (kind_of (Kind.Keyword keyword))) }
         ensures reads { IfOk result (λ next. Leads (kind_of (Kind.Keyword keyword)) (rest self.now at) (rest self.now next)) }
         ensures within { IfOk result (λ next. (next ≡ at + 1) × (at < length self.now.tokens.now)) }
-        ensures stops { IfErr result (λ fault. Refuses (all self.now) (rest self.now at) (want (kind_of (Kind.Keyword keyword))) fault) }
+        ensures stops { IfErr result (λ fault. Refuses (all self.now) (rest self.now at) (want (kind_of (Kind.Keyword keyword)) ∷ []) fault) }
+        ensures runs { IfOk result (λ next. Goes (rest self.now at) (want (kind_of (Kind.Keyword keyword)) ∷ []) (rest self.now next) []) }
     {
         self.expect(at, Kind::Keyword(keyword))
     }
@@ -221,7 +229,8 @@ impl<'a> Source<'a> {
         requires { IsTrue (is_plain (kind_of (Kind.Mark mark))) }
         ensures reads { IfOk result (λ next. Leads (kind_of (Kind.Mark mark)) (rest self.now at) (rest self.now next)) }
         ensures within { IfOk result (λ next. (next ≡ at + 1) × (at < length self.now.tokens.now)) }
-        ensures stops { IfErr result (λ fault. Refuses (all self.now) (rest self.now at) (want (kind_of (Kind.Mark mark))) fault) }
+        ensures stops { IfErr result (λ fault. Refuses (all self.now) (rest self.now at) (want (kind_of (Kind.Mark mark)) ∷ []) fault) }
+        ensures runs { IfOk result (λ next. Goes (rest self.now at) (want (kind_of (Kind.Mark mark)) ∷ []) (rest self.now next) []) }
     {
         self.expect(at, Kind::Mark(mark))
     }
@@ -230,7 +239,8 @@ impl<'a> Source<'a> {
     pub fn ident(&self, at: usize) -> Result<(Ident, usize), SyntaxFault>
         ensures reads { IfOk result (λ p. LeadsName (ident_of p.0) (rest self.now at) (rest self.now p.1)) }
         ensures within { IfOk result (λ p. (p.1 ≡ at + 1) × (at < length self.now.tokens.now)) }
-        ensures stops { IfErr result (λ fault. Refuses (all self.now) (rest self.now at) (want name) fault) }
+        ensures stops { IfErr result (λ fault. Refuses (all self.now) (rest self.now at) (want name ∷ []) fault) }
+        ensures runs { IfOk result (λ p. Goes (rest self.now at) (want name ∷ []) (rest self.now p.1) []) }
     {
         let next = self.expect(at, Kind::Name)?;
         let token = self.tokens[at];
@@ -251,7 +261,8 @@ impl<'a> Source<'a> {
     pub fn decimal(&self, at: usize) -> Result<(Decimal, usize), SyntaxFault>
         ensures reads { IfOk result (λ p. LeadsNumber (decimal_of p.0) (rest self.now at) (rest self.now p.1)) }
         ensures within { IfOk result (λ p. (p.1 ≡ at + 1) × (at < length self.now.tokens.now)) }
-        ensures stops { IfErr result (λ fault. Refuses (all self.now) (rest self.now at) (want number) fault) }
+        ensures stops { IfErr result (λ fault. Refuses (all self.now) (rest self.now at) (want number ∷ []) fault) }
+        ensures runs { IfOk result (λ p. Goes (rest self.now at) (want number ∷ []) (rest self.now p.1) []) }
     {
         let next = self.expect(at, Kind::Number)?;
         let token = self.tokens[at];

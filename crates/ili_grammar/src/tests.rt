@@ -137,6 +137,11 @@ fn codes_are_told_apart(rt: HostRuntime) {
             "CODE BLANK = 33, UNDEFINED = 34, CONTINUE = 33",
             Some((SyntaxCode::Codes, 8, 45)),
         ),
+        (
+            8,
+            "CODE BLANK = 92, UNDEFINED = 64, CONTINUE = DEFAULT",
+            Some((SyntaxCode::Codes, 8, 45)),
+        ),
         (7, "FORMAT FIX1;", Some((SyntaxCode::Expected, 7, 8))),
         (7, "FIX FORMAT FREE;", Some((SyntaxCode::Expected, 7, 1))),
         (6, "END M. DERIVATIVES", Some((SyntaxCode::Views, 6, 8))),
@@ -173,6 +178,22 @@ fn codes_are_told_apart(rt: HostRuntime) {
             4,
             "OPTIONAL TABLE A = IDENT A B",
             Some((SyntaxCode::Expected, 4, 28)),
+        ),
+        (4, "TABLE A = N: [0X1", Some((SyntaxCode::Expected, 4, 16))),
+        (
+            4,
+            "TABLE A = N: TEXT*12.0; M: TEXT*+3; NO IDENT END A;",
+            None,
+        ),
+        (
+            4,
+            "TABLE A = N: (a(a(a(a(a(a(a(a(a(a(a(a(a(a(a(a(a(a(a(a(a(a(a(a(a(a(a(a(a(a(a((",
+            Some((SyntaxCode::Expected, 4, 77)),
+        ),
+        (
+            4,
+            "TABLE A = N: POLYLINE WITH (VIEW",
+            Some((SyntaxCode::Views, 4, 29)),
         ),
         (
             8,

@@ -1,10 +1,11 @@
 // Types and attributes.
-ghost use Rattle.std.specs.Prelude.{◌≡◌, ◌+◌, ◌<◌, ◌≤◌, length, IfOk};
+ghost use Rattle.std.specs.Prelude.{◌≡◌, ◌+◌, ◌<◌, ◌≤◌, ◌∷◌, [], false, length, IfOk, IfErr};
 ghost use Rattle.ili_grammar.specs.Types.{IsType, IsAttributes, IsAttribute, IsContent};
-ghost use Rattle.ili_grammar.specs.Tokens.{word};
+ghost use Rattle.ili_grammar.specs.Tokens.{word, name, colon, semicolon};
 ghost use Rattle.ili_grammar.specs.Slices.{word_of};
 ghost use Rattle.ili_grammar.specs.Values.{type_of, line_of, attribute_of, attributes_of, content_of, lists_of};
-ghost use Rattle.ili_grammar.specs.Steps.{rest, Leads};
+ghost use Rattle.ili_grammar.specs.Steps.{all, rest, Leads, Refuses, Goes, is_unnumbered};
+ghost use Rattle.ili_grammar.specs.Machine.{want, a_type, the_line, maybe_line_attributes, attributes, first_content, maybe_explanation, content};
 ghost use Rattle.ili_grammar.specs.Parts.{ReadsLine, head_of};
 ghost use Rattle.ili_grammar.specs.Syntax.{a_line};
 
@@ -19,6 +20,8 @@ impl Source<'_> {
         requires { at ≤ length self.now.tokens.now }
         ensures reads { IfOk result (λ p. IsType depth (type_of p.0) (rest self.now at) (rest self.now p.1)) }
         ensures within { IfOk result (λ p. (at < p.1) × (p.1 ≤ length self.now.tokens.now)) }
+        ensures runs { IfOk result (λ p. Goes (rest self.now at) (a_type depth ∷ []) (rest self.now p.1) []) }
+        ensures stops { IfErr result (λ fault. Refuses (all self.now) (rest self.now at) (a_type depth ∷ []) fault) }
     {
         if self.is(at, Kind::Name) {
             let (name, next) = self.ident(at)?;
@@ -56,6 +59,8 @@ impl Source<'_> {
         requires begun { Leads (word (word_of keyword)) (rest self.now at) (rest self.now (at + 1)) }
         ensures reads { IfOk result (λ p. IsType depth (type_of p.0) (rest self.now at) (rest self.now p.1)) }
         ensures within { IfOk result (λ p. (at < p.1) × (p.1 ≤ length self.now.tokens.now)) }
+        ensures runs { IfOk result (λ p. Goes (rest self.now at) (a_type depth ∷ []) (rest self.now p.1) []) }
+        ensures stops { IfErr result (λ fault. Refuses (all self.now) (rest self.now at) (a_type depth ∷ []) fault) }
     {
         match keyword {
             Keyword::Date => Ok((TypeSyntax::Date, at + 1)),
@@ -90,8 +95,11 @@ impl Source<'_> {
     ) -> Result<(TypeSyntax, usize), SyntaxFault>
         requires within { at < length self.now.tokens.now }
         requires begun { Leads (word (word_of keyword)) (rest self.now at) (rest self.now (at + 1)) }
+        requires numbered { is_unnumbered keyword ≡ false }
         ensures reads { IfOk result (λ p. IsType depth (type_of p.0) (rest self.now at) (rest self.now p.1)) }
         ensures within { IfOk result (λ p. (at < p.1) × (p.1 ≤ length self.now.tokens.now)) }
+        ensures runs { IfOk result (λ p. Goes (rest self.now at) (a_type depth ∷ []) (rest self.now p.1) []) }
+        ensures stops { IfErr result (λ fault. Refuses (all self.now) (rest self.now at) (a_type depth ∷ []) fault) }
     {
         match keyword {
             Keyword::Text => {
@@ -136,6 +144,8 @@ impl Source<'_> {
         requires { at ≤ length self.now.tokens.now }
         ensures reads { IfOk result (λ p. ReadsLine depth (line_of p.0) (rest self.now at) (rest self.now p.1)) }
         ensures within { IfOk result (λ p. (at < p.1) × (p.1 ≤ length self.now.tokens.now)) }
+        ensures runs { IfOk result (λ p. Goes (rest self.now at) (the_line ∷ maybe_line_attributes depth ∷ []) (rest self.now p.1) []) }
+        ensures stops { IfErr result (λ fault. Refuses (all self.now) (rest self.now at) (the_line ∷ maybe_line_attributes depth ∷ []) fault) }
     {
         let (head, next) = self.line(at)?;
         if !self.is_keyword(next, Keyword::Lineattr) {
@@ -161,6 +171,8 @@ impl Source<'_> {
         requires { at ≤ length self.now.tokens.now }
         ensures reads { IfOk result (λ p. IsAttributes depth (attributes_of p.0.items) (rest self.now at) (rest self.now p.1)) }
         ensures within { IfOk result (λ p. (at ≤ p.1) × (p.1 ≤ length self.now.tokens.now)) }
+        ensures runs { IfOk result (λ p. Goes (rest self.now at) (attributes depth ∷ []) (rest self.now p.1) []) }
+        ensures stops { IfErr result (λ fault. Refuses (all self.now) (rest self.now at) (attributes depth ∷ []) fault) }
     {
         let mut attributes = Vec::new(self.alloc);
         let mut first = at;
@@ -177,6 +189,8 @@ impl Source<'_> {
         requires { at ≤ length self.now.tokens.now }
         ensures reads { IfOk result (λ p. IsAttribute depth (attribute_of p.0) (rest self.now at) (rest self.now p.1)) }
         ensures within { IfOk result (λ p. (at < p.1) × (p.1 ≤ length self.now.tokens.now)) }
+        ensures runs { IfOk result (λ p. Goes (rest self.now at) (want name ∷ want colon ∷ first_content depth ∷ maybe_explanation ∷ want semicolon ∷ []) (rest self.now p.1) []) }
+        ensures stops { IfErr result (λ fault. Refuses (all self.now) (rest self.now at) (want name ∷ want colon ∷ first_content depth ∷ maybe_explanation ∷ want semicolon ∷ []) fault) }
     {
         let (name, next) = self.ident(at)?;
         let next = self.expect_mark(next, Mark::Colon)?;
@@ -197,6 +211,8 @@ impl Source<'_> {
         requires { at ≤ length self.now.tokens.now }
         ensures reads { IfOk result (λ p. IsContent depth (content_of p.0) (rest self.now at) (rest self.now p.1)) }
         ensures within { IfOk result (λ p. (at < p.1) × (p.1 ≤ length self.now.tokens.now)) }
+        ensures runs { IfOk result (λ p. Goes (rest self.now at) (content depth ∷ []) (rest self.now p.1) []) }
+        ensures stops { IfErr result (λ fault. Refuses (all self.now) (rest self.now at) (content depth ∷ []) fault) }
     {
         if self.is_mark(at, Mark::Arrow) {
             let (name, next) = self.ident(at + 1)?;

@@ -1,5 +1,6 @@
-use Rattle.std.proofs.Common.{◌+◌, ◌-◌, ◌*◌, ◌≤◌, length, map}
-use Rattle.ili_grammar.specs.Steps.{rest}
+use Rattle.ili_grammar.specs.Machine.{attributes}
+use Rattle.std.proofs.Common.{[], ◌∷◌, ◌+◌, ◌-◌, ◌*◌, ◌≤◌, length, map}
+use Rattle.ili_grammar.specs.Steps.{rest, Goes}
 use Rattle.ili_grammar.specs.Values.{attribute_of}
 use Rattle.ili_grammar.proofs.RulesRead.{AttributesFrom}
 use Rattle.ili_grammar.proofs.source.Source.+types.Given as goal
@@ -27,6 +28,7 @@ invariant-attributes-attributes l = record {
   further : l.fn.at ≤ l.first;
   within : l.first ≤ length l.self.tokens.now;
   reads : AttributesFrom l.depth (map attribute_of l.attributes.items) (rest l.self l.fn.at) (rest l.self l.first);
+  runs : Goes (rest l.self l.fn.at) (attributes l.depth ∷ []) (rest l.self l.first) (attributes l.depth ∷ []);
 }
 
 abbrev pub decreases-attributes-attributes : goal.decreases-attributes-attributes

@@ -1,5 +1,7 @@
-use Rattle.std.proofs.Common.{◌-◌, ◌<◌, ◌≤◌, length}
-use Rattle.ili_grammar.specs.Steps.{rest}
+use Rattle.ili_grammar.specs.Machine.{lists, name_list, want}
+use Rattle.ili_grammar.specs.Tokens.{semicolon}
+use Rattle.std.proofs.Common.{[], ◌∷◌, ◌-◌, ◌<◌, ◌≤◌, length}
+use Rattle.ili_grammar.specs.Steps.{rest, Goes}
 use Rattle.ili_grammar.specs.Values.{lists_of}
 use Rattle.ili_grammar.proofs.RulesRead.{ListsFrom}
 use Rattle.ili_grammar.proofs.source.Source.lists.Given as goal
@@ -9,6 +11,7 @@ invariant-lists l = record {
   further : l.fn.at < l.first;
   within : l.first ≤ length l.self.tokens.now;
   reads : ListsFrom (lists_of l.lists.items) (rest l.self l.fn.at) (rest l.self l.first);
+  runs : Goes (rest l.self l.fn.at) (name_list ∷ want semicolon ∷ lists ∷ []) (rest l.self l.first) (lists ∷ []);
 }
 
 abbrev pub decreases-lists : goal.decreases-lists
