@@ -1,8 +1,10 @@
+pub mod ColumnLemmas
 pub mod CommandLemmas
 pub mod EntryLemmas
+pub mod FewColumns
 pub mod LineLemmas
-pub mod ModelLemmas
-pub mod ModelParts
+pub mod Choices
+pub mod ModelTextLemmas
 pub mod ObjectLemmas
 pub mod OneOutcome
 pub mod OutcomeLemmas

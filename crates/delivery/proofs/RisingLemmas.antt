@@ -13,8 +13,8 @@ use Rattle.delivery.specs.Views.{words_of, words_in, AreKept, IsKept}
 use Rattle.delivery.specs.declared.distinct.Distinct.{Distinct}
 use Rattle.delivery.specs.declared.distinct.Words.{Words}
 use Rattle.delivery.specs.declared.distinct.Words.TheVariants.{Rising, Kept}
-use Rattle.delivery.proofs.ModelLemmas.{same_word}
-use Rattle.delivery.proofs.ModelParts.{all_at}
+use Rattle.delivery.proofs.Choices.{same_word}
+use Rattle.delivery.proofs.Choices.{all_at}
 
 word_cmp_total : IsTotalOrder word_cmp
 word_cmp_total = then_total (on_total length nat_cmp_total) nat_list_cmp_total

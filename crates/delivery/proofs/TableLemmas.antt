@@ -11,7 +11,7 @@ use Rattle.delivery.specs.Lines.{Record, Entry, whole, open_line}
 use Rattle.delivery.specs.FirstTransfer.{identification, values, is_plain, IsObject}
 use Rattle.delivery.specs.Findings.{object_findings, findings}
 use Rattle.delivery.specs.Frames.{SomeObjects, AllObjects, IsTable, IsNoTable, IsThere, IsRefused}
-use Rattle.delivery.proofs.ModelParts.{again_in}
+use Rattle.delivery.proofs.Choices.{again_in}
 
 all_more : (xs : List Record) (x : Record) → AllByRecursion IsObject xs → IsObject x → AllByRecursion IsObject (xs ++ (x ∷ []))
 all_more [] x h k = (k, tt)

@@ -6,12 +6,12 @@ use Rattle.std.specs.List.{AllByRecursion, IsDistinct, list_any}
 use Rattle.std.specs.Cmp.Lexicographic.{pointwise}
 use Rattle.delivery.specs.declared.model.Column.{Column}
 use Rattle.delivery.specs.declared.findings.Finding.{Finding}
-use Rattle.delivery.specs.Descent.{◌>>=◌}
+use Rattle.delivery.specs.Chains.{◌>>=◌}
 use Rattle.delivery.specs.FirstModel.{Titles}
 use Rattle.delivery.specs.Lines.{lines, Record, Entry, whole, open_line, entries, is_slashes}
 use Rattle.delivery.specs.FirstTransfer.{begins, IsObject, Names, Frame, framed, IsFirstTransfer}
 use Rattle.delivery.specs.Frames.{is_start, behind_slashes, behind_head, record_at, is_only, if_only, title_at, frame_at, is_done, last_records, closes_frame, AllObjects, IsTable, IsNoTable, IsTransfer, HasNoTransfer}
-use Rattle.delivery.proofs.ModelLemmas.{gave, chose, same_word, word_is}
+use Rattle.delivery.proofs.Choices.{gave, chose, same_word, word_is}
 use Rattle.delivery.proofs.TableLemmas.{obje_is_no_etab}
 
 -- One record, with a word or with a name.

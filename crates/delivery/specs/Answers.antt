@@ -3,10 +3,11 @@ use Rattle.std.specs.Prelude.{◌≡◌, ◌≢◌, ℕ, List, [], Option, ◌�
 use Rattle.ports.specs.Files.{Files}
 use Rattle.ports.specs.Output.{Adds, AddsPrefix}
 use Rattle.delivery.specs.Commands.{Check, IsCheck, IsUsage}
-use Rattle.delivery.specs.FirstModel.{Model, columns_of}
+use Rattle.delivery.specs.FirstModel.{Model}
+use Rattle.delivery.specs.ModelTexts.{Refusal}
 use Rattle.delivery.specs.Findings.{findings}
 use Rattle.delivery.specs.Lines.{Record}
-use Rattle.delivery.specs.Outcomes.{Outcome, usage, unread, too_long, model_later, transfer_later, rejected, accepted, status_of, name_of, TooLong, ReadsOtherModel, ReadsOtherTransfer, ReadsObjects, Decides}
+use Rattle.delivery.specs.Outcomes.{Outcome, unread, status_of, name_of, TooLong, ReadsRefused, ReadsOtherTransfer, ReadsObjects, Decides}
 use Rattle.delivery.specs.Report.{report_of}
 use Rattle.delivery.specs.declared.outcome.File.{File}
 use Rattle.delivery.specs.declared.status.Status.{Status}
@@ -20,13 +21,14 @@ pub record Reads (told : Option Files) (words : List (List ℕ)) (m : Model) (ob
 
 -- The cause of each answer.
 -- Accepted: every object meets the declarations of its table. Rejected: the report's lines are the findings of the objects.
--- Undecided and ModelRefused: the transfer, or the model, is not of the first form.
+-- ModelRefused: the model's text has this first fault of its tokens or of its grammar, or it spells a model that is not of the first form.
+-- Undecided: the transfer is not of the first form.
 -- Usage: the words have no right form. ReadFault: a fault was counted for a file that was to be read. OverLimit: a file is longer than its limit.
 abbrev pub Means : Option Files → (List ℕ → Type 0) → List (List ℕ) → Status → Type 0
-Means told counted words Accepted = (m : Model) × (objects : List Record) × Reads told words m objects × (findings (columns_of m) objects ≡ [])
-Means told counted words Rejected = (m : Model) × (objects : List Record) × Reads told words m objects × (findings (columns_of m) objects ≢ [])
+Means told counted words Accepted = (m : Model) × (objects : List Record) × Reads told words m objects × (findings m.columns objects ≡ [])
+Means told counted words Rejected = (m : Model) × (objects : List Record) × Reads told words m objects × (findings m.columns objects ≢ [])
 Means told counted words Undecided = (c : Check) × IsCheck words c × ReadsOtherTransfer told c
-Means told counted words ModelRefused = (c : Check) × IsCheck words c × ReadsOtherModel told c
+Means told counted words ModelRefused = (c : Check) × (r : Refusal) × IsCheck words c × ReadsRefused told c r
 Means told counted words Usage = IsUsage words
 Means told counted words ReadFault = (c : Check) × (file : File) × IsCheck words c × counted (name_of c file)
 Means told counted words WriteFault = ⊤
@@ -55,15 +57,15 @@ pub record Begins (told : Option Files) (counted : List ℕ → Type 0) (words :
 abbrev pub IsStopped : Status → Type 0
 IsStopped status = (status ≡ ReadFault) ⊎ ((status ≡ WriteFault) ⊎ (status ≡ Memory))
 
--- The answer is that of the outcome, unless the call was stopped. (That a file could not be read decides nothing of what it holds.)
-abbrev pub IsAnswer : Outcome → Status → Type 0
-IsAnswer usage status = (status ≡ Usage) ⊎ IsStopped status
-IsAnswer (unread file) status = ⊤
-IsAnswer (too_long file) status = (status ≡ OverLimit) ⊎ IsStopped status
-IsAnswer model_later status = (status ≡ ModelRefused) ⊎ IsStopped status
-IsAnswer transfer_later status = (status ≡ Undecided) ⊎ IsStopped status
-IsAnswer (rejected found) status = (status ≡ Rejected) ⊎ IsStopped status
-IsAnswer (accepted objects) status = (status ≡ Accepted) ⊎ IsStopped status
+-- the answer is that of this outcome, and the output gained exactly the report on it
+pub record Tells (outcome : Outcome) (status : Status) (old new : Option (List ℕ)) : Type 0 where
+  pub answered : status ≡ status_of outcome
+  pub reported : Adds old (report_of outcome) new
+
+-- The answer and the report are those of the outcome, unless the call was stopped. (That a file could not be read decides nothing of what it holds.)
+abbrev pub IsAnswer : Outcome → Status → Option (List ℕ) → Option (List ℕ) → Type 0
+IsAnswer (unread file) status old new = ⊤
+IsAnswer outcome status old new = Tells outcome status old new ⊎ IsStopped status
 
 -- no count of faults rose
 pub record IsFaultless (read : List ℕ → Type 0) (wrote put : Type 0) : Type 0 where

@@ -1,17 +1,9 @@
 -- Models of the first form: one topic with one table, whose attributes are ranges of whole numbers.
-use Rattle.std.specs.Prelude.{◌≡◌, ◌≤ℤ◌, ℕ, ℤ, pos, true, nat_eq, List, [], ◌∷◌, ◌++◌, map, codes, Result, Ok, Err}
-use Rattle.std.specs.List.{AllByRecursion, IsDistinct, flat_map}
+use Rattle.std.specs.Prelude.{ℕ, Bool, true, false, cond, not, ◌&&◌, ◌==◌, int_le, nat_eq, List, [], ◌∷◌, Option, Some, None}
+use Rattle.std.specs.List.{list_any}
 use Rattle.std.specs.Cmp.Lexicographic.{pointwise}
-use Rattle.decimals.specs.declared.DecimalFault.{DecimalFault}
-use Rattle.decimals.specs.Scaled.{scaled_of}
-use Rattle.delivery.specs.ModelWords.{lexemes, is_name, is_whole_number}
+use Rattle.ili_grammar.specs.Syntax.{Ident, Codes, Span, Range, Value, Attributes, no_attributes, and_attribute, AttributeSyntax, an_attribute, DomainSyntax, TableSyntax, TopicSyntax, ModelSyntax}
 use Rattle.delivery.specs.declared.model.Column.{Column}
-
--- an attribute as it is written: its name, and its bounds in digits
-pub record Attribute : Type 0 where
-  pub name : List ℕ
-  pub low : List ℕ
-  pub high : List ℕ
 
 -- the names that a transfer has to give
 pub record Titles : Type 0 where
@@ -21,77 +13,76 @@ pub record Titles : Type 0 where
 
 -- what a model of the first form tells
 pub record Model : Type 0 where
-  pub transfer : List ℕ
   pub titles : Titles
-  pub attributes : List Attribute
+  pub columns : List Column
 
--- NAME : [ LOW .. HIGH ] ;
-abbrev pub attribute_text : Attribute → List (List ℕ)
-attribute_text a =
-    a.name ∷ codes ":" ∷ codes "[" ∷ a.low ∷ codes ".." ∷ a.high ∷ codes "]" ∷ codes ";" ∷ []
+-- the two bounds are whole numbers, the low one at most the high one
+abbrev pub is_whole : Span → Bool
+is_whole s = s.low.scale == 0 && (s.high.scale == 0 && int_le s.low.digits s.high.digits)
 
--- TRANSFER NAME ; MODEL NAME TOPIC NAME = TABLE NAME =
-abbrev pub head_text : Model → List (List ℕ)
-head_text m =
-    codes "TRANSFER" ∷ m.transfer ∷ codes ";" ∷ codes "MODEL" ∷ m.titles.model ∷ codes "TOPIC" ∷ m.titles.topic ∷ codes "="
-    ∷ codes "TABLE" ∷ m.titles.table ∷ codes "=" ∷ []
+abbrev pub between : Span → Option Column
+between s = cond (is_whole s) (Some (record { low = s.low.digits; high = s.high.digits })) None
 
--- NO IDENT END TABLE ; END TOPIC . END MODEL . FORMAT FREE ; and the line of codes, each the default
-abbrev pub tail_text : Titles → List (List ℕ)
-tail_text t =
-    codes "NO" ∷ codes "IDENT" ∷ codes "END" ∷ t.table ∷ codes ";" ∷ codes "END" ∷ t.topic ∷ codes "."
-    ∷ codes "END" ∷ t.model ∷ codes "." ∷ codes "FORMAT" ∷ codes "FREE" ∷ codes ";"
-    ∷ codes "CODE" ∷ codes "BLANK" ∷ codes "=" ∷ codes "DEFAULT" ∷ codes ","
-    ∷ codes "UNDEFINED" ∷ codes "=" ∷ codes "DEFAULT" ∷ codes ","
-    ∷ codes "CONTINUE" ∷ codes "=" ∷ codes "DEFAULT" ∷ codes ";"
-    ∷ codes "TID" ∷ codes "=" ∷ codes "ANY" ∷ codes ";" ∷ codes "END" ∷ codes "." ∷ []
+-- a mandatory attribute whose type is written as a range of whole numbers
+abbrev pub column_of : AttributeSyntax → Option Column
+column_of (an_attribute name false (Value (Range s))) = between s
+column_of _ = None
 
--- the words, numbers and marks of the model, in order
-abbrev pub model_text : Model → List (List ℕ)
-model_text m = head_text m ++ (flat_map attribute_text m.attributes ++ tail_text m.titles)
+abbrev pub both : Option Column → Option (List Column) → Option (List Column)
+both (Some column) (Some columns) = Some (column ∷ columns)
+both _ _ = None
 
--- the value of a bound, as it is written
-abbrev pub value_or_zero : Result ℤ DecimalFault → ℤ
-value_or_zero (Ok value) = value
-value_or_zero (Err fault) = pos 0
+-- the columns of attributes that are all such ranges
+abbrev pub columns_of : Attributes → Option (List Column)
+columns_of no_attributes = Some []
+columns_of (and_attribute a as_) = both (column_of a) (columns_of as_)
 
-abbrev pub bound_of : List ℕ → ℤ
-bound_of word = value_or_zero (scaled_of word 0)
+abbrev pub name_of : AttributeSyntax → List ℕ
+name_of (an_attribute name optional content) = name.text
 
-abbrev pub column_of : Attribute → Column
-column_of a = record { low = bound_of a.low; high = bound_of a.high }
+abbrev pub names_of : Attributes → List (List ℕ)
+names_of no_attributes = []
+names_of (and_attribute a as_) = name_of a ∷ names_of as_
 
-abbrev pub columns_of : Model → List Column
-columns_of m = map column_of m.attributes
+-- no two of the names are equal
+abbrev pub all_differ : List (List ℕ) → Bool
+all_differ [] = true
+all_differ (name ∷ names) = not (list_any (pointwise nat_eq name) names) && all_differ names
 
--- a name, and two whole numbers of which the first is not above the second
-pub record IsAttribute (a : Attribute) : Type 0 where
-  pub name : is_name a.name ≡ true
-  pub low : is_whole_number a.low ≡ true
-  pub high : is_whole_number a.high ≡ true
-  pub ordered : bound_of a.low ≤ℤ bound_of a.high
+-- the columns of a table whose attributes are such ranges with different names
+abbrev pub table_columns : Attributes → Option (List Column)
+table_columns as_ = cond (all_differ (names_of as_)) (columns_of as_) None
 
--- the names of the attributes
-abbrev pub attribute_names : Model → List (List ℕ)
-attribute_names m = map (λ a. a.name) m.attributes
+-- each code is the default
+abbrev pub is_default : Codes → Bool
+is_default c = c.blank == 95 && (c.undefined == 64 && c.continued == 92)
 
--- The text is this model of the first form.
-pub record IsFirstModel (text : List ℕ) (m : Model) : Type 0 where
-  pub spelled : lexemes text ≡ model_text m
-  pub transfer : is_name m.transfer ≡ true
-  pub model : is_name m.titles.model ≡ true
-  pub topic : is_name m.titles.topic ≡ true
-  pub table : is_name m.titles.table ≡ true
-  pub attributes : AllByRecursion IsAttribute m.attributes
-  pub differ : IsDistinct (pointwise nat_eq) (attribute_names m)
+-- a table without IDENT lists
+abbrev pub unlisted : TopicSyntax → TableSyntax → List (List Ident) → Option (TopicSyntax × TableSyntax)
+unlisted topic table [] = Some (topic, table)
+unlisted topic table (list ∷ lists) = None
 
--- the text is a model of the first form with these titles and columns
-pub record IsModel (text : List ℕ) (titles : Titles) (columns : List Column) : Type 0 where
-  pub m : Model
-  pub is_first : IsFirstModel text m
-  pub titled : titles ≡ m.titles
-  pub ranged : columns ≡ columns_of m
+-- a topic's one table, where it has no domain
+abbrev pub only_table : TopicSyntax → List DomainSyntax → List TableSyntax → Option (TopicSyntax × TableSyntax)
+only_table topic [] (table ∷ []) = unlisted topic table table.idents
+only_table topic _ _ = None
 
--- the text is no model of the first form
-abbrev pub HasNoModel : List ℕ → Type 0
-HasNoModel text = (m : Model) → IsFirstModel text m → ⊥
+-- the one topic and its one table, where there is no domain
+abbrev pub only_topic : List DomainSyntax → List DomainSyntax → List TopicSyntax → Option (TopicSyntax × TableSyntax)
+only_topic [] [] (topic ∷ []) = only_table topic topic.domains topic.tables
+only_topic _ _ _ = None
+
+abbrev pub titles_in : ModelSyntax → TopicSyntax × TableSyntax → Titles
+titles_in m found = record { model = m.model.text; topic = found.0.name.text; table = found.1.name.text }
+
+abbrev pub with_columns : Titles → Option (List Column) → Option Model
+with_columns titles (Some columns) = Some (record { titles = titles; columns = columns })
+with_columns titles None = None
+
+abbrev pub of_table : ModelSyntax → Option (TopicSyntax × TableSyntax) → Option Model
+of_table m (Some found) = with_columns (titles_in m found) (table_columns found.1.attributes)
+of_table m None = None
+
+-- what the syntax tells, where it is of the first form
+unfoldable pub first_of : ModelSyntax → Option Model
+first_of m = cond (is_default m.codes) (of_table m (only_topic m.outer m.domains m.topics)) None

@@ -4,7 +4,7 @@ use Rattle.std.specs.List.{AllByRecursion, IsDistinct, flat_map, list_any, list_
 use Rattle.std.specs.Cmp.Lexicographic.{pointwise}
 use Rattle.delivery.specs.declared.model.Column.{Column}
 use Rattle.delivery.specs.declared.findings.Finding.{Finding}
-use Rattle.delivery.specs.Descent.{◌>>=◌}
+use Rattle.delivery.specs.Chains.{◌>>=◌}
 use Rattle.delivery.specs.FirstModel.{Titles}
 use Rattle.delivery.specs.Lines.{Record, Entry, whole, open_line, fields, is_slashes}
 use Rattle.delivery.specs.FirstTransfer.{identification, values, is_plain, has_front, IsObject, IsFirstTransfer}

@@ -2,7 +2,7 @@ pub mod Answers
 pub mod CommandViews
 pub mod Commands
 pub mod Cursor
-pub mod Descent
+pub mod Chains
 pub mod Findings
 pub mod FirstModel
 pub mod FirstTransfer
@@ -10,12 +10,13 @@ pub mod Frames
 pub mod Fronts
 pub mod Gathered
 pub mod Lines
-pub mod ModelWords
+pub mod ModelTexts
 pub mod OutcomeViews
 pub mod Outcomes
 pub mod Pieces
 pub mod Publishing
 pub mod Reading
+pub mod RefusalViews
 pub mod Refusals
 pub mod Report
 pub mod Rising

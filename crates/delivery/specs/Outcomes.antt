@@ -2,7 +2,8 @@
 use Rattle.std.specs.Prelude.{◌≡◌, ◌≢◌, ℕ, List, [], length, Option}
 use Rattle.ports.specs.Files.{Files}
 use Rattle.delivery.specs.Commands.{Check, IsCheck, IsUsage}
-use Rattle.delivery.specs.FirstModel.{Model, IsFirstModel, columns_of}
+use Rattle.delivery.specs.FirstModel.{Model}
+use Rattle.delivery.specs.ModelTexts.{Refusal, IsRefused, IsFirstModel}
 use Rattle.delivery.specs.FirstTransfer.{IsFirstTransfer}
 use Rattle.delivery.specs.Findings.{findings}
 use Rattle.delivery.specs.Lines.{Record}
@@ -21,8 +22,8 @@ pub data Outcome : Type 0 where
   unread : File → Outcome
   -- a file is longer than its limit
   too_long : File → Outcome
-  -- the model is not of the first form
-  model_later : Outcome
+  -- the model is refused
+  refused : Refusal → Outcome
   -- the transfer is not of the first form
   transfer_later : Outcome
   -- the objects have these findings
@@ -34,7 +35,7 @@ abbrev pub status_of : Outcome → Status
 status_of usage = status.Usage
 status_of (unread file) = status.ReadFault
 status_of (too_long file) = status.OverLimit
-status_of model_later = status.ModelRefused
+status_of (refused r) = status.ModelRefused
 status_of transfer_later = status.Undecided
 status_of (rejected found) = status.Rejected
 status_of (accepted objects) = status.Accepted
@@ -59,11 +60,11 @@ pub record ReadsModel (told : Option Files) (c : Check) (m : Model) : Type 0 whe
   pub read : IsText told c TheModel text
   pub is_first : IsFirstModel text m
 
--- the model was read, and is not of the first form
-pub record ReadsOtherModel (told : Option Files) (c : Check) : Type 0 where
+-- the model was read, and is refused
+pub record ReadsRefused (told : Option Files) (c : Check) (r : Refusal) : Type 0 where
   pub text : List ℕ
   pub read : IsText told c TheModel text
-  pub other : (m : Model) → IsFirstModel text m → ⊥
+  pub is_refused : IsRefused text r
 
 -- the transfer was read too, and is of the first form with these objects
 pub record ReadsObjects (told : Option Files) (c : Check) (m : Model) (objects : List Record) : Type 0 where
@@ -90,19 +91,19 @@ abbrev pub Has : Option Files → (List ℕ → Type 0) → Check → Outcome �
 Has told counted c usage = ⊥
 Has told counted c (unread file) = counted (name_of c file)
 Has told counted c (too_long file) = TooLong told c file
-Has told counted c model_later = ReadsOtherModel told c
+Has told counted c (refused r) = ReadsRefused told c r
 Has told counted c transfer_later = ReadsOtherTransfer told c
 Has told counted c (rejected found) =
-    (m : Model) × (objects : List Record) × ReadsObjects told c m objects × (found ≡ findings (columns_of m) objects) × (found ≢ [])
+    (m : Model) × (objects : List Record) × ReadsObjects told c m objects × (found ≡ findings m.columns objects) × (found ≢ [])
 Has told counted c (accepted count) =
-    (m : Model) × (objects : List Record) × ReadsObjects told c m objects × (findings (columns_of m) objects ≡ []) × (count ≡ length objects)
+    (m : Model) × (objects : List Record) × ReadsObjects told c m objects × (findings m.columns objects ≡ []) × (count ≡ length objects)
 
 -- The words and the files have this outcome.
 abbrev pub Decides : Option Files → (List ℕ → Type 0) → List (List ℕ) → Outcome → Type 0
 Decides told counted words usage = IsUsage words
 Decides told counted words (unread file) = (c : Check) × IsCheck words c × Has told counted c (unread file)
 Decides told counted words (too_long file) = (c : Check) × IsCheck words c × Has told counted c (too_long file)
-Decides told counted words model_later = (c : Check) × IsCheck words c × Has told counted c model_later
+Decides told counted words (refused r) = (c : Check) × IsCheck words c × Has told counted c (refused r)
 Decides told counted words transfer_later = (c : Check) × IsCheck words c × Has told counted c transfer_later
 Decides told counted words (rejected found) = (c : Check) × IsCheck words c × Has told counted c (rejected found)
 Decides told counted words (accepted count) = (c : Check) × IsCheck words c × Has told counted c (accepted count)

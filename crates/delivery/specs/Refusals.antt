@@ -2,15 +2,14 @@
 use Rattle.std.specs.Prelude.{◌≡◌, ◌≢◌, ℕ, List, [], Option}
 use Rattle.ports.specs.Files.{Files}
 use Rattle.delivery.specs.declared.findings.Finding.{Finding}
-use Rattle.delivery.specs.declared.model.Column.{Column}
 use Rattle.delivery.specs.declared.outcome.File.{File}
 use Rattle.delivery.specs.declared.outcome.File.TheVariants.{Model as TheModel, Transfer as TheTransfer}
 use Rattle.delivery.specs.declared.reading.ReadRefusal.{ReadRefusal}
 use Rattle.delivery.specs.declared.reading.ReadRefusal.TheVariants.{Failed, TooLong as Longer, Memory}
 use Rattle.delivery.specs.Commands.{Check}
-use Rattle.delivery.specs.FirstModel.{Titles}
+use Rattle.delivery.specs.FirstModel.{Model}
 use Rattle.delivery.specs.Frames.{IsTransfer, HasNoTransfer}
-use Rattle.delivery.specs.Outcomes.{Outcome, usage, unread, too_long, model_later, transfer_later, rejected, accepted, limit_of, IsText}
+use Rattle.delivery.specs.Outcomes.{Outcome, usage, unread, too_long, refused, transfer_later, rejected, accepted, limit_of, IsText}
 use Rattle.delivery.specs.Reading.{IsLonger}
 
 -- the outcome where a file was not read
@@ -20,25 +19,25 @@ IsRefusal file Longer outcome = outcome ≡ too_long file
 IsRefusal file Memory outcome = ⊥
 
 -- the transfer was read, and is of the first form with these findings and so many objects
-pub record ReadsTransfer (told : Option Files) (c : Check) (t : Titles) (columns : List Column) (found : List Finding) (count : ℕ) : Type 0 where
+pub record ReadsTransfer (told : Option Files) (c : Check) (m : Model) (found : List Finding) (count : ℕ) : Type 0 where
   pub text : List ℕ
   pub read : IsText told c TheTransfer text
-  pub is_transfer : IsTransfer t columns text found count
+  pub is_transfer : IsTransfer m.titles m.columns text found count
 
 -- the transfer was read, and is not of the first form
-pub record ReadsNoTransfer (told : Option Files) (c : Check) (t : Titles) : Type 0 where
+pub record ReadsNoTransfer (told : Option Files) (c : Check) (m : Model) : Type 0 where
   pub text : List ℕ
   pub read : IsText told c TheTransfer text
-  pub other : HasNoTransfer t text
+  pub other : HasNoTransfer m.titles text
 
--- the outcome behind a model of the first form with these titles and columns
-abbrev pub HasBehind : Option Files → (List ℕ → Type 0) → Check → Titles → List Column → Outcome → Type 0
-HasBehind told counted c t columns usage = ⊥
-HasBehind told counted c t columns (unread TheModel) = ⊥
-HasBehind told counted c t columns (unread TheTransfer) = counted c.transfer
-HasBehind told counted c t columns (too_long TheModel) = ⊥
-HasBehind told counted c t columns (too_long TheTransfer) = IsLonger told c.transfer (limit_of TheTransfer)
-HasBehind told counted c t columns model_later = ⊥
-HasBehind told counted c t columns transfer_later = ReadsNoTransfer told c t
-HasBehind told counted c t columns (rejected found) = (count : ℕ) × ReadsTransfer told c t columns found count × (found ≢ [])
-HasBehind told counted c t columns (accepted count) = ReadsTransfer told c t columns [] count
+-- the outcome behind this model of the first form
+abbrev pub HasBehind : Option Files → (List ℕ → Type 0) → Check → Model → Outcome → Type 0
+HasBehind told counted c m usage = ⊥
+HasBehind told counted c m (unread TheModel) = ⊥
+HasBehind told counted c m (unread TheTransfer) = counted c.transfer
+HasBehind told counted c m (too_long TheModel) = ⊥
+HasBehind told counted c m (too_long TheTransfer) = IsLonger told c.transfer (limit_of TheTransfer)
+HasBehind told counted c m (refused r) = ⊥
+HasBehind told counted c m transfer_later = ReadsNoTransfer told c m
+HasBehind told counted c m (rejected found) = (count : ℕ) × ReadsTransfer told c m found count × (found ≢ [])
+HasBehind told counted c m (accepted count) = ReadsTransfer told c m [] count

@@ -2,13 +2,17 @@
 use Rattle.std.specs.Prelude.{nat_eq, map, ℕ, List}
 use Rattle.delivery.specs.Lines.{Entry, whole, open_line, fields}
 use Rattle.delivery.specs.Lines.{Record}
-use Rattle.delivery.specs.FirstModel.{Titles, Attribute}
-use Rattle.delivery.specs.ModelWords.{lexemes}
+use Rattle.std.specs.Prelude.{Option, Vec}
+use Rattle.std.specs.Option.{option_map}
+use Rattle.ili_grammar.specs.declared.syntax.TopicSyntax as stored_topic
+use Rattle.ili_grammar.specs.declared.syntax.TableSyntax as stored_table
+use Rattle.ili_grammar.specs.Syntax.{TopicSyntax, TableSyntax}
+use Rattle.ili_grammar.specs.Values.{topic_of, table_of}
+use Rattle.delivery.specs.FirstModel.{Titles, Model}
 use Rattle.std.specs.Borrow.{Bor}
 use Rattle.delivery.specs.declared.model.Titles.{Titles as CodeTitles}
-use Rattle.delivery.specs.declared.model.Attribute.{Attribute as CodeAttribute}
-use Rattle.delivery.specs.Descent.{Head}
-use Rattle.delivery.specs.declared.model.Head.{Head as CodeHead}
+use Rattle.delivery.specs.declared.model.Column.{Column}
+use Rattle.delivery.specs.declared.model.Model.{Model as CodeModel}
 use Rattle.delivery.specs.declared.distinct.Distinct.{Distinct}
 use Rattle.delivery.specs.declared.distinct.Words.{Words}
 use Rattle.delivery.specs.declared.distinct.Words.TheVariants.{Rising, Kept}
@@ -46,12 +50,15 @@ IsKept d = AreKept d.words
 abbrev pub titles_of : CodeTitles → Titles
 titles_of t = record { model = t.model.now; topic = t.topic.now; table = t.table.now }
 
-abbrev pub attribute_of : CodeAttribute → Attribute
-attribute_of a = record { name = a.name.now; low = a.low.now; high = a.high.now }
+-- a model of the first form
+abbrev pub first_model : CodeModel → Model
+first_model m = record { titles = titles_of m.titles; columns = m.columns.items }
 
--- an attribute and the pieces of the text behind it
-abbrev pub attribute_found : CodeAttribute × Bor (List ℕ) → Attribute × List (List ℕ)
-attribute_found found = (attribute_of found.0, lexemes found.1.now)
+abbrev pub first_found : Option CodeModel → Option Model
+first_found = option_map first_model
 
-abbrev pub head_found : CodeHead × Bor (List ℕ) → Head × List (List ℕ)
-head_found found = (record { transfer = found.0.transfer.now; titles = titles_of found.0.titles }, lexemes found.1.now)
+abbrev pub columns_found : {A : Type 0} → Option (Vec Column A) → Option (List Column)
+columns_found = option_map (λ columns. columns.items)
+
+abbrev pub table_found : Option (Bor stored_topic.TopicSyntax × Bor stored_table.TableSyntax) → Option (TopicSyntax × TableSyntax)
+table_found = option_map (λ found. (topic_of found.0.now, table_of found.1.now))

@@ -4,11 +4,12 @@ ghost use Rattle.ports.specs.Faults.{Rose};
 ghost use Rattle.delivery.specs.Outcomes.{Has};
 ghost use Rattle.delivery.specs.OutcomeViews.{outcome_of};
 ghost use Rattle.delivery.specs.CommandViews.{check_of};
-ghost use Rattle.delivery.specs.Views.{titles_of};
+ghost use Rattle.delivery.specs.Views.{first_model};
 ghost use Rattle.delivery.specs.Refusals.{IsRefusal, HasBehind};
 
 use crate::command::Check;
-use crate::model::{Model, read_model};
+use crate::model::{Model, first_form};
+use crate::model_text::{Reading, later, read_syntax};
 use crate::outcome::{File, Outcome};
 use crate::reading::{ReadRefusal, read_all};
 use crate::transfer::read_transfer;
@@ -38,7 +39,7 @@ fn decide_transfer<S: Shelf>(
     shelf: &mut S,
 ) -> Result<Outcome, Memory>
     requires few { length model.now.columns.items < 2 ^ 32 }
-    ensures outcome { IfOk result (λ outcome. HasBehind (S.held shelf.old) (λ name. Rose (S.read_faults shelf.old name) (S.read_faults shelf.new name)) (check_of check.now) (titles_of model.now.titles) model.now.columns.items (outcome_of outcome)) }
+    ensures outcome { IfOk result (λ outcome. HasBehind (S.held shelf.old) (λ name. Rose (S.read_faults shelf.old name) (S.read_faults shelf.new name)) (check_of check.now) (first_model model.now) (outcome_of outcome)) }
     ensures held { S.held shelf.new ≡ S.held shelf.old }
     ensures reads { (q : List ℕ) → S.read_faults shelf.old q ≤ S.read_faults shelf.new q }
     ensures writes { S.write_faults shelf.old ≤ S.write_faults shelf.new }
@@ -68,8 +69,12 @@ pub fn decide<S: Shelf>(alloc: Global, check: &Check<'_>, shelf: &mut S) -> Resu
         Ok(text) => text,
         Err(refusal) => return refused(File::Model, refusal),
     };
-    let Some(model) = read_model(alloc, &text)? else {
-        return Ok(Outcome::ModelLater);
+    let syntax = match read_syntax(alloc, &text)? {
+        Reading::Syntax(syntax) => syntax,
+        Reading::Refused(refusal) => return Ok(Outcome::Refused(refusal)),
+    };
+    let Some(model) = first_form(alloc, &syntax)? else {
+        return Ok(Outcome::Refused(later(alloc)?));
     };
     let outcome = decide_transfer(alloc, check, &model, shelf)?;
     Ok(outcome)

@@ -4,6 +4,7 @@ ghost use Rattle.delivery.specs.Outcomes.{status_of};
 ghost use Rattle.delivery.specs.OutcomeViews.{outcome_of};
 
 use crate::findings::Finding;
+use crate::refusals::Refusal;
 use crate::status::Status;
 
 /// A file that is read.
@@ -22,8 +23,8 @@ pub enum Outcome {
     Unread(File),
     /// A file is longer than its limit.
     TooLong(File),
-    /// The model is not of the first form.
-    ModelLater,
+    /// The model is refused.
+    Refused(Refusal),
     /// The transfer is not of the first form.
     TransferLater,
     /// The objects have findings.
@@ -42,7 +43,7 @@ impl Outcome {
             Outcome::Usage => Status::Usage,
             Outcome::Unread(_) => Status::ReadFault,
             Outcome::TooLong(_) => Status::OverLimit,
-            Outcome::ModelLater => Status::ModelRefused,
+            Outcome::Refused(_) => Status::ModelRefused,
             Outcome::TransferLater => Status::Undecided,
             Outcome::Rejected(_) => Status::Rejected,
             Outcome::Accepted(_) => Status::Accepted,

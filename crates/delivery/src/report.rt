@@ -1,11 +1,15 @@
 // The text of the report.
 ghost use Rattle.std.specs.Prelude.{◌≡◌, ◌++◌, decimal, IfOk, OnOk};
 ghost use Rattle.std.specs.List.{flat_map};
-ghost use Rattle.delivery.specs.Report.{file_text, code_text, finding_line, report_of};
+ghost use Rattle.delivery.specs.Report.{file_text, code_text, syntax_text, refusal_text, place_text, finding_line, report_of};
+ghost use Rattle.delivery.specs.Outcomes.{refused};
+ghost use Rattle.delivery.specs.RefusalViews.{refusal_of};
 ghost use Rattle.delivery.specs.OutcomeViews.{outcome_of};
 
 use crate::findings::{Code, Finding};
 use crate::outcome::{File, Outcome};
+use crate::refusals::{Refusal, RefusalCode};
+use ili_grammar::SyntaxCode;
 use itoa::Buffer;
 use ports::Memory;
 use std::alloc::Global;
@@ -26,6 +30,33 @@ fn code_text(code: Code) -> &'static [u8]
         Code::Count => b"count",
         Code::Number => b"number",
         Code::Range => b"range",
+    }
+}
+
+fn syntax_text(code: SyntaxCode) -> &'static [u8]
+    ensures { result.now ≡ syntax_text code }
+{
+    match code {
+        SyntaxCode::Expected => b"expected",
+        SyntaxCode::EndName => b"endname",
+        SyntaxCode::FixFormat => b"fixformat",
+        SyntaxCode::Views => b"views",
+        SyntaxCode::LineForm => b"lineform",
+        SyntaxCode::Scaling => b"scaling",
+        SyntaxCode::Codes => b"codes",
+        SyntaxCode::Deep => b"deep",
+    }
+}
+
+fn refusal_text(code: RefusalCode) -> &'static [u8]
+    ensures { result.now ≡ refusal_text code }
+{
+    match code {
+        RefusalCode::BadByte => b"badbyte",
+        RefusalCode::OpenExplanation => b"openexplanation",
+        RefusalCode::LongNumber => b"longnumber",
+        RefusalCode::Syntax(code) => syntax_text(code),
+        RefusalCode::Later => b"later",
     }
 }
 
@@ -72,6 +103,27 @@ impl Text {
         Ok(())
     }
 
+    fn add_place(&mut self, line: u32, column: u32) -> Result<(), Memory>
+        ensures { OnOk result (self.new.bytes.items ≡ self.old.bytes.items ++ place_text line column) }
+    {
+        self.add(b" ")?;
+        self.add_number(line)?;
+        self.add(b" ")?;
+        self.add_number(column)?;
+        self.add(b" ")
+    }
+
+    // FAULT MODEL code line column word
+    fn add_refusal(&mut self, refusal: &Refusal) -> Result<(), Memory>
+        ensures { OnOk result (self.new.bytes.items ≡ self.old.bytes.items ++ report_of (refused (refusal_of refusal.now))) }
+    {
+        self.add(b"FAULT MODEL ")?;
+        self.add(refusal_text(refusal.code))?;
+        self.add_place(refusal.line, refusal.column)?;
+        self.add(&refusal.word)?;
+        self.add(b"\n")
+    }
+
     fn add_outcome(&mut self, outcome: &Outcome) -> Result<(), Memory>
         ensures { OnOk result (self.new.bytes.items ≡ self.old.bytes.items ++ report_of (outcome_of outcome.now)) }
     {
@@ -89,7 +141,7 @@ impl Text {
                 self.add(file_text(*file))?;
                 self.add(b"\n")
             }
-            Outcome::ModelLater => self.add(b"FAULT MODEL later 1 1 -\n"),
+            Outcome::Refused(refusal) => self.add_refusal(refusal),
             Outcome::TransferLater => self.add(b"LATER transfer\nVERDICT UNDECIDED\n"),
             Outcome::Rejected(findings) => {
                 self.add_findings(findings)?;

@@ -51,8 +51,8 @@ pub fn run<S: Shelf, K: Sink>(alloc: Global, words: &[Word], shelf: &mut S, out:
     // The answer is that of an outcome of the words and the files, and the output gained exactly the report on it.
     ensures finishes { result ≢ Status.WriteFault → result ≢ Status.Memory → Finishes (S.held shelf.old) (λ name. Rose (S.read_faults shelf.old name) (S.read_faults shelf.new name)) words.now result (K.written out.old) (K.written out.new) }
 
-    // Whatever outcome the words and the files have, the answer is that of this outcome, unless a read or a write failed or memory was wanting.
-    ensures exact { (files : Files) → S.held shelf.old ≡ Some files → (outcome : AnyOutcome) → Decides (Some files) (λ name. Rose (S.read_faults shelf.old name) (S.read_faults shelf.new name)) words.now outcome → IsAnswer outcome result }
+    // Whatever outcome the words and the files have, the answer and the report are those of this outcome, unless a read or a write failed or memory was wanting.
+    ensures exact { (files : Files) → S.held shelf.old ≡ Some files → (outcome : AnyOutcome) → Decides (Some files) (λ name. Rose (S.read_faults shelf.old name) (S.read_faults shelf.new name)) words.now outcome → IsAnswer outcome result (K.written out.old) (K.written out.new) }
 
     // Accepted leaves the empty list of certificates under the name that the words give.
     ensures certificates { result ≡ Status.Accepted → (c : Check) → IsCheck words.now c → Puts (S.held shelf.old) c.certificate (λ file. no_certificates) (S.held shelf.new) }

@@ -2,7 +2,7 @@
 ghost use Rattle.std.specs.Prelude.{◌≡◌, ◌≤◌, ◌<◌, ◌+◌, ◌^◌, ◌∷◌, [], nat_eq, length, List, ℕ, Some, None, IsSome, IfOk, IfSome, IfNone, IsTrue, IsFalse};
 ghost use Rattle.std.specs.Cmp.Lexicographic.{pointwise};
 ghost use Rattle.delivery.specs.Lines.{lines, fields, entries};
-ghost use Rattle.delivery.specs.Descent.{Gives};
+ghost use Rattle.delivery.specs.Chains.{Gives};
 ghost use Rattle.delivery.specs.FirstTransfer.{has_front};
 ghost use Rattle.delivery.specs.Frames.{is_start, is_only, behind_head, behind_slashes, record_at, title_at, frame_at, closes_frame, AllObjects, IsNoTable, IsTransfer, HasNoTransfer};
 ghost use Rattle.delivery.specs.Views.{record_of, titles_of};

@@ -1,4 +1,4 @@
-//! Models and transfers at the edges of the first form, each with what the rules say of it.
+//! Transfers at the edges of the first form, each with what the rules say of it.
 
 use super::rows::{CHECK, words_of};
 use delivery::run;
@@ -6,9 +6,6 @@ use ports::{MemoryShelf, MemorySink};
 use std::alloc::Global;
 use std::process::Abort;
 use std::test::Fail;
-
-const MODEL: &str =
-    "TRANSFER One; MODEL M TOPIC T = TABLE A = N: [0 .. 10]; NO IDENT END A; END T. END M. FORMAT FREE; CODE BLANK = DEFAULT, UNDEFINED = DEFAULT, CONTINUE = DEFAULT; TID = ANY; END.";
 
 const TWO_COLUMNS: &str =
     "TRANSFER One; MODEL M TOPIC T = TABLE A = N: [-5 .. 10]; K: [+1..999999999999999999]; NO IDENT END A; END T. END M. FORMAT FREE; CODE BLANK = DEFAULT, UNDEFINED = DEFAULT, CONTINUE = DEFAULT; TID = ANY; END.";
@@ -111,33 +108,7 @@ const TRANSFERS: [(&str, &str); 22] = [
     ("", LATER),
 ];
 
-const MODEL_LATER: &str = "FAULT MODEL later 1 1 -\n";
-
-const ONE: &str = "SCNT\n////\nMTID\nMODL M\nTOPI T\nTABL A\nETAB\nETOP\nEMOD\nENDE\n";
-
-// Changes of the model with one column, and whether it is still of the first form.
-const CHANGES: [(&str, &str, bool); 18] = [
-    ("N: [0 .. 10];", "", true),
-    ("[0 .. 10]", "[0..10]", true),
-    ("[0 .. 10]", "[\t-3\r\n..\n-3 ]", true),
-    ("[0 .. 10]", "[10 .. 0]", false),
-    ("[0 .. 10]", "[0 .. 1000000000000000000]", false),
-    ("[0 .. 10]", "[0 . . 10]", false),
-    ("[0 .. 10]", "[- 1 .. 10]", false),
-    ("N: [0 .. 10];", "N: [0 .. 10]; N: [0 .. 10];", false),
-    ("N: [0 .. 10];", "N: [0 .. 10]; n: [0 .. 10];", true),
-    ("N: [0", "_N: [0", false),
-    ("N: [0", "FREE: [0", false),
-    ("END A;", "END B;", false),
-    ("END T.", "END M.", false),
-    ("TID = ANY", "TID = I16", false),
-    ("DEFAULT, UNDEFINED", "32, UNDEFINED", false),
-    ("FREE;", "FREE; !! a comment\n", false),
-    ("TRANSFER One", "TRANSFEROne", false),
-    ("END.", "END. END", false),
-];
-
-fn report_on(alloc: Global, model: &str, transfer: &str) -> Result<Vec<u8>, Fail> {
+pub fn report_on(alloc: Global, model: &str, transfer: &str) -> Result<Vec<u8>, Fail> {
     let words = words_of(alloc, CHECK)?;
     let mut shelf = MemoryShelf::new(alloc);
     shelf.with_file("M", model.as_bytes())?;
@@ -157,32 +128,6 @@ fn reports(rt: &impl Abort, alloc: Global, transfer: &str, report: &str) -> Resu
 fn transfers_at_the_edge_are_decided_or_left(rt: HostRuntime) -> Result<(), Fail> {
     for (transfer, report) in &TRANSFERS {
         reports(&rt, rt.alloc(), transfer, report)?;
-    }
-    Ok(())
-}
-
-fn changed(
-    rt: &impl Abort,
-    alloc: Global,
-    old: &str,
-    new: &str,
-    is_first: bool,
-) -> Result<(), Fail> {
-    let model = MODEL.replace(alloc, old, new)?;
-    let got = report_on(alloc, model.as_str(), ONE)?;
-    let want = if is_first {
-        "VERDICT ACCEPTED 0\n"
-    } else {
-        MODEL_LATER
-    };
-    assert_eq!(rt; got.as_slice(), want.as_bytes(), "{new} for {old}");
-    Ok(())
-}
-
-#[test]
-fn models_at_the_edge_are_read_or_left(rt: HostRuntime) -> Result<(), Fail> {
-    for (old, new, is_first) in &CHANGES {
-        changed(&rt, rt.alloc(), old, new, *is_first)?;
     }
     Ok(())
 }

@@ -2,4 +2,5 @@
 
 mod endless;
 mod inputs;
+mod models;
 mod rows;

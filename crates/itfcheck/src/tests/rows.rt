@@ -21,11 +21,14 @@ pub struct Row {
 
 pub const CHECK: &[&str] = &["check", "M", "T", "C"];
 
-const MODEL: &str =
+pub const MODEL: &str =
     "TRANSFER One;\nMODEL M\nTOPIC T =\nTABLE A = N: [0 .. 10]; NO IDENT END A;\nEND T.\nEND M.\nFORMAT FREE;\nCODE BLANK = DEFAULT, UNDEFINED = DEFAULT, CONTINUE = DEFAULT; TID = ANY; END.\n";
 
 const MODEL_WITH_A_STOP: &str =
     "TRANSFER One;\nMODEL M\nTOPIC T =\nTABLE A = N: [0.5 .. 10]; NO IDENT END A;\nEND T.\nEND M.\nFORMAT FREE;\nCODE BLANK = DEFAULT, UNDEFINED = DEFAULT, CONTINUE = DEFAULT; TID = ANY; END.\n";
+
+// A transfer without an object.
+pub const EMPTY: &str = "SCNT\n////\nMTID\nMODL M\nTOPI T\nTABL A\nETAB\nETOP\nEMOD\nENDE\n";
 
 const SEVEN: &str =
     "SCNT\n////\nMTID x\nMODL M\nTOPI T\nTABL A\nOBJE 1 7\nETAB\nETOP\nEMOD\nENDE\n";

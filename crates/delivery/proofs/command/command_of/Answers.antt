@@ -1,6 +1,6 @@
 use Rattle.std.proofs.Common.{sym}
 use Rattle.delivery.proofs.CommandLemmas.{four_words, spelled_by}
-use Rattle.delivery.proofs.ModelLemmas.{same_word}
+use Rattle.delivery.proofs.Choices.{same_word}
 use Rattle.delivery.proofs.command.command_of.Goals as goal
 
 pub returns-then-is_file_name-3-clause-check : goal.returns-then-is_file_name-3-clause-check

@@ -1,5 +1,5 @@
 use Rattle.std.proofs.Common.{arith, sym, ◌∙◌}
-use Rattle.delivery.proofs.ModelLemmas.{same_word}
+use Rattle.delivery.proofs.Choices.{same_word}
 use Rattle.delivery.proofs.TableLemmas.{all_objects, more, ended, opened, strange, refused}
 use Rattle.delivery.proofs.RisingLemmas.{kept_distinct}
 use Rattle.delivery.proofs.EntryLemmas.{opened_by, whole_by}

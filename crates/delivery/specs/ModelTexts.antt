@@ -1,0 +1,76 @@
+-- What the text of a model is: refused, or a model of the first form.
+use Rattle.std.specs.Prelude.{◌≡◌, ℕ, List, codes, Option, Some, None, slice_get}
+use Rattle.ili_lexer.specs.Places.{line_after, column_after}
+use Rattle.ili_lexer.specs.Tokens.{AreTokens, IsFault}
+use Rattle.ili_lexer.specs.declared.tokens.Kind.{Kind}
+use Rattle.ili_lexer.specs.declared.tokens.Kind.TheVariants as kinds
+use Rattle.ili_lexer.specs.declared.tokens.Token.{Token}
+use Rattle.ili_lexer.specs.declared.tokens.LexFault.{LexFault}
+use Rattle.ili_lexer.specs.declared.tokens.LexFault.TheVariants as lexed
+use Rattle.ili_grammar.specs.Faults.{IsFirstFault}
+use Rattle.ili_grammar.specs.Models.{Spells}
+use Rattle.ili_grammar.specs.Slices.{bytes_of, toks}
+use Rattle.ili_grammar.specs.Syntax.{ModelSyntax}
+use Rattle.ili_grammar.specs.declared.syntax.SyntaxCode.{SyntaxCode}
+use Rattle.ili_grammar.specs.declared.syntax.SyntaxFault.TheVariants as parsed
+use Rattle.delivery.specs.FirstModel.{Model, first_of}
+use Rattle.delivery.specs.declared.refusals.RefusalCode.{RefusalCode}
+use Rattle.delivery.specs.declared.refusals.RefusalCode.TheVariants as refused
+
+-- why a model is refused, and where: what the report says of it
+pub record Refusal : Type 0 where
+  pub code : RefusalCode
+  pub line : ℕ
+  pub column : ℕ
+  pub word : List ℕ
+
+-- a refusal that names no token
+abbrev pub wordless : RefusalCode → ℕ → ℕ → Refusal
+wordless code line column = record { code = code; line = line; column = column; word = codes "-" }
+
+-- a fault of the tokens stands where no token begins
+abbrev pub lex_refusal : LexFault → Option Refusal
+lex_refusal (lexed.BadByte l c) = Some (wordless refused.BadByte l c)
+lex_refusal (lexed.OpenExplanation l c) = Some (wordless refused.OpenExplanation l c)
+lex_refusal (lexed.LongNumber l c) = Some (wordless refused.LongNumber l c)
+lex_refusal lexed.Memory = None
+
+-- a token's bytes, but two strokes alone for an explanation
+abbrev pub word_of : Kind → List ℕ → List ℕ
+word_of kinds.Explanation bytes = codes "//"
+word_of _ bytes = bytes
+
+-- a fault of the grammar at a token
+abbrev pub token_refusal : List ℕ → SyntaxCode → Token → Refusal
+token_refusal text code t = record { code = refused.Syntax code; line = t.line; column = t.column; word = word_of t.kind (bytes_of text t) }
+
+-- a fault of the grammar behind the last byte
+abbrev pub end_refusal : List ℕ → SyntaxCode → Refusal
+end_refusal text code = wordless (refused.Syntax code) (line_after text) (column_after text)
+
+-- a model that is not of the first form is left for later
+abbrev pub later_refusal : Refusal
+later_refusal = wordless refused.Later 1 1
+
+-- the text is cut into tokens, and these spell the syntax
+pub record IsSpelt (text : List ℕ) (syntax : ModelSyntax) : Type 0 where
+  pub tokens : List Token
+  pub are : AreTokens text tokens
+  pub spelt : Spells syntax (toks text tokens)
+
+-- the text is no model, and this is its first fault: of the tokens, else of the grammar
+pub data IsFaulty (text : List ℕ) (r : Refusal) : Type 0 where
+  no_token : (f : LexFault) → IsFault text f → lex_refusal f ≡ Some r → IsFaulty text r
+  ends_early : (ts : List Token) (c : SyntaxCode) → AreTokens text ts → IsFirstFault (toks text ts) (parsed.At c None) → r ≡ end_refusal text c → IsFaulty text r
+  wrong_token : (ts : List Token) (c : SyntaxCode) (k : ℕ) (t : Token) → AreTokens text ts → IsFirstFault (toks text ts) (parsed.At c (Some k)) → slice_get ts k ≡ Some t → r ≡ token_refusal text c t → IsFaulty text r
+
+-- the text is no model, or a model that is not of the first form
+pub data IsRefused (text : List ℕ) (r : Refusal) : Type 0 where
+  at_fault : IsFaulty text r → IsRefused text r
+  left_for_later : (m : ModelSyntax) → IsSpelt text m → first_of m ≡ None → r ≡ later_refusal → IsRefused text r
+
+-- the text spells a model of the first form
+pub record IsFirstModel (text : List ℕ) (m : Model) : Type 0 where
+  pub syntax : ModelSyntax
+  pub spelt : IsSpelt text syntax
+  pub first : first_of syntax ≡ Some m
