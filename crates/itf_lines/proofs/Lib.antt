@@ -1,0 +1,5 @@
+pub mod Cuts
+pub mod Ends
+pub mod Gathering
+pub mod OpenGroups
+pub mod PassLaws

@@ -1,0 +1,32 @@
+// The logical lines of a text.
+ghost use Rattle.std.specs.Prelude.{◌≡◌, ◌≤◌, length, IfOk};
+ghost use Rattle.itf_lines.specs.LogicalLines.{logical};
+ghost use Rattle.itf_lines.specs.Views.{seen};
+
+use super::logical::Lines;
+use super::pass::{Place, step};
+use bstr::ByteSlice;
+use ili_grammar::Codes;
+use ports::Memory;
+use std::alloc::Global;
+
+/// The logical lines of a transfer text of at most 268,435,456 bytes, for the continue code of
+/// its model, with the first fault of continuation and the number of physical lines. The only
+/// error is want of memory.
+pub fn logical_lines(alloc: Global, bytes: &[u8], codes: &Codes) -> Result<Lines, Memory>
+    requires { length bytes.now ≤ 268435456 }
+    ensures { IfOk result (λ found. seen found ≡ logical codes.now.continued bytes.now) }
+{
+    let mut lines = Vec::new(alloc);
+    let mut place = Place::Head;
+    let mut total = 0;
+    for line in bytes.lines() {
+        total += 1;
+        place = step(alloc, codes.continued, total, line, place, &mut lines)?;
+    }
+    Ok(Lines {
+        lines,
+        fault: place.fault(),
+        total,
+    })
+}
