@@ -1,0 +1,17 @@
+pub mod Faults
+pub mod Told
+pub mod Indexed
+pub mod Directories
+pub mod Numbers
+pub mod Scopes
+pub mod Ways
+pub mod Steps
+pub mod Levels
+pub mod ScopeViews
+pub mod Lines
+pub mod Rules
+pub mod Models
+pub mod Limits
+pub mod Resolved
+pub mod Values
+pub mod Sound

@@ -1,0 +1,148 @@
+// What tables, topics and a whole model stand for.
+ghost use Rattle.std.specs.Prelude.{◌≡◌, [], All, map, IfOk};
+ghost use Rattle.ili_grammar.specs.Limits.{IsWithinLimits};
+ghost use Rattle.ili_grammar.specs.Values.{model_of, table_of, tables_of, topic_of, topics_of};
+ghost use Rattle.resolver.specs.Levels.{domains_in, StepsFrom};
+ghost use Rattle.resolver.specs.Limits.{IsModestDomain, IsModestScope, IsModestTable, IsModestTopic};
+ghost use Rattle.resolver.specs.Scopes.{everywhere, outside};
+ghost use Rattle.resolver.specs.ScopeViews.{scope_of};
+ghost use Rattle.resolver.specs.Models.{table, topic, resolved_model};
+ghost use Rattle.resolver.specs.Values.{model_of as built_model, table_of as built_table, tables_of as built_tables, topic_of as built_topic, topics_of as built_topics};
+
+use super::attributes::{attributes, ident_places};
+use super::directory::Directory;
+use super::level::Level;
+use super::models::{ModelTable, ResolvedModel, Topic};
+use super::scope::Scope;
+use super::topics::{push_domains, table_names};
+use ili_grammar::{ModelSyntax, TableSyntax, TopicSyntax};
+use ports::{Memory, Name};
+use std::alloc::Global;
+
+// What a table stands for.
+fn table<'a>(
+    alloc: Global,
+    outer: &Scope<'_, 'a>,
+    scope: &Scope<'_, 'a>,
+    written: &'a TableSyntax,
+) -> Result<ModelTable, Memory>
+    requires scope { IsModestScope (scope_of scope.now) }
+    requires outer { scope_of outer.now ≡ outside (scope_of scope.now).above }
+    requires written { IsModestTable (table_of written.now) }
+    ensures { IfOk result (λ t. built_table t ≡ table (scope_of scope.now) (table_of written.now)) }
+{
+    Ok(ModelTable {
+        name: Name::new(alloc, written.name.text.bytes())?,
+        attributes: attributes(alloc, outer, scope, &written.attributes)?,
+        idents: ident_places(alloc, &written.attributes, &written.idents)?,
+    })
+}
+
+// What the tables of a topic stand for.
+fn tables<'a>(
+    alloc: Global,
+    outer: &Scope<'_, 'a>,
+    scope: &Scope<'_, 'a>,
+    written: &'a [TableSyntax],
+) -> Result<Vec<ModelTable>, Memory>
+    requires scope { IsModestScope (scope_of scope.now) }
+    requires outer { scope_of outer.now ≡ outside (scope_of scope.now).above }
+    requires written { All IsModestTable (tables_of written.now) }
+    ensures { IfOk result (λ ts. built_tables ts.items ≡ map (table (scope_of scope.now)) (tables_of written.now)) }
+{
+    let mut done = Vec::new(alloc);
+    for each in written {
+        done.push(table(alloc, outer, scope, each)?)?;
+    }
+    Ok(done)
+}
+
+// What a topic stands for, where the domains of `above` are declared outside, and `outer` is
+// their scope.
+fn topic<'a>(
+    alloc: Global,
+    outer: &Scope<'_, 'a>,
+    above: &Level<'a>,
+    written: &'a TopicSyntax,
+) -> Result<Topic, Memory>
+    requires steps { StepsFrom [] above.now }
+    requires above { All IsModestDomain (domains_in above.now) }
+    requires outer { scope_of outer.now ≡ outside (domains_in above.now) }
+    requires written { IsModestTopic (topic_of written.now) }
+    ensures { IfOk result (λ t. built_topic t ≡ topic (domains_in above.now) (topic_of written.now)) }
+{
+    let mut domains = Vec::new(alloc);
+    push_domains(&written.domains, &mut domains)?;
+    let own = Level::new(alloc, above.names(), domains)?;
+    let directory = Directory::new(alloc, table_names(alloc, &written.tables)?)?;
+    let scope = Scope {
+        above,
+        own: &own,
+        tables: &directory,
+    };
+    let tables = tables(alloc, outer, &scope, &written.tables)?;
+    Ok(Topic {
+        name: Name::new(alloc, written.name.text.bytes())?,
+        tables,
+    })
+}
+
+// What the topics of a model stand for.
+fn topics<'a>(
+    alloc: Global,
+    outer: &Scope<'_, 'a>,
+    above: &Level<'a>,
+    written: &'a [TopicSyntax],
+) -> Result<Vec<Topic>, Memory>
+    requires steps { StepsFrom [] above.now }
+    requires above { All IsModestDomain (domains_in above.now) }
+    requires outer { scope_of outer.now ≡ outside (domains_in above.now) }
+    requires written { All IsModestTopic (topics_of written.now) }
+    ensures { IfOk result (λ ts. built_topics ts.items ≡ map (topic (domains_in above.now)) (topics_of written.now)) }
+{
+    let mut done = Vec::new(alloc);
+    for each in written {
+        done.push(topic(alloc, outer, above, each)?)?;
+    }
+    Ok(done)
+}
+
+// What topics stand for, where the domains of `above` are declared outside.
+fn topics_within<'a>(
+    alloc: Global,
+    above: &Level<'a>,
+    written: &'a [TopicSyntax],
+) -> Result<Vec<Topic>, Memory>
+    requires steps { StepsFrom [] above.now }
+    requires above { All IsModestDomain (domains_in above.now) }
+    requires written { All IsModestTopic (topics_of written.now) }
+    ensures { IfOk result (λ ts. built_topics ts.items ≡ map (topic (domains_in above.now)) (topics_of written.now)) }
+{
+    let none = Directory::new(alloc, Vec::new(alloc))?;
+    let nothing = Level::new(alloc, &none, Vec::new(alloc))?;
+    let outer = Scope {
+        above: &nothing,
+        own: above,
+        tables: &none,
+    };
+    topics(alloc, &outer, above, written)
+}
+
+/// What a model stands for, where the domains of `above` are those outside its topics.
+pub fn model<'a>(
+    alloc: Global,
+    above: &Level<'a>,
+    written: &'a ModelSyntax,
+) -> Result<ResolvedModel, Memory>
+    requires within { IsWithinLimits (model_of written.now) }
+    requires steps { StepsFrom [] above.now }
+    requires domains { domains_in above.now ≡ everywhere (model_of written.now) }
+    ensures { IfOk result (λ m. built_model m ≡ resolved_model (model_of written.now)) }
+{
+    let topics = topics_within(alloc, above, &written.topics)?;
+    Ok(ResolvedModel {
+        name: Name::new(alloc, written.model.text.bytes())?,
+        codes: written.codes,
+        topics,
+    })
+}

@@ -1,0 +1,93 @@
+// Names in the order of the text, each with the place of the first that has it.
+ghost use Rattle.std.specs.Prelude.{nat_eq, IfOk};
+ghost use Rattle.std.specs.Cmp.Lexicographic.{pointwise};
+ghost use Rattle.indexmap.specs.IndexMap.{get};
+ghost use Rattle.resolver.specs.Indexed.{IsIndex, idents};
+
+use super::earliest::Earliest;
+use super::faults::ModelCode;
+use super::key::Key;
+use ili_grammar::Ident;
+use indexmap::IndexMap;
+use ports::Memory;
+use std::alloc::Global;
+
+/// Names in the order of the text, and for each name the place of the first that has it.
+#[derive(Drop)]
+pub struct Directory<'a> {
+    names: Vec<&'a Ident>,
+    places: IndexMap<Key<'a>, usize>,
+    ghost indexed: { IsIndex (get (pointwise nat_eq) places) (idents names.items) },
+}
+
+// The first place of each name.
+fn first_places<'a>(alloc: Global, names: &[&'a Ident]) -> Result<IndexMap<Key<'a>, usize>, Memory>
+    ensures { IfOk result (λ m. IsIndex (get (pointwise nat_eq) m) (idents names.now)) }
+{
+    let mut places = IndexMap::new(alloc);
+    for place in (0..names.len()).rev() {
+        places.insert(Key::of(names[place]), place)?;
+    }
+    Ok(places)
+}
+
+impl<'a> Directory<'a> {
+    ghost use Rattle.std.specs.Prelude.{◌≡◌, ◌++◌, map, take, IfOk};
+    ghost use Rattle.resolver.specs.Scopes.{texts, place, is_among};
+    ghost use Rattle.resolver.specs.Faults.{first_from};
+    ghost use Rattle.resolver.specs.Rules.{twice, entry};
+    ghost use Rattle.resolver.specs.Indexed.{idents};
+    ghost use Rattle.resolver.specs.Directories.{names_in};
+    ghost use Rattle.resolver.specs.Told.{told};
+
+    /// The names in their order.
+    pub fn new(alloc: Global, names: Vec<&'a Ident>) -> Result<Directory<'a>, Memory>
+        ensures { IfOk result (λ d. names_in d ≡ idents names.entry.items) }
+    {
+        let places = first_places(alloc, &names)?;
+        Ok(Directory { names, places })
+    }
+
+    /// The place of the first name with these bytes, from 0.
+    pub fn place(&self, name: &[u8]) -> Option<usize>
+        ensures { result ≡ place name.now (texts (names_in self.now)) }
+    {
+        self.places.get(&Key::new(name)).copied()
+    }
+
+    /// Whether a name has these bytes.
+    #[tactic(auto, using(crate::proofs::Indexes::among_place))]
+    pub fn has(&self, name: &[u8]) -> bool
+        ensures { result ≡ is_among name.now (texts (names_in self.now)) }
+    {
+        self.place(name).is_some()
+    }
+
+    // Whether one of the first names has these bytes.
+    fn has_before(&self, name: &[u8], end: usize) -> bool
+        ensures { result ≡ is_among name.now (take end (texts (names_in self.now))) }
+    {
+        match self.place(name) {
+            Some(place) => place < end,
+            None => false,
+        }
+    }
+
+    // Whether a name of `above` or one of the first names here has these bytes.
+    #[tactic(auto, using(crate::proofs::Indexes::any_append))]
+    fn stands_before(&self, above: &Directory<'a>, name: &[u8], end: usize) -> bool
+        ensures { result ≡ is_among name.now (texts (names_in above.now) ++ take end (texts (names_in self.now))) }
+    {
+        above.has(name) || self.has_before(name, end)
+    }
+
+    /// Tells each name that stands among those of `above` or among the names before it.
+    pub fn tell_twice(&self, above: &Directory<'a>, earliest: &mut Earliest<'a>)
+        ensures { told earliest.new ≡ first_from (told earliest.old) (twice (texts (names_in above.now)) (map entry (names_in self.now))) }
+    {
+        for (place, name) in self.names.iter().enumerate() {
+            let again = self.stands_before(above, name.text.bytes(), place);
+            earliest.tell(again, ModelCode::Twice, name);
+        }
+    }
+}

@@ -1,0 +1,58 @@
+//! Names and types of a model: what is written becomes what it stands for (INTERLIS 1,
+//! SN 612030).
+//!
+//! - **What is defined.** `specs/Rules` has all rules on names and types as one list of faults
+//!   (`faults`), and the fault that counts (`first_fault`): the earliest name in the text, and at
+//!   one name the first code. `specs/Models` has what a model without fault stands for
+//!   (`resolved_model`), a function of its syntax. `specs/Sound` says what the next layer needs
+//!   of it.
+//! - **What is there.** The types of a resolved model, and the call `resolve`, which names the
+//!   fault that counts or gives what the model stands for. Its parts: first declarations and
+//!   names declared twice (`directory`), where ways through names end and which domains stand on
+//!   a circle (`ways`, `level`), what a name and a type stand for in a scope (`scope`), bounds and
+//!   overlaps at a scale (`numbers`), the faults of names, types, lines, domains, tables and
+//!   topics (`names` to `topics`), and what types, lines, attributes, tables and topics stand for
+//!   (`forms` to `build`).
+//! - **What is not there yet.** That a resolved model is sound, as `specs/Sound` says, is no
+//!   clause of `resolve` and not proved.
+//! - **Degenerate cases:** a domain may be used before its declaration; of two declarations the
+//!   first counts; a way may end nowhere, by an unknown name or on a circle.
+//!
+//! Cost: names are looked up in maps; the ends of ways take 22 passes over the domains of a
+//! topic, each in proportion to their number.
+#![tactic(auto)]
+
+mod attributes;
+mod build;
+mod directory;
+mod domains;
+mod earliest;
+mod faults;
+mod forms;
+mod helpers;
+mod key;
+mod kinds;
+mod leaves;
+mod level;
+mod line_forms;
+mod lines;
+mod models;
+mod names;
+mod numbers;
+mod resolving;
+mod rules;
+mod scope;
+mod shape;
+mod tables;
+#[cfg(test)]
+mod tests;
+mod topics;
+mod values;
+mod ways;
+
+pub use faults::{ModelCode, ModelFault};
+pub use models::{
+    Attribute, AttributeForm, Block, Form, Limits, LineForm, LinePart, ModelTable, Places,
+    ResolvedModel, Topic, Window,
+};
+pub use resolving::resolve;

@@ -1,0 +1,205 @@
+// The rules on types: of a domain, of an attribute, and of the attributes of a line.
+ghost use Rattle.std.specs.Prelude.{◌≡◌, ◌++◌, OnOk};
+ghost use Rattle.std.specs.Option.{option_map};
+ghost use Rattle.ili_grammar.specs.Values.{ident_of, decimal_of, element_of, elements_of, type_of, line_of, attribute_of, attributes_of};
+ghost use Rattle.resolver.specs.Faults.{first_from};
+ghost use Rattle.resolver.specs.Told.{told};
+ghost use Rattle.resolver.specs.ScopeViews.{scope_of};
+ghost use Rattle.ili_grammar.specs.Limits.{IsSmallType, IsSmallLine, IsSmallAttribute, AreSmallAttributes};
+ghost use Rattle.resolver.specs.Limits.{IsSmallOverlap, IsSmallScope};
+ghost use Rattle.resolver.specs.Rules.{kind_faults, vertex_faults, element_names, twice_in, element_faults, parts_faults, line_attribute_fault, line_attribute_faults, type_faults, line_faults, attribute_faults};
+
+use super::earliest::Earliest;
+use super::faults::ModelCode;
+use super::lines::{is_long_overlap, stands_for_line, suits};
+use super::names::{tell_elements, tell_names, tell_reference, tell_type_name};
+use super::numbers::{is_text_length, is_wide, tell_corners2, tell_corners3, tell_span};
+use super::scope::Scope;
+use super::shape::Shape;
+use ili_grammar::{AttributeSyntax, Content, Decimal, Element, Ident, LineSyntax, TypeSyntax};
+use ports::Memory;
+use std::alloc::Global;
+
+// Tells what is wrong with vertices of a type.
+#[tactic(auto, using(crate::proofs::Folds::first_append))]
+fn tell_kind<'a>(
+    kind: &'a TypeSyntax,
+    owner: &'a Ident,
+    shape: Shape,
+    vertex: &'a Ident,
+    overlap: Option<Decimal>,
+    earliest: &mut Earliest<'a>,
+)
+    requires kind { IsSmallType (type_of kind.now) }
+    requires overlap { IsSmallOverlap (option_map decimal_of overlap) }
+    ensures { told earliest.new ≡ first_from (told earliest.old) (kind_faults (ident_of owner.now) shape (ident_of vertex.now) (option_map decimal_of overlap) (type_of kind.now)) }
+{
+    earliest.tell(is_long_overlap(overlap, kind), ModelCode::Decimals, owner);
+    earliest.tell(!suits(shape, kind), ModelCode::NotCoord, vertex);
+    let wide = matches!(shape, Shape::Area) && is_wide(kind);
+    earliest.tell(wide, ModelCode::Wide, vertex);
+}
+
+// Tells what is wrong with the vertices of a line.
+#[tactic(auto, using(crate::proofs::Folds::first_append))]
+fn tell_vertex<'a>(
+    scope: &Scope<'_, 'a>,
+    owner: &'a Ident,
+    shape: Shape,
+    vertex: &'a Ident,
+    overlap: Option<Decimal>,
+    earliest: &mut Earliest<'a>,
+)
+    requires scope { IsSmallScope (scope_of scope.now) }
+    requires overlap { IsSmallOverlap (option_map decimal_of overlap) }
+    ensures { told earliest.new ≡ first_from (told earliest.old) (vertex_faults (scope_of scope.now) (ident_of owner.now) shape (ident_of vertex.now) (option_map decimal_of overlap)) }
+{
+    tell_type_name(scope, vertex, earliest);
+    match scope.meaning(vertex.text.bytes()) {
+        Some(meaning) => tell_kind(meaning.kind, owner, shape, vertex, overlap, earliest),
+        None => {}
+    }
+}
+
+// Tells an attribute of a line that is a line.
+#[tactic(auto, using(crate::proofs::Collecting::attribute_out))]
+fn tell_line_attribute<'a>(
+    scope: &Scope<'_, 'a>,
+    attribute: &'a AttributeSyntax,
+    earliest: &mut Earliest<'a>,
+)
+    ensures { told earliest.new ≡ first_from (told earliest.old) (line_attribute_fault (scope_of scope.now) (attribute_of attribute.now)) }
+{
+    let line = stands_for_line(scope, &attribute.content);
+    earliest.tell(line, ModelCode::LineAttr, &attribute.name);
+}
+
+// Tells each attribute of a line that is a line.
+fn tell_line_attributes<'a>(
+    scope: &Scope<'_, 'a>,
+    attributes: &'a [AttributeSyntax],
+    earliest: &mut Earliest<'a>,
+)
+    ensures { told earliest.new ≡ first_from (told earliest.old) (line_attribute_faults (scope_of scope.now) (attributes_of attributes.now)) }
+{
+    for attribute in attributes {
+        tell_line_attribute(scope, attribute, earliest);
+    }
+}
+
+// Tells each element that has the name of an earlier one of its list, in the parts of an element.
+fn tell_parts<'a>(
+    element: &'a Element,
+    alloc: Global,
+    earliest: &mut Earliest<'a>,
+) -> Result<(), Memory>
+    ensures { OnOk result (told earliest.new ≡ first_from (told earliest.old) (element_faults (element_of element.now))) }
+{
+    tell_elements(alloc, &element.parts, earliest)?;
+    for part in &element.parts {
+        tell_parts(part, alloc, earliest)?;
+    }
+    Ok(())
+}
+
+// Tells what is wrong with an enumeration.
+#[tactic(auto, using(crate::proofs::Folds::first_append))]
+fn tell_enumeration<'a>(
+    elements: &'a [Element],
+    alloc: Global,
+    earliest: &mut Earliest<'a>,
+) -> Result<(), Memory>
+    ensures { OnOk result (told earliest.new ≡ first_from (told earliest.old) (twice_in (element_names (elements_of elements.now)) ++ parts_faults (elements_of elements.now))) }
+{
+    tell_elements(alloc, elements, earliest)?;
+    for element in elements {
+        tell_parts(element, alloc, earliest)?;
+    }
+    Ok(())
+}
+
+/// Tells what is wrong with a type that is written at the attribute or domain `owner`.
+#[cycle(rules)]
+pub fn tell_type<'a>(
+    kind: &'a TypeSyntax,
+    owner: &'a Ident,
+    alloc: Global,
+    scope: &Scope<'_, 'a>,
+    earliest: &mut Earliest<'a>,
+) -> Result<(), Memory>
+    requires kind { IsSmallType (type_of kind.now) }
+    requires scope { IsSmallScope (scope_of scope.now) }
+    ensures { OnOk result (told earliest.new ≡ first_from (told earliest.old) (type_faults (scope_of scope.now) (ident_of owner.now) (type_of kind.now))) }
+{
+    match kind {
+        TypeSyntax::Named(name) => tell_type_name(scope, name, earliest),
+        TypeSyntax::Coord2(corners) => tell_corners2(owner, *corners, earliest),
+        TypeSyntax::Coord3(corners) => tell_corners3(owner, *corners, earliest),
+        TypeSyntax::Dim1(span) => tell_span(owner, *span, earliest),
+        TypeSyntax::Dim2(span) => tell_span(owner, *span, earliest),
+        TypeSyntax::Radians(span) => tell_span(owner, *span, earliest),
+        TypeSyntax::Grads(span) => tell_span(owner, *span, earliest),
+        TypeSyntax::Degrees(span) => tell_span(owner, *span, earliest),
+        TypeSyntax::Range(span) => tell_span(owner, *span, earliest),
+        TypeSyntax::Text(length) => {
+            earliest.tell(!is_text_length(*length), ModelCode::Bounds, owner);
+        }
+        TypeSyntax::Enumeration(elements) => tell_enumeration(elements, alloc, earliest)?,
+        TypeSyntax::Polyline(line) => {
+            tell_line(line, owner, Shape::Polyline, alloc, scope, earliest)?;
+        }
+        TypeSyntax::Surface(line) => {
+            tell_line(line, owner, Shape::Surface, alloc, scope, earliest)?;
+        }
+        TypeSyntax::Area(line) => {
+            tell_line(line, owner, Shape::Area, alloc, scope, earliest)?;
+        }
+        TypeSyntax::Date | TypeSyntax::HAlignment | TypeSyntax::VAlignment => {}
+    }
+    Ok(())
+}
+
+// Tells what is wrong with a line that is written at `owner`.
+#[tactic(auto, using(crate::proofs::Types::short_first))]
+#[cycle(rules)]
+fn tell_line<'a>(
+    line: &'a LineSyntax,
+    owner: &'a Ident,
+    shape: Shape,
+    alloc: Global,
+    scope: &Scope<'_, 'a>,
+    earliest: &mut Earliest<'a>,
+) -> Result<(), Memory>
+    requires line { IsSmallLine (line_of line.now) }
+    requires scope { IsSmallScope (scope_of scope.now) }
+    ensures { OnOk result (told earliest.new ≡ first_from (told earliest.old) (line_faults (scope_of scope.now) (ident_of owner.now) shape (line_of line.now))) }
+{
+    tell_vertex(scope, owner, shape, &line.vertex, line.overlap, earliest);
+    tell_names(alloc, &line.attributes, &line.idents, earliest)?;
+    tell_line_attributes(scope, &line.attributes, earliest);
+    for attribute in &line.attributes {
+        tell_attribute(attribute, alloc, scope, earliest)?;
+    }
+    Ok(())
+}
+
+/// Tells what is wrong with an attribute.
+#[cycle(rules)]
+pub fn tell_attribute<'a>(
+    attribute: &'a AttributeSyntax,
+    alloc: Global,
+    scope: &Scope<'_, 'a>,
+    earliest: &mut Earliest<'a>,
+) -> Result<(), Memory>
+    requires attribute { IsSmallAttribute (attribute_of attribute.now) }
+    requires scope { IsSmallScope (scope_of scope.now) }
+    ensures { OnOk result (told earliest.new ≡ first_from (told earliest.old) (attribute_faults (scope_of scope.now) (attribute_of attribute.now))) }
+{
+    match &attribute.content {
+        Content::Value(kind) => tell_type(kind, &attribute.name, alloc, scope, earliest),
+        Content::Reference(name) => {
+            tell_reference(scope, name, earliest);
+            Ok(())
+        }
+    }
+}
