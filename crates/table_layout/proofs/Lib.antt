@@ -1,0 +1,9 @@
+pub mod Listed
+pub mod Shapes
+pub mod Steps
+pub mod Counts
+pub mod Whole
+pub mod Located
+pub mod HelpersValid
+pub mod Validity
+pub mod Rows

@@ -1,0 +1,96 @@
+-- The layout of a sound model is valid.
+use Rattle.std.proofs.Common.{◌≡◌, ◌<◌, ◌≤◌, ◌+◌, ℕ, List, [], ◌∷◌, ◌++◌, Some, length, refl, ◌∙◌, sym, ap, subst, arith, length-append, append_assoc}
+use Rattle.std.specs.Prelude.{slice_get}
+use Rattle.std.specs.List.{All, flat_map}
+use Rattle.std.proofs.lemmas.List.{length-map}
+use Rattle.std.proofs.lemmas.List.Elements.{All-nil, All-cons, All-head, All-tail, All-append}
+use Rattle.resolver.specs.Resolved.{ModelTable, Topic, ResolvedModel}
+use Rattle.resolver.specs.Sound.{listed, IsSound, IsSoundTable, IsSoundTopic}
+use Rattle.table_layout.specs.Layouts.{Role, Main, AreaLines, SurfaceLines, Table, AreaOf, Layout}
+use Rattle.table_layout.specs.Tables.{Owner, areas_in, surfaces_in, tables_in, numbers_from, area_tables, surface_table, main_table, with_helpers, tables_beside, topic_tables, tables_from, column_name, area_of, areas_from, topic_names_of}
+use Rattle.table_layout.specs.Few.{numbers_in}
+use Rattle.table_layout.specs.Valid.{IsTable, IsArea, IsValid}
+use Rattle.table_layout.proofs.Counts.{length-areas, length-with_helpers, length-topic, numbers_few}
+use Rattle.table_layout.proofs.Steps.{length-numbers}
+use Rattle.table_layout.proofs.HelpersValid.{get_at, with_helpers_valid}
+
+got_at : {A : Type 0} (whole before : List A) (x : A) (after : List A) (n : ℕ) → whole ≡ before ++ x ∷ after → length before ≡ n → slice_get whole n ≡ Some x
+got_at {A} whole before x after n e l = ap (λ (s : List A). slice_get s n) e ∙ subst (λ k. slice_get (before ++ x ∷ after) k ≡ Some x) l (get_at before x after)
+
+-- ---- a topic
+numbers_below : (n first : ℕ) (ts : List ModelTable) → first + tables_in ts ≤ n → All (λ m. m < n) (numbers_from first ts)
+numbers_below n first [] h = All-nil (λ m. m < n)
+numbers_below n first (t ∷ ts) h =
+    let next : ℕ = first + areas_in (listed t.attributes) + 1 + surfaces_in (listed t.attributes) in
+    All-cons (λ m. m < n) (first + areas_in (listed t.attributes)) (numbers_from next ts) (omega arith) (numbers_below n next ts (omega arith))
+
+regroup_main : (pre a : List Table) (m : Table) (s rest post : List Table) → pre ++ (((a ++ m ∷ s) ++ rest) ++ post) ≡ (pre ++ a) ++ m ∷ (s ++ (rest ++ post))
+regroup_main pre a m s rest post = simp append_assoc
+
+regroup : (pre block rest post : List Table) → pre ++ ((block ++ rest) ++ post) ≡ (pre ++ block) ++ (rest ++ post)
+regroup pre block rest post = simp append_assoc
+
+topic_valid : (count n : ℕ) (whole : List Table) (mains : List ℕ) (first : ℕ) (ts : List ModelTable) (pre post : List Table) → n < count → All (λ m. m < length whole) mains → whole ≡ pre ++ (tables_beside n mains (numbers_from first ts) ts ++ post) → length pre ≡ first
+    → All (IsSoundTable (length mains)) ts → All (IsTable count whole) (tables_beside n mains (numbers_from first ts) ts)
+topic_valid count n whole mains first [] pre post topic all e l h = All-nil (IsTable count whole)
+topic_valid count n whole mains first (t ∷ ts) pre post topic all e l h =
+    let own = listed t.attributes in
+    let w : Owner = record { topic = n; mains = mains; main = first + areas_in own; name = t.name } in
+    let block : List Table = with_helpers w own t.idents in
+    let next : ℕ = first + areas_in own + 1 + surfaces_in own in
+    let rest : List Table = tables_beside n mains (numbers_from next ts) ts in
+    let far : length (pre ++ area_tables w 0 own) ≡ first + areas_in own = omega (arith, length-append pre (area_tables w 0 own), length-areas w 0 own) in
+    let main = got_at whole (pre ++ area_tables w 0 own) (main_table w own t.idents) (flat_map (surface_table w) own ++ (rest ++ post)) (first + areas_in own) (e ∙ regroup_main pre (area_tables w 0 own) (main_table w own t.idents) (flat_map (surface_table w) own) rest post) far in
+    let further : length (pre ++ block) ≡ next = omega (arith, length-append pre block, length-with_helpers w own t.idents) in
+    All-append (IsTable count whole) block rest
+    (with_helpers_valid count whole w own t.idents topic all main (All-head (IsSoundTable (length mains)) t ts h).attributes)
+    (topic_valid count n whole mains next ts (pre ++ block) post topic all (e ∙ regroup pre block rest post) further (All-tail (IsSoundTable (length mains)) t ts h))
+
+-- ---- all topics
+topics_valid : (count : ℕ) (whole : List Table) (n first : ℕ) (ts : List Topic) (pre : List Table) → whole ≡ pre ++ tables_from n first ts → length pre ≡ first → n + length ts ≤ count → All IsSoundTopic ts → All (IsTable count whole) (tables_from n first ts)
+topics_valid count whole n first [] pre e l few h = All-nil (IsTable count whole)
+topics_valid count whole n first (t ∷ ts) pre e l few h =
+    let one : List Table = topic_tables n first t.tables in
+    let rest : List Table = tables_from (n + 1) (first + length one) ts in
+    let long : length whole ≡ length pre + (length one + length rest) = ap (length {A = Table}) e ∙ omega (arith, length-append pre (one ++ rest), length-append one rest) in
+    let all = numbers_below (length whole) first t.tables (omega (arith, length-topic n first t.tables)) in
+    let sound = subst (λ k. All (IsSoundTable k) t.tables) (sym (length-numbers first t.tables)) (All-head IsSoundTopic t ts h) in
+    let further : length (pre ++ one) ≡ first + length one = omega (arith, length-append pre one) in
+    All-append (IsTable count whole) one rest
+    (topic_valid count n whole (numbers_from first t.tables) first t.tables pre rest (omega arith) all e l sound)
+    (topics_valid count whole (n + 1) (first + length one) ts (pre ++ one) (e ∙ sym (append_assoc pre one rest)) further (omega arith) (All-tail IsSoundTopic t ts h))
+
+length_from : (n first : ℕ) (ts : List Topic) → length (tables_from n first ts) ≤ numbers_in ts
+length_from n first [] = omega arith
+length_from n first (t ∷ ts) =
+    let one : List Table = topic_tables n first t.tables in
+    omega (arith, length-append one (tables_from (n + 1) (first + length one) ts), length-topic n first t.tables, length_from (n + 1) (first + length one) ts)
+
+-- ---- areas
+one_area : (whole : List Table) (i : ℕ) (t : Table) (r : Role) → slice_get whole i ≡ Some t → t.role ≡ r → All (IsArea whole) (area_of whole i r)
+one_area whole i t Main e f = All-nil (IsArea whole)
+one_area whole i t (SurfaceLines m) e f = All-nil (IsArea whole)
+one_area whole i t (AreaLines m c) e f =
+    let a : AreaOf = record { lines = i; main = m; column = c; name = column_name whole m c } in
+    All-cons (IsArea whole) a [] (record { helper = t; lines = e; role = f; name = refl }) (All-nil (IsArea whole))
+
+areas_valid : (whole : List Table) (i : ℕ) (ts pre : List Table) → whole ≡ pre ++ ts → length pre ≡ i → All (IsArea whole) (areas_from whole i ts)
+areas_valid whole i [] pre e l = All-nil (IsArea whole)
+areas_valid whole i (t ∷ ts) pre e l =
+    let further : length (pre ++ t ∷ []) ≡ i + 1 = omega (arith, length-append pre (t ∷ [])) in
+    All-append (IsArea whole) (area_of whole i t.role) (areas_from whole (i + 1) ts)
+    (one_area whole i t t.role (got_at whole pre t ts i e l) refl)
+    (areas_valid whole (i + 1) ts (pre ++ t ∷ []) (e ∙ sym (append_assoc pre (t ∷ []) ts)) further)
+
+-- ---- the whole
+pub few_tables : (m : ResolvedModel) (tables : List Table) → IsSound m → tables ≡ tables_from 0 0 m.topics → length tables ≤ 4194304
+few_tables m tables h e = omega (arith, ap (length {A = Table}) e, length_from 0 0 m.topics, numbers_few m.topics, h.few)
+
+pub valid : (m : ResolvedModel) (l : Layout) → IsSound m → l.topics ≡ topic_names_of m.topics → l.tables ≡ tables_from 0 0 m.topics → l.areas ≡ areas_from l.tables 0 l.tables → IsValid l
+valid m l h names e areas =
+    let count : length l.topics ≡ length m.topics = ap (length {A = List ℕ}) names ∙ length-map m.topics (λ (t : Topic). t.name) in
+    record {
+      few = few_tables m l.tables h e;
+      tables = subst (λ ts. All (IsTable (length l.topics) l.tables) ts) (sym e) (topics_valid (length l.topics) l.tables 0 0 m.topics [] e refl (omega arith) h.topics);
+      areas = subst (λ s. All (IsArea l.tables) s) (sym areas) (areas_valid l.tables 0 l.tables [] refl refl);
+    }

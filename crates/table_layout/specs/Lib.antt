@@ -1,0 +1,7 @@
+pub mod Layouts
+pub mod Values
+pub mod Finding
+pub mod Attributes
+pub mod Tables
+pub mod Valid
+pub mod Few

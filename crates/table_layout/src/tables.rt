@@ -1,0 +1,213 @@
+// The tables that stand for a declared table: its helper tables, and itself between them.
+ghost use Rattle.std.specs.Prelude.{◌≡◌, ◌≤◌, ◌+◌, ◌++◌, [], ◌∷◌, length, map, IfOk};
+ghost use Rattle.std.specs.Result.{OnOk};
+ghost use Rattle.std.specs.List.{All, flat_map};
+ghost use Rattle.resolver.specs.Values.{attribute_of, attributes_of, line_of, places_of};
+ghost use Rattle.resolver.specs.Sound.{listed};
+ghost use Rattle.table_layout.specs.Few.{HasFew, AreFew};
+ghost use Rattle.table_layout.specs.Tables.{area_count, areas_in, surface_count, surfaces_in, helper_name, boundary, area_table, area_tables, owner_column, surface_table, main_table, with_helpers};
+ghost use Rattle.table_layout.specs.Values.{column_view, lines_view, table_view, tables_view, owner_view};
+
+use super::attributes::{
+    add_columns, area, columns_given, copied, copied_line, lines, own, surface,
+};
+use super::idents::idents;
+use super::layouts::{Column, Role, Table, TableId};
+use ports::{Memory, Name};
+use resolver::{Attribute, Form, LineForm, ModelTable};
+use std::alloc::Global;
+
+/// A declared table: the number of its topic, the numbers of the topic's main tables in the whole
+/// list, its own number there, and its name.
+#[derive(Clone, Copy)]
+pub struct Owner<'a> {
+    pub topic: u32,
+    pub mains: &'a [u32],
+    pub main: u32,
+    pub name: &'a Name,
+}
+
+/// Adds the helper tables of the AREA attributes, the table itself, and the helper tables of the
+/// SURFACE attributes.
+pub fn add_tables(
+    alloc: Global,
+    owner: Owner<'_>,
+    table: &ModelTable,
+    tables: &mut Vec<Table>,
+) -> Result<(), Memory>
+    requires { AreFew (map attribute_of table.now.attributes.items) }
+    ensures { OnOk result (tables_view tables.new.items ≡ tables_view tables.old.items ++ with_helpers (owner_view owner.entry) (map attribute_of table.now.attributes.items) (places_of table.now.idents.items)) }
+{
+    add_area_tables(alloc, owner, &table.attributes, tables)?;
+    tables.push(main_table(alloc, owner, table)?)?;
+    add_surface_tables(alloc, owner, &table.attributes, tables)
+}
+
+// The declared table itself.
+fn main_table(alloc: Global, owner: Owner<'_>, table: &ModelTable) -> Result<Table, Memory>
+    requires { AreFew (map attribute_of table.now.attributes.items) }
+    ensures { IfOk result (λ t. table_view t ≡ main_table (owner_view owner.entry) (map attribute_of table.now.attributes.items) (places_of table.now.idents.items)) }
+{
+    let mut columns = Vec::new(alloc);
+    add_columns(alloc, &table.attributes, owner.mains, &mut columns)?;
+    Ok(Table {
+        topic: owner.topic,
+        name: copied(alloc, owner.name)?,
+        role: Role::Main,
+        columns,
+        lines: lines(alloc, &table.attributes)?,
+        idents: idents(alloc, 0, &table.attributes, &table.idents)?,
+    })
+}
+
+// ---- helper tables
+
+// The table's name, `_` and the attribute's name.
+fn helper_name(alloc: Global, table: &Name, attribute: &Name) -> Result<Name, Memory>
+    ensures { IfOk result (λ name. name ≡ helper_name table.now attribute.now) }
+{
+    let mut bytes = table.bytes().to_vec(alloc)?;
+    bytes.push(b'_')?;
+    bytes.extend_from_slice(attribute.bytes())?;
+    Name::new(alloc, &bytes)
+}
+
+// The one line of a helper table, which may not be missing.
+fn boundary(alloc: Global, line: &LineForm) -> Result<Vec<LineForm>, Memory>
+    ensures { IfOk result (λ lines. lines_view lines.items ≡ boundary (line_of line.now)) }
+{
+    let mut lines = Vec::new(alloc);
+    lines.push(copied_line(alloc, line, false)?)?;
+    Ok(lines)
+}
+
+fn add_area_tables(
+    alloc: Global,
+    owner: Owner<'_>,
+    attributes: &[Attribute],
+    tables: &mut Vec<Table>,
+) -> Result<(), Memory>
+    requires { AreFew (map attribute_of attributes.now) }
+    ensures { OnOk result (tables_view tables.new.items ≡ tables_view tables.old.items ++ area_tables (owner_view owner.entry) 0 (map attribute_of attributes.now)) }
+{
+    let mut column = 0;
+    for attribute in attributes {
+        add_area_table(alloc, owner, column, attribute, tables)?;
+        column += columns_given(attribute);
+    }
+    Ok(())
+}
+
+// The table of an AREA attribute, which is this column of its table.
+fn add_area_table(
+    alloc: Global,
+    owner: Owner<'_>,
+    column: u32,
+    attribute: &Attribute,
+    tables: &mut Vec<Table>,
+) -> Result<(), Memory>
+    requires { HasFew (attribute_of attribute.now) }
+    ensures { OnOk result (tables_view tables.new.items ≡ tables_view tables.old.items ++ area_table (owner_view owner.entry) column (attribute_of attribute.now)) }
+{
+    if let Some((line, part)) = area(attribute) {
+        let (attributes, lists) = own(part);
+        let mut columns = Vec::new(alloc);
+        add_columns(alloc, attributes, owner.mains, &mut columns)?;
+        let main = TableId(owner.main);
+        tables.push(Table {
+            topic: owner.topic,
+            name: helper_name(alloc, owner.name, &attribute.name)?,
+            role: Role::AreaLines { main, column },
+            columns,
+            lines: boundary(alloc, line)?,
+            idents: idents(alloc, 0, attributes, lists)?,
+        })?;
+    }
+    Ok(())
+}
+
+fn add_surface_tables(
+    alloc: Global,
+    owner: Owner<'_>,
+    attributes: &[Attribute],
+    tables: &mut Vec<Table>,
+) -> Result<(), Memory>
+    requires { AreFew (map attribute_of attributes.now) }
+    ensures { OnOk result (tables_view tables.new.items ≡ tables_view tables.old.items ++ flat_map (surface_table (owner_view owner.entry)) (map attribute_of attributes.now)) }
+{
+    for attribute in attributes {
+        add_surface_table(alloc, owner, attribute, tables)?;
+    }
+    Ok(())
+}
+
+// The table of a SURFACE attribute, which refers to its table in column 0.
+fn add_surface_table(
+    alloc: Global,
+    owner: Owner<'_>,
+    attribute: &Attribute,
+    tables: &mut Vec<Table>,
+) -> Result<(), Memory>
+    requires { HasFew (attribute_of attribute.now) }
+    ensures { OnOk result (tables_view tables.new.items ≡ tables_view tables.old.items ++ surface_table (owner_view owner.entry) (attribute_of attribute.now)) }
+{
+    if let Some((line, part)) = surface(attribute) {
+        let (attributes, lists) = own(part);
+        let mut columns = Vec::new(alloc);
+        columns.push(owner_column(alloc, owner)?)?;
+        add_columns(alloc, attributes, owner.mains, &mut columns)?;
+        let main = TableId(owner.main);
+        tables.push(Table {
+            topic: owner.topic,
+            name: helper_name(alloc, owner.name, &attribute.name)?,
+            role: Role::SurfaceLines { main },
+            columns,
+            lines: boundary(alloc, line)?,
+            idents: idents(alloc, 1, attributes, lists)?,
+        })?;
+    }
+    Ok(())
+}
+
+// A mandatory reference to the main table, by its name.
+fn owner_column(alloc: Global, owner: Owner<'_>) -> Result<Column, Memory>
+    ensures { IfOk result (λ column. column_view column ≡ owner_column (owner_view owner.entry)) }
+{
+    Ok(Column {
+        name: copied(alloc, owner.name)?,
+        optional: false,
+        form: Form::Reference(owner.main),
+    })
+}
+
+// ---- how many helper tables there are
+
+/// How many of the attributes are an AREA.
+pub fn areas_in(attributes: &[Attribute]) -> u32
+    requires few { length attributes.now ≤ 4194304 }
+    ensures value { result ≡ areas_in (map attribute_of attributes.now) }
+    ensures few { result ≤ length attributes.now }
+{
+    let mut areas = 0;
+    for attribute in attributes {
+        if area(attribute).is_some() {
+            areas += 1;
+        }
+    }
+    areas
+}
+
+/// How many of the attributes are a SURFACE.
+pub fn surfaces_in(attributes: &[Attribute]) -> u32
+    requires few { length attributes.now ≤ 4194304 }
+    ensures value { result ≡ surfaces_in (map attribute_of attributes.now) }
+    ensures few { result ≤ length attributes.now }
+{
+    let mut surfaces = 0;
+    for attribute in attributes {
+        if surface(attribute).is_some() {
+            surfaces += 1;
+        }
+    }
+    surfaces
+}
