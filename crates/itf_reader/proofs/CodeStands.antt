@@ -1,0 +1,65 @@
+-- The code with which the machine stops is the first that fits.
+use Rattle.std.proofs.Common.{◌≡◌, ℕ, Bool, true, false, List, [], Option, Some, None, Result, Ok, Err, ap, sym, if◌then◌else◌}
+use Rattle.std.specs.Prelude.{not, is_some}
+use Rattle.itf_lines.specs.declared.word.LineWord.{LineWord}
+use Rattle.itf_lines.specs.declared.word.LineWord.TheVariants.{Scnt, Slashes, Mtid, Modl, Motr, Topi, Tabl, Obje, Stpt, Lipt, Arcp, Elin, Etab, Etop, Emod, Ende}
+use Rattle.itf_reader.specs.Forms.{Table, Form, TopicRows, names, table_named, topic_named, table_came, topic_came}
+use Rattle.itf_reader.specs.TransferText.{line}
+use Rattle.itf_reader.specs.Machine.{InTopic, State, start, free, title, model, topics, tables, objects, strokes, vertices, arc, last, done, named_table, named_topic, Code, Word, AsMotr, Name, Twice, by_word}
+use Rattle.itf_reader.specs.Faults.{has_room, code_of}
+
+abbrev code_in : Code → Result State Code → Code
+code_in other (Ok s) = other
+code_in other (Err c) = c
+
+abbrev pub fault : Code → Result State Code
+fault c = Err c
+
+pub same_code : (c d : Code) → fault c ≡ fault d → c ≡ d
+same_code c d e = ap (code_in c) e
+
+-- by a test
+no_room : (b : Bool) (s : State) (c : Code) → (if b then Ok s else fault Word) ≡ Err c → c ≡ (if not b then Word else Twice)
+no_room true s c h = absurd cc
+no_room false s c h = sym (same_code Word c h)
+
+not_named : (b : Bool) (s : State) (c : Code) → (if b then Ok s else fault Name) ≡ Err c → c ≡ (if not b then Name else Twice)
+not_named true s c h = absurd cc
+not_named false s c h = sym (same_code Name c h)
+
+twice : (b : Bool) (s : State) (c : Code) → (if b then fault Twice else Ok s) ≡ Err c → c ≡ Twice
+twice true s c h = sym (same_code Twice c h)
+twice false s c h = absurd cc
+
+topic_code : (came : List TopicRows) (found : Option ℕ) (c : Code) → named_topic came found ≡ Err c → c ≡ (if not (is_some found) then Name else Twice)
+topic_code came None c h = sym (same_code Name c h)
+topic_code came (Some i) c h = twice (topic_came i came) (tables (record { came = came; number = i; tables = [] })) c h
+
+table_code : (o : InTopic) (found : Option (ℕ × Table)) (c : Code) → named_table o found ≡ Err c → c ≡ (if not (is_some found) then Name else Twice)
+table_code o None c h = sym (same_code Name c h)
+table_code o (Some found) c h = twice (table_came found.0 o.tables) (objects (record { inside = o; number = found.0; lines = (found.1).lines; rows = [] })) c h
+
+pub code_stands : (f : Form) (s : State) (word : LineWord) (n : ℕ) (fs : List (List ℕ)) (c : Code) → by_word f s word n fs ≡ Err c → c ≡ code_of f s (line word n fs)
+code_stands f free Slashes n fs c h = absurd cc
+code_stands f free word n fs c h = absurd cc
+code_stands f model Modl n fs c h = not_named (names fs f.model) (topics []) c h
+code_stands f (topics came) Topi n fs c h = topic_code came (topic_named 0 fs f.topics) c h
+code_stands f (tables o) Tabl n fs c h = table_code o (table_named 0 o.number fs f.tables) c h
+code_stands f (strokes r) Stpt n fs c h = no_room (has_room r) _ c h
+code_stands f (strokes r) Elin n fs c h = no_room (has_room r) _ c h
+code_stands f start Scnt n fs c h = absurd cc
+code_stands f title Mtid n fs c h = absurd cc
+code_stands f (topics came) Emod n fs c h = absurd cc
+code_stands f (tables o) Etop n fs c h = absurd cc
+code_stands f (objects t) Obje n fs c h = absurd cc
+code_stands f (objects t) Etab n fs c h = absurd cc
+code_stands f (strokes r) Obje n fs c h = absurd cc
+code_stands f (strokes r) Etab n fs c h = absurd cc
+code_stands f (vertices r vs) Lipt n fs c h = absurd cc
+code_stands f (vertices r vs) Arcp n fs c h = absurd cc
+code_stands f (vertices r vs) Elin n fs c h = absurd cc
+code_stands f (arc r vs) Lipt n fs c h = absurd cc
+code_stands f (last came) Ende n fs c h = absurd cc
+code_stands f (done came) Motr n fs c h = sym (same_code Word c h)
+code_stands f s Motr n fs c h = sym (same_code AsMotr c h)
+code_stands f s word n fs c h = sym (same_code Word c h)

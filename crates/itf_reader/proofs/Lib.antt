@@ -1,0 +1,12 @@
+pub mod Back
+pub mod CodeStands
+pub mod Completes
+pub mod Drive
+pub mod Filling
+pub mod Counted
+pub mod Laid
+pub mod Numbers
+pub mod Readings
+pub mod Refused
+pub mod LineByLine
+pub mod Stands

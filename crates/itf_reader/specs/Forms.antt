@@ -1,0 +1,93 @@
+-- What a transfer text is read by, and what it holds.
+use Rattle.std.specs.Prelude.{ℕ, ◌+◌, ◌-◌, Bool, true, false, List, [], ◌∷◌, ◌++◌, length, replicate, Option, Some, None, if◌then◌else◌, nat_eq, ◌&&◌}
+use Rattle.itf_lines.specs.Words.{same}
+
+-- a table that may come: the number of its topic, its name, and the number of its lines
+pub record Table : Type 0 where
+  pub topic : ℕ
+  pub name : List ℕ
+  pub lines : ℕ
+
+-- the name of the model, those of its topics, and the tables of all topics
+pub record Form : Type 0 where
+  pub model : List ℕ
+  pub topics : List (List ℕ)
+  pub tables : List Table
+
+-- how a vertex is joined to the one before it
+pub data Kind : Type 0 where
+  Start Straight OnArc : Kind
+
+pub record Vertex : Type 0 where
+  pub line : ℕ
+  pub kind : Kind
+  pub fields : List (List ℕ)
+
+abbrev pub vertex : Kind → ℕ → List (List ℕ) → Vertex
+vertex kind line fields = record { line = line; kind = kind; fields = fields }
+
+-- an object: the number and the fields of its line, and its strokes, of which one without vertices is undefined
+pub record Row : Type 0 where
+  pub line : ℕ
+  pub fields : List (List ℕ)
+  pub strokes : List (List Vertex)
+
+-- a table that came: its number among all tables, and its rows
+pub record TableRows : Type 0 where
+  pub table : ℕ
+  pub rows : List Row
+
+-- a topic that came: its number, and its tables as they came
+pub record TopicRows : Type 0 where
+  pub topic : ℕ
+  pub tables : List TableRows
+
+-- there is exactly one field, and it is that name
+abbrev pub names : List (List ℕ) → List ℕ → Bool
+names [] name = false
+names (field ∷ []) name = same field name
+names (field ∷ next ∷ fields) name = false
+
+-- the table of a topic that the fields name, with its number, the first of these tables having that one
+abbrev pub table_named : ℕ → ℕ → List (List ℕ) → List Table → Option (ℕ × Table)
+table_named number topic fields [] = None
+table_named number topic fields (table ∷ tables) =
+    if nat_eq table.topic topic && names fields table.name then Some (number, table) else table_named (number + 1) topic fields tables
+
+-- the number of the topic that the fields name, the first of these topics having that one
+abbrev pub topic_named : ℕ → List (List ℕ) → List (List ℕ) → Option ℕ
+topic_named number fields [] = None
+topic_named number fields (name ∷ topics) = if names fields name then Some number else topic_named (number + 1) fields topics
+
+-- the table of that number came
+abbrev pub table_came : ℕ → List TableRows → Bool
+table_came number [] = false
+table_came number (came ∷ tables) = if nat_eq came.table number then true else table_came number tables
+
+-- the topic of that number came
+abbrev pub topic_came : ℕ → List TopicRows → Bool
+topic_came number [] = false
+topic_came number (came ∷ topics) = if nat_eq came.topic number then true else topic_came number topics
+
+-- as many strokes as the table has lines: the missing ones at the end are undefined
+abbrev pub filled : ℕ → List (List Vertex) → List (List Vertex)
+filled lines strokes = strokes ++ replicate (lines - length strokes) []
+
+-- the rows of the table of that number among tables that came; none where it did not come
+abbrev pub rows_in : ℕ → List TableRows → List Row
+rows_in number [] = []
+rows_in number (came ∷ tables) = if nat_eq came.table number then came.rows else rows_in number tables
+
+-- all tables that came
+abbrev pub tables_of : List TopicRows → List TableRows
+tables_of [] = []
+tables_of (topic ∷ topics) = topic.tables ++ tables_of topics
+
+-- the rows of each table, the first of these tables having that number
+abbrev pub rows_from : ℕ → List Table → List TableRows → List (List Row)
+rows_from number [] came = []
+rows_from number (table ∷ tables) came = rows_in number came ∷ rows_from (number + 1) tables came
+
+-- what a text holds: the rows of each table, in the order of the form
+abbrev pub placed : Form → List TopicRows → List (List Row)
+placed form topics = rows_from 0 form.tables (tables_of topics)

@@ -1,0 +1,14 @@
+pub mod Faults
+pub mod Forms
+pub mod Machine
+pub mod Readings
+pub mod Refusals
+pub mod TransferText
+pub mod RowViews
+pub mod Views
+pub mod Steps
+pub mod Layouts
+pub mod Found
+pub mod Placing
+pub mod Runs
+pub mod Directories

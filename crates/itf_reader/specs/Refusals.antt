@@ -1,0 +1,32 @@
+-- What a refusal of the code tells.
+use Rattle.std.specs.Prelude.{Option, Some, None}
+use Rattle.itf_lines.specs.declared.logical.LineFault.{LineFault}
+use Rattle.itf_lines.specs.declared.logical.LineFault.TheVariants.{OpenContinue, StrayCont}
+use Rattle.itf_lines.specs.LogicalLines.{LogicalLines}
+use Rattle.itf_reader.specs.declared.transfer.Structure.{Structure}
+use Rattle.itf_reader.specs.declared.transfer.Structure.TheVariants as codes
+use Rattle.itf_reader.specs.declared.refusal.ReadRefusal.{ReadRefusal}
+use Rattle.itf_reader.specs.declared.refusal.ReadRefusal.TheVariants as refusals
+use Rattle.itf_reader.specs.Forms.{Form}
+use Rattle.itf_reader.specs.Machine.{Word, AsMotr, Name, Twice}
+use Rattle.itf_reader.specs.Readings.{Structure as Fault, OfLine, End, Continue, Cont, IsRefused}
+
+abbrev pub fault_of : Structure → Fault
+fault_of codes.Word = OfLine Word
+fault_of codes.Motr = OfLine AsMotr
+fault_of codes.Name = OfLine Name
+fault_of codes.Twice = OfLine Twice
+fault_of codes.End = End
+fault_of codes.Continue = Continue
+fault_of codes.Cont = Cont
+
+-- the lines are refused at that line with that code; want of memory tells nothing
+abbrev pub Refuses : Form → LogicalLines → ReadRefusal → Type 0
+Refuses form found (refusals.At line code) = IsRefused form found line (fault_of code)
+Refuses form found refusals.Memory = Unit {0}
+
+-- a fault of continuation, as it is told
+abbrev pub broken : Option LineFault → Option ReadRefusal
+broken None = None
+broken (Some (OpenContinue line)) = Some (refusals.At line codes.Continue)
+broken (Some (StrayCont line)) = Some (refusals.At line codes.Cont)

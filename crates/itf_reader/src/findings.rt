@@ -1,0 +1,55 @@
+// What is wrong with a row, a column or a vertex of a transfer that was read.
+use itf_lines::Field;
+
+/// Which rule a row, a column or a vertex breaks. The codes stand in the order of the report.
+#[derive(Clone, Copy, Debug, PartialEq, Eq)]
+pub enum Code {
+    /// The line of the object has another number of fields than its table needs.
+    Count,
+    /// A mandatory value is undefined, or only some words of a coordinate are.
+    Undefined,
+    /// A word that is no number, or one of too many digits.
+    Number,
+    /// A number with more decimals than its bounds have.
+    Decimals,
+    /// A number outside its bounds.
+    Range,
+    /// A text of more bytes than its form allows.
+    Text,
+    /// No day of a calendar in eight digits.
+    Date,
+    /// No leaf of the enumeration.
+    Enum,
+    /// A vertex with another number of fields than its line has axes.
+    Coord,
+    /// A vertex on an arc, where the line may have none.
+    Arcs,
+    /// Three vertices that lie on no circle in their order.
+    Arc,
+    /// A line of one distinct point.
+    Short,
+    /// The identification stands already in the table.
+    Tid,
+    /// The values of a list that tells rows apart stand already in the table.
+    Ident,
+    /// A reference that names no row of its table.
+    Reference,
+}
+
+/// Something wrong at a line, counted from 1, and in a column, 0 for the identification.
+#[derive(Drop)]
+pub struct Finding {
+    pub line: u32,
+    pub column: u32,
+    pub code: Code,
+    pub other: Other,
+}
+
+/// What a finding names besides its place: the line that came first, or the word that names
+/// nothing.
+#[derive(Drop)]
+pub enum Other {
+    Nothing,
+    Line(u32),
+    Word(Field),
+}

@@ -1,0 +1,40 @@
+// Laws of the form of a transfer text.
+ghost use Rattle.std.specs.Prelude.{◌≡◌, List, ℕ, Ok, Err, ◌++◌, ◌∷◌, []};
+ghost use Rattle.itf_lines.specs.LogicalLines.{LogicalLine, LogicalLines};
+ghost use Rattle.itf_reader.specs.Forms.{Form, Row, TopicRows};
+ghost use Rattle.itf_reader.specs.TransferText.{IsText, TransferText, Begins, IsFaultAt};
+ghost use Rattle.itf_reader.specs.Machine.{State, start, done, Code, run, step};
+ghost use Rattle.itf_reader.specs.Faults.{code_of};
+ghost use Rattle.itf_reader.specs.Readings.{Structure, IsRead, IsRefused, HasAnswer};
+
+/// Some lines are the text of at most one transfer.
+pub fn one_transfer()
+    ensures { (form : Form) (lines : List LogicalLine) (a b : List (List Row)) → TransferText form lines a → TransferText form lines b → a ≡ b }
+{}
+
+/// A machine that takes line after line comes to its end with a text's topics exactly where the
+/// lines are that text.
+pub fn machine_reads()
+    ensures reads { (form : Form) (lines : List LogicalLine) (ts : List TopicRows) → IsText form ts lines → run form start lines ≡ Ok (done ts) }
+    ensures only { (form : Form) (lines : List LogicalLine) (ts : List TopicRows) → run form start lines ≡ Ok (done ts) → IsText form ts lines }
+{}
+
+/// It takes some lines exactly where they begin a text: what it takes can be carried on to one,
+/// and what it refuses cannot.
+pub fn machine_begins()
+    ensures taken { (form : Form) (lines : List LogicalLine) (s : State) → run form start lines ≡ Ok s → Begins form lines }
+    ensures refused { (form : Form) (lines : List LogicalLine) (c : Code) → run form start lines ≡ Err c → Begins form lines → ⊥ }
+{}
+
+/// So the line at which it stops is the line at fault, and its code is the first that fits.
+pub fn machine_stops()
+    ensures fault { (form : Form) (front : List LogicalLine) (l : LogicalLine) (s : State) (c : Code) → run form start front ≡ Ok s → step form s l ≡ Err c → IsFaultAt form front l }
+    ensures code { (form : Form) (front : List LogicalLine) (l : LogicalLine) (s : State) (c : Code) → run form start front ≡ Ok s → step form s l ≡ Err c → c ≡ code_of form s l }
+{}
+
+/// Some lines are read or refused, never both, and they are refused at one line with one code.
+pub fn one_answer()
+    ensures some { (form : Form) (found : LogicalLines) → HasAnswer form found }
+    ensures never_both { (form : Form) (found : LogicalLines) (transfer : List (List Row)) (n : ℕ) (code : Structure) → IsRead form found transfer → IsRefused form found n code → ⊥ }
+    ensures one_refusal { (form : Form) (found : LogicalLines) (n m : ℕ) (code other : Structure) → IsRefused form found n code → IsRefused form found m other → (n ≡ m) × (code ≡ other) }
+{}

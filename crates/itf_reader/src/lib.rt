@@ -1,0 +1,60 @@
+//! The rows of a transfer: which logical lines may follow each other, and what they hold.
+//!
+//! A text is a line SCNT, free lines, a line of four slashes, MTID, MODL with the model's name,
+//! topics with tables with objects with strokes, EMOD and ENDE (INTERLIS 1, SN 612030, free
+//! format). Each topic and each table of a topic comes at most once, in any order, and an object
+//! has at most as many strokes as its table has lines.
+//!
+//! - **What is proved.** The form is a relation by cases on whole lists of lines
+//!   (`TransferText`). Some lines are the text of at most one transfer (`one_transfer`). A machine
+//!   that takes line after line takes exactly what begins a text (`machine_begins`), comes to its
+//!   end exactly with a text (`machine_reads`), and stops at the first line with which no text
+//!   begins, with the first code that fits it (`machine_stops`). So each list of lines, with its
+//!   fault of continuation, is read or refused, never both, and refused at one line with one code
+//!   (`one_answer`).
+//! - **Reading.** `read_transfer` takes the lines of a text one after another, by the names of a
+//!   layout, and keeps what is open between two of them. It gives the rows of each table in the
+//!   order of the layout, none for a table that did not come, each row with as many strokes as
+//!   its table has lines; or the line at fault and its code. Its answer is exact: it is a
+//!   transfer only where the lines are its text, and a refusal only where they are refused at
+//!   that line with that code. The only other answer is want of memory.
+//! - **What lines it takes.** Those that `logical_lines` gives by the layout's codes. Any other
+//!   lines are read by the same rules, as if they were such.
+//! - **Names.** A line names the first topic, or the first table of the open topic, that has its
+//!   one field as its name. A layout of a model has each name once.
+//! - **Not here:** how many fields a line must have, beside those that name a model, a topic or a
+//!   table, and what fields mean.
+//! - **Degenerate cases:** a text may have no topic, a topic no table, a table no object. Before
+//!   the line of four slashes each word may stand, and behind ENDE none.
+//!
+//! Cost: `read_transfer` makes maps of the layout's names, goes over the lines once, and looks up
+//! each name once, so that it takes time and memory in proportion to the layout and the lines.
+//! The fields of rows and vertices are copies of those of the lines; rows are not copied again.
+#![tactic(auto)]
+
+mod came;
+mod directory;
+mod findings;
+mod frame;
+mod gathered;
+mod key;
+mod laws;
+mod naming;
+mod open;
+mod placing;
+mod reading;
+mod refusal;
+mod rows;
+mod running;
+mod stepping;
+mod stopped;
+mod strokes;
+#[cfg(test)]
+mod tests;
+mod transfer;
+
+pub use findings::{Code, Finding, Other};
+pub use laws::{machine_begins, machine_reads, machine_stops, one_answer, one_transfer};
+pub use reading::read_transfer;
+pub use refusal::ReadRefusal;
+pub use transfer::{Row, Stroke, Structure, TableRows, Transfer, Vertex, VertexKind};

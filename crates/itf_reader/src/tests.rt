@@ -1,0 +1,279 @@
+ghost use Rattle.std.specs.Prelude.{◌≡◌, ◌<◌, [], ◌∷◌, List};
+ghost use Rattle.table_layout.specs.Layouts.{Table as LayoutTable};
+ghost use Rattle.table_layout.specs.Valid.{IsTable, IsValid};
+ghost use Rattle.table_layout.specs.Values.{layout_view, table_view};
+
+use super::{ReadRefusal, Row, Structure, Transfer, read_transfer};
+use ili_grammar::Codes;
+use itf_lines::{Field, logical_lines};
+use ports::Name;
+use resolver::{Limits, LineForm, Window};
+use std::alloc::Global;
+use std::process::Abort;
+use table_layout::{Layout, Role, Table};
+
+fn name(rt: &impl Abort, alloc: Global, text: &str) -> Name {
+    match Name::new(alloc, text.as_bytes()) {
+        Ok(name) => name,
+        Err(_) => panic!(rt; "memory"),
+    }
+}
+
+fn line(rt: &impl Abort, alloc: Global) -> LineForm {
+    let metres = Limits {
+        low: 0,
+        high: 1_000_000,
+        scale: 3,
+    };
+    LineForm {
+        name: name(rt, alloc, "Line"),
+        optional: true,
+        arcs: true,
+        window: Window {
+            x: metres,
+            y: metres,
+        },
+        height: None,
+        overlap: None,
+    }
+}
+
+// A table of so many lines.
+fn table(rt: &impl Abort, alloc: Global, topic: u32, text: &str, count: usize) -> Table
+    requires { topic < 2 }
+    ensures { (tables : List LayoutTable) → IsTable 2 tables (table_view result) }
+{
+    let mut lines = Vec::new(alloc);
+    for _ in 0..count {
+        lines.push(line(rt, alloc)).expect(rt, "memory");
+    }
+    Table {
+        topic,
+        name: name(rt, alloc, text),
+        role: Role::Main,
+        columns: Vec::new(alloc),
+        lines,
+        idents: Vec::new(alloc),
+    }
+}
+
+const CODES: Codes = Codes {
+    blank: b'_',
+    undefined: b'@',
+    continued: b'\\',
+};
+
+fn two<T: Drop>(rt: &impl Abort, alloc: Global, a: T, b: T) -> Vec<T>
+    ensures { result.items ≡ a ∷ b ∷ [] }
+{
+    let mut items = Vec::new(alloc);
+    items.push(a).expect(rt, "memory");
+    items.push(b).expect(rt, "memory");
+    items
+}
+
+fn three<T: Drop>(rt: &impl Abort, alloc: Global, a: T, b: T, c: T) -> Vec<T>
+    ensures { result.items ≡ a ∷ b ∷ c ∷ [] }
+{
+    let mut items = two(rt, alloc, a, b);
+    items.push(c).expect(rt, "memory");
+    items
+}
+
+// Topic T with the tables A and L, of no and of two lines, and topic U with a table A of one.
+fn small(rt: &impl Abort, alloc: Global) -> Layout
+    ensures { IsValid (layout_view result) }
+{
+    let first = table(rt, alloc, 0, "A", 0);
+    let second = table(rt, alloc, 0, "L", 2);
+    let third = table(rt, alloc, 1, "A", 1);
+    Layout {
+        model: name(rt, alloc, "M"),
+        codes: CODES,
+        topics: two(rt, alloc, name(rt, alloc, "T"), name(rt, alloc, "U")),
+        tables: three(rt, alloc, first, second, third),
+        areas: Vec::new(alloc),
+    }
+}
+
+fn read(rt: &impl Abort, alloc: Global, front: &str, text: &str) -> Result<Transfer, ReadRefusal> {
+    let layout = small(rt, alloc);
+    let mut whole = String::new(alloc);
+    whole.push_str(front).expect(rt, "memory");
+    whole.push_str(text).expect(rt, "memory");
+    assert!(rt; whole.len() <= 268435456);
+    match logical_lines(alloc, whole.as_bytes(), &CODES) {
+        Ok(lines) => {
+            assert!(rt; lines.total < 4294967295);
+            read_transfer(alloc, &layout, &lines)
+        }
+        Err(_) => panic!(rt; "out of memory"),
+    }
+}
+
+fn push_fields(rt: &impl Abort, text: &mut String, fields: &[Field]) {
+    for field in fields {
+        text.push_str(" ").expect(rt, "memory");
+        let field = std::str::from_utf8(field.bytes()).unwrap_or("?");
+        text.push_str(field).expect(rt, "memory");
+    }
+}
+
+// The number and the fields of its line, then ` |` and the vertices of each stroke, then a LF.
+fn push_row(rt: &impl Abort, alloc: Global, text: &mut String, row: &Row) {
+    let number = format!(in alloc; "{}", row.line).expect(rt, "memory");
+    text.push_str(&number).expect(rt, "memory");
+    push_fields(rt, text, &row.fields);
+    for stroke in &row.strokes {
+        text.push_str(" |").expect(rt, "memory");
+        for vertex in &stroke.vertices {
+            let kind = format!(in alloc; " {} {:?}", vertex.line, vertex.kind).expect(rt, "memory");
+            text.push_str(&kind).expect(rt, "memory");
+            push_fields(rt, text, &vertex.fields);
+        }
+    }
+    text.push_str("\n").expect(rt, "memory");
+}
+
+// `table` and its rows, for each table.
+fn shown(rt: &impl Abort, alloc: Global, transfer: &Transfer) -> String {
+    let mut text = String::new(alloc);
+    for table in &transfer.tables {
+        text.push_str("table\n").expect(rt, "memory");
+        for row in &table.rows {
+            push_row(rt, alloc, &mut text, row);
+        }
+    }
+    text
+}
+
+fn reads(rt: &impl Abort, alloc: Global, text: &str, want: &str) {
+    match read(rt, alloc, HEAD, text) {
+        Ok(transfer) => assert_eq!(rt; shown(rt, alloc, &transfer).as_str(), want, "text {}", text),
+        Err(refusal) => panic!(rt; "{:?} for {}", refusal, text),
+    }
+}
+
+// A text, and the line and the code at which it is refused.
+type Fault = (&'static str, u32, Structure);
+
+fn refuses(rt: &impl Abort, alloc: Global, front: &str, faults: &[Fault]) {
+    for (text, line, code) in faults {
+        let want = ReadRefusal::At {
+            line: *line,
+            code: *code,
+        };
+        match read(rt, alloc, front, text) {
+            Ok(_) => panic!(rt; "read: {}", text),
+            Err(refusal) => assert_eq!(rt; refusal, want, "text {}", text),
+        }
+    }
+}
+
+const HEAD: &str = "SCNT\n////\nMTID x\nMODL M\n";
+
+#[test]
+fn rows_stand_in_the_order_of_the_layout(rt: HostRuntime) {
+    let text =
+        "TOPI U\nTABL A\nOBJE 9\nETAB\nETOP\nTOPI T\nTABL L\nOBJE 1 a \\\nCONT b\nSTPT 0 0\nLIPT 1 1\nARCP 2 2\nLIPT 3 3\nELIN x\nOBJE 2\nELIN\nSTPT 5 5\nELIN\nETAB\nETOP\nEMOD\nENDE\n";
+    let want =
+        "table\ntable\n12 1 a b | 14 Start 0 0 15 Straight 1 1 16 OnArc 2 2 17 Straight 3 3 |\n19 2 | | 21 Start 5 5\ntable\n7 9 |\n";
+    reads(&rt, rt.alloc(), text, want);
+    reads(&rt, rt.alloc(), "EMOD\nENDE", "table\ntable\ntable\n");
+    let both = "TOPI T\nTABL A\nOBJE\nETAB\nETOP\nTOPI U\nTABL A\nETAB\nETOP\nEMOD\n\nENDE 1\n\n";
+    reads(&rt, rt.alloc(), both, "table\n7\ntable\ntable\n");
+}
+
+#[test]
+fn the_head_is_refused_at_its_line(rt: HostRuntime) {
+    let faults: [Fault; 12] = [
+        ("", 1, Structure::End),
+        ("\n", 1, Structure::Word),
+        ("MOTR\n", 1, Structure::Motr),
+        ("////\n", 1, Structure::Word),
+        ("SCNT\nENDE\n", 3, Structure::End),
+        (
+            "SCNT\nMOTR\nCONT\n\n////\nMTID\nMODL X\n",
+            7,
+            Structure::Name,
+        ),
+        ("SCNT\n////\n////\n", 3, Structure::Word),
+        ("SCNT\n////\nMOTR\n", 3, Structure::Motr),
+        ("SCNT\n////\nMODL M\n", 3, Structure::Word),
+        ("SCNT\n////\nMTID\nMODL\n", 4, Structure::Name),
+        ("SCNT\n////\nMTID\nMODL M M\n", 4, Structure::Name),
+        ("SCNT\n////\nMTID\nTOPI V\n", 4, Structure::Word),
+    ];
+    refuses(&rt, rt.alloc(), "", &faults);
+}
+
+#[test]
+fn topics_and_tables_are_refused_at_their_lines(rt: HostRuntime) {
+    let faults: [Fault; 12] = [
+        ("TOPI V\n", 5, Structure::Name),
+        ("TABL Z\n", 5, Structure::Word),
+        ("TOPI T\nETOP\nTOPI T\n", 7, Structure::Twice),
+        ("TOPI T\nETOP\nTOPI T T\n", 7, Structure::Name),
+        ("TOPI T\nTABL Z\n", 6, Structure::Name),
+        ("TOPI U\nTABL L\n", 6, Structure::Name),
+        ("TOPI T\nTABL A\nETAB\nTABL A\n", 8, Structure::Twice),
+        ("TOPI T\nTABL A\nETAB\nTABL\n", 8, Structure::Name),
+        ("TOPI T\nEMOD\n", 6, Structure::Word),
+        ("TOPI T\nTABL A\nOBJE 1\n", 8, Structure::End),
+        ("TOPI T\nMOTR\n", 6, Structure::Motr),
+        ("EMOD\n", 6, Structure::End),
+    ];
+    refuses(&rt, rt.alloc(), HEAD, &faults);
+}
+
+#[test]
+fn strokes_are_refused_at_their_lines(rt: HostRuntime) {
+    let faults: [Fault; 8] = [
+        ("TABL L\nELIN\n", 7, Structure::Word),
+        ("TABL A\nOBJE 1\nELIN\n", 8, Structure::Word),
+        ("TABL L\nOBJE 1\nELIN\nELIN\nELIN\n", 10, Structure::Word),
+        (
+            "TABL L\nOBJE 1\nELIN\nELIN\nSTPT 1 1\n",
+            10,
+            Structure::Word,
+        ),
+        (
+            "TABL L\nOBJE 1\nSTPT 0\nARCP 1\nARCP 2\n",
+            10,
+            Structure::Word,
+        ),
+        (
+            "TABL L\nOBJE 1\nSTPT 0\nARCP 1\nELIN\n",
+            10,
+            Structure::Word,
+        ),
+        ("TABL L\nOBJE 1\nSTPT 0\nMOTR\n", 9, Structure::Motr),
+        ("TABL L\nOBJE 1\nSTPT 0\nETAB\n", 9, Structure::Word),
+    ];
+    refuses(
+        &rt,
+        rt.alloc(),
+        "SCNT\n////\nMTID x\nMODL M\nTOPI T\n",
+        &faults,
+    );
+}
+
+#[test]
+fn continuation_and_the_end_keep_their_codes(rt: HostRuntime) {
+    let faults: [Fault; 9] = [
+        ("EMOD\nENDE\nFOO\n", 7, Structure::Word),
+        ("EMOD\nENDE\n\nMOTR\n", 8, Structure::Word),
+        ("EMOD\nENDE\nCONT\n", 7, Structure::Cont),
+        ("EMOD\nENDE\nFOO \\\n", 7, Structure::Continue),
+        ("TOPI T\nCONT\n", 6, Structure::Cont),
+        ("TOPI V\nCONT\n", 5, Structure::Name),
+        ("FOO \\\n", 5, Structure::Continue),
+        (
+            "TOPI T\nTABL A\nOBJE 1 \\\nCONT 2 \\\nETAB\n",
+            8,
+            Structure::Continue,
+        ),
+        ("EMOD \\\nCONT\nFOO\n", 7, Structure::Word),
+    ];
+    refuses(&rt, rt.alloc(), HEAD, &faults);
+}

@@ -1,0 +1,66 @@
+// What a transfer holds.
+use itf_lines::Field;
+
+/// How a vertex is joined to the one before it.
+#[derive(Clone, Copy, Debug, PartialEq, Eq)]
+pub enum VertexKind {
+    /// It begins a stroke.
+    Start,
+    /// By a straight, or as the end of an arc.
+    Straight,
+    /// It lies on an arc that ends at the next vertex.
+    OnArc,
+}
+
+/// A vertex: the number and the fields of its line.
+#[derive(Drop)]
+pub struct Vertex {
+    pub line: u32,
+    pub kind: VertexKind,
+    pub fields: Vec<Field>,
+}
+
+/// A line of an object. An undefined one has no vertices.
+#[derive(Drop)]
+pub struct Stroke {
+    pub vertices: Vec<Vertex>,
+}
+
+/// An object: the number and the fields of its line, and as many strokes as its table has lines.
+#[derive(Drop)]
+pub struct Row {
+    pub line: u32,
+    pub fields: Vec<Field>,
+    pub strokes: Vec<Stroke>,
+}
+
+/// The objects of a table in the order of the text.
+#[derive(Drop)]
+pub struct TableRows {
+    pub rows: Vec<Row>,
+}
+
+/// The objects of each table, in the order of the layout.
+#[derive(Drop)]
+pub struct Transfer {
+    pub tables: Vec<TableRows>,
+}
+
+/// Why a text is no transfer.
+#[derive(Clone, Copy, Debug, PartialEq, Eq)]
+pub enum Structure {
+    /// The word may not stand there.
+    Word,
+    /// MOTR in front of ENDE.
+    Motr,
+    /// MODL, TOPI or TABL has not exactly one field, or it names nothing.
+    Name,
+    /// The topic, or the table of the topic, came before.
+    Twice,
+    /// The text ends before ENDE.
+    End,
+    /// A line goes on, and no CONT line follows.
+    Continue,
+    /// A CONT line continues nothing.
+    Cont,
+}
