@@ -1,0 +1,3 @@
+pub mod SpelledLeaves
+pub mod ValuesMeet
+pub mod WholeWords
