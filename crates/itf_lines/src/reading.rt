@@ -15,7 +15,10 @@ use std::alloc::Global;
 /// error is want of memory.
 pub fn logical_lines(alloc: Global, bytes: &[u8], codes: &Codes) -> Result<Lines, Memory>
     requires { length bytes.now ≤ 268435456 }
-    ensures { IfOk result (λ found. seen found ≡ logical codes.now.continued bytes.now) }
+    // The answer, as a function of the bytes.
+    ensures logical { IfOk result (λ found. seen found ≡ logical codes.now.continued bytes.now) }
+    // There are at most as many physical lines as bytes, so that each number of a line fits.
+    ensures few { IfOk result (λ found. found.total ≤ length bytes.now) }
 {
     let mut lines = Vec::new(alloc);
     let mut place = Place::Head;

@@ -7,10 +7,9 @@ ghost use Rattle.itf_reader.specs.Forms.{topic_named, table_named};
 ghost use Rattle.itf_reader.specs.Found.{lines_found, same_key};
 ghost use Rattle.itf_reader.specs.Layouts.{form_of, wanted_of};
 
-use super::key::Key;
 use indexmap::IndexMap;
 use itf_lines::Field;
-use ports::{Memory, Name};
+use ports::{Key, Memory, Name};
 use std::alloc::Global;
 use table_layout::{Layout, Table};
 

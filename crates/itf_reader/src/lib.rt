@@ -37,7 +37,6 @@ mod directory;
 mod findings;
 mod frame;
 mod gathered;
-mod key;
 mod laws;
 mod naming;
 mod open;

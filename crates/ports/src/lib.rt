@@ -16,6 +16,8 @@
 //!   contracts say exactly when a call fails and how much room there is without a refusal.
 //! - **Real files and standard output** (`RealShelf`, `RealSink`) tell no bytes. They are a few
 //!   lines over std, and what they read or write is trusted, not proved.
+//! - **Names.** `Name` owns the bytes of a name, `Key` borrows them as the key of a map. A contract
+//!   sees both as lists of bytes.
 //! - **Not here:** no layer of this crate looks at what the bytes mean.
 //!
 //! Cost: `MemoryShelf` finds a file in time linear in the number of files; a read copies what it
@@ -24,6 +26,7 @@
 #![tactic(auto)]
 
 mod calls;
+mod key;
 mod memory_shelf;
 mod memory_sink;
 mod name;
@@ -34,6 +37,7 @@ mod stored;
 #[cfg(test)]
 mod tests;
 
+pub use key::Key;
 pub use memory_shelf::MemoryShelf;
 pub use memory_sink::MemorySink;
 pub use name::Name;

@@ -1,15 +1,14 @@
 // Names in the order of the text, each with the place of the first that has it.
-ghost use Rattle.std.specs.Prelude.{nat_eq, IfOk};
+ghost use Rattle.std.specs.Prelude.{◌≡◌, nat_eq, IfOk};
 ghost use Rattle.std.specs.Cmp.Lexicographic.{pointwise};
 ghost use Rattle.indexmap.specs.IndexMap.{get};
 ghost use Rattle.resolver.specs.Indexed.{IsIndex, idents};
 
 use super::earliest::Earliest;
 use super::faults::ModelCode;
-use super::key::Key;
 use ili_grammar::Ident;
 use indexmap::IndexMap;
-use ports::Memory;
+use ports::{Key, Memory};
 use std::alloc::Global;
 
 /// Names in the order of the text, and for each name the place of the first that has it.
@@ -20,13 +19,19 @@ pub struct Directory<'a> {
     ghost indexed: { IsIndex (get (pointwise nat_eq) places) (idents names.items) },
 }
 
+fn key_of(name: &Ident) -> Key<'_>
+    ensures { result ≡ name.now.text }
+{
+    Key::new(name.text.bytes())
+}
+
 // The first place of each name.
 fn first_places<'a>(alloc: Global, names: &[&'a Ident]) -> Result<IndexMap<Key<'a>, usize>, Memory>
     ensures { IfOk result (λ m. IsIndex (get (pointwise nat_eq) m) (idents names.now)) }
 {
     let mut places = IndexMap::new(alloc);
     for place in (0..names.len()).rev() {
-        places.insert(Key::of(names[place]), place)?;
+        places.insert(key_of(names[place]), place)?;
     }
     Ok(places)
 }

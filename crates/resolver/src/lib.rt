@@ -30,7 +30,6 @@ mod earliest;
 mod faults;
 mod forms;
 mod helpers;
-mod key;
 mod kinds;
 mod leaves;
 mod level;

@@ -1,8 +1,9 @@
-// A name as the key of a map.
+// A word of a text as the key of a map.
 use std::hash::{Hash, Hasher};
 use std::marker::Model;
 
-/// The bytes of a name, which stay where they are.
+/// The bytes of a name or of a word, which stay where they are. Two are equal where their bytes
+/// are, so that it can be a key of a map that copies no text.
 #[derive(Drop)]
 pub struct Key<'a> {
     bytes: &'a [u8],
