@@ -16,3 +16,9 @@ pub mod Kept
 pub mod Modest
 pub mod Pushed
 pub mod Viewed
+pub mod NoFault
+pub mod Checked
+pub mod PlacedNames
+pub mod SoundForms
+pub mod SoundAttributes
+pub mod SoundModels

@@ -13,8 +13,12 @@
 //!   overlaps at a scale (`numbers`), the faults of names, types, lines, domains, tables and
 //!   topics (`names` to `topics`), and what types, lines, attributes, tables and topics stand for
 //!   (`forms` to `build`).
-//! - **What is not there yet.** That a resolved model is sound, as `specs/Sound` says, is no
-//!   clause of `resolve` and not proved.
+//! - **What the next layer may use.** A resolved model is sound (`IsSound`), as the layout of
+//!   tables asks: each reference is the number of a table of its topic, each place in an IDENT
+//!   list that of an attribute, the attributes of LINEATTR are values and references, the window
+//!   of an AREA is less than 2^40 units wide in each axis, and there are at most 4,194,304 names.
+//! - **What is not there yet.** Where a rule is broken `resolved_model` gives some harmless value
+//!   in place of what is missing. That a model without fault never meets one is not stated.
 //! - **Degenerate cases:** a domain may be used before its declaration; of two declarations the
 //!   first counts; a way may end nowhere, by an unknown name or on a circle.
 //!

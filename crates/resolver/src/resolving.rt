@@ -11,6 +11,7 @@ ghost use Rattle.resolver.specs.Limits.{AreFew};
 ghost use Rattle.resolver.specs.Rules.{domains_faults, first_fault};
 ghost use Rattle.resolver.specs.Models.{resolved_model};
 ghost use Rattle.resolver.specs.Values.{model_of as built_model};
+ghost use Rattle.resolver.specs.Sound.{IsSound};
 
 use super::build::model;
 use super::directory::Directory;
@@ -117,11 +118,14 @@ fn resolve_within<'a>(
 
 /// What a model stands for.
 ///
-/// The syntax is as small as the grammar's reader gives it. The error names the rule that is
-/// broken first in the text, and the name at which it is; or it is want of memory.
+/// The syntax is as small as the grammar's reader gives it. A model that is given is sound: its
+/// numbers of tables and attributes are those of tables and attributes that it has, the window of
+/// an AREA is narrow, and its names are few. The error names the rule that is broken first in the
+/// text, and the name at which it is; or it is want of memory.
 pub fn resolve(alloc: Global, syntax: &ModelSyntax) -> Result<ResolvedModel, ModelFault>
     requires { IsWithinLimits (model_of syntax.now) }
     ensures model { IfOk result (λ m. (first_fault (model_of syntax.now) ≡ None) × (built_model m ≡ resolved_model (model_of syntax.now))) }
+    ensures sound { IfOk result (λ m. IsSound (built_model m)) }
     ensures fault { IfErr result (λ f. Names f (first_fault (model_of syntax.now))) }
 {
     match everywhere(alloc, syntax) {
