@@ -22,3 +22,8 @@ pub mod PlacedNames
 pub mod SoundForms
 pub mod SoundAttributes
 pub mod SoundModels
+pub mod Ends
+pub mod ExactNumbers
+pub mod StandingForms
+pub mod StandingAttributes
+pub mod StandingModels

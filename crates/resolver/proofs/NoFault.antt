@@ -1,5 +1,5 @@
 -- Where no fault counts, no rule is broken.
-use Rattle.std.proofs.Common.{◌≡◌, Bool, true, false, cond, not, List, [], ◌∷◌, ◌++◌, length, Option, Some, None, refl, ap, arith, true≢false}
+use Rattle.std.proofs.Common.{◌≡◌, Bool, true, false, cond, not, ◌||◌, List, [], ◌∷◌, ◌++◌, length, Option, Some, None, refl, ap, arith, true≢false}
 use Rattle.std.proofs.lemmas.List.Elements.{All-cons}
 use Rattle.std.specs.List.{All, flat_map}
 use Rattle.std.specs.Option.{is_some}
@@ -36,3 +36,11 @@ not_broken false code name e = refl
 pub holds : (b : Bool) (code : ModelCode) (name : Ident) → fault_if (not b) code name ≡ [] → b ≡ true
 holds true code name e = refl
 holds false code name e = absurd (omega (arith, ap (λ (l : List Fault). length l) e))
+
+pub or-left_false : (a b : Bool) → (a || b) ≡ false → a ≡ false
+or-left_false true b e = absurd (true≢false e)
+or-left_false false b e = refl
+
+pub or-right_false : (a b : Bool) → (a || b) ≡ false → b ≡ false
+or-right_false true b e = absurd (true≢false e)
+or-right_false false b e = e

@@ -12,7 +12,7 @@ use Rattle.resolver.specs.Models.{no_limits, limits, form, form_of_meaning, refe
 use Rattle.resolver.specs.Rules.{reference_faults, content_faults, type_name_faults, meaning_faults, vertex_faults}
 use Rattle.resolver.specs.Scopes.{Scope, Meaning, is_among, is_visible, meant, meaning}
 use Rattle.resolver.specs.Sound.{IsNarrow, IsWithin}
-use Rattle.resolver.proofs.NoFault.{none_behind, not_broken}
+use Rattle.resolver.proofs.NoFault.{none_behind, not_broken, or-left_false, or-right_false}
 use Rattle.resolver.proofs.PlacedNames.{place_is_below}
 
 -- no type is a reference
@@ -63,14 +63,6 @@ limits_narrow scale s e = elim (is_reversed scale s || has_long_bound scale s) a
   | true ↦ omega (arith, ints)
   | false ↦ narrow (in_units scale s.high -ℤ in_units scale s.low) e
 ]
-
-or-left_false : (a b : Bool) → (a || b) ≡ false → a ≡ false
-or-left_false true b e = absurd (true≢false e)
-or-left_false false b e = refl
-
-or-right_false : (a b : Bool) → (a || b) ≡ false → b ≡ false
-or-right_false true b e = absurd (true≢false e)
-or-right_false false b e = e
 
 pub window_narrow : (t : TypeSyntax) → is_wide t ≡ false → IsNarrow (window_in t)
 window_narrow (syntax.Named n) e = record { x = omega (arith, ints); y = omega (arith, ints) }

@@ -15,3 +15,4 @@ pub mod Limits
 pub mod Resolved
 pub mod Values
 pub mod Sound
+pub mod Standing

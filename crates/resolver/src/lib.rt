@@ -17,8 +17,10 @@
 //!   tables asks: each reference is the number of a table of its topic, each place in an IDENT
 //!   list that of an attribute, the attributes of LINEATTR are values and references, the window
 //!   of an AREA is less than 2^40 units wide in each axis, and there are at most 4,194,304 names.
-//! - **What is not there yet.** Where a rule is broken `resolved_model` gives some harmless value
-//!   in place of what is missing. That a model without fault never meets one is not stated.
+//! - **No value in place of a missing one.** Where a rule is broken `resolved_model` gives some
+//!   harmless value. A model without fault meets none: `specs/Standing` says of each part what it
+//!   stands for by what is written alone (`IsModel`), and the law `stands_for_what_is_written`
+//!   that `resolved_model` keeps to it. In particular each way through names ends at a type.
 //! - **Degenerate cases:** a domain may be used before its declaration; of two declarations the
 //!   first counts; a way may end nowhere, by an unknown name or on a circle.
 //!
@@ -35,6 +37,7 @@ mod faults;
 mod forms;
 mod helpers;
 mod kinds;
+mod laws;
 mod leaves;
 mod level;
 mod line_forms;
@@ -54,6 +57,7 @@ mod values;
 mod ways;
 
 pub use faults::{ModelCode, ModelFault};
+pub use laws::stands_for_what_is_written;
 pub use models::{
     Attribute, AttributeForm, Block, Form, Limits, LineForm, LinePart, ModelTable, Places,
     ResolvedModel, Topic, Window,

@@ -1,0 +1,136 @@
+-- What the parts of a model stand for, by what is written alone: no value stands in for one that is missing.
+use Rattle.std.specs.Prelude.{◌≡◌, ℕ, ◌-◌, ◌^◌, ◌≤◌, ℤ, pos, neg_ℤ, ◌*ℤ◌, ◌<ℤ◌, ◌≤ℤ◌, Bool, true, false, List, slice_get, Option, Some, None, ⊤}
+use Rattle.std.specs.List.{AllZip}
+use Rattle.ili_grammar.specs.Syntax as syntax
+use Rattle.ili_grammar.specs.Syntax.{Ident, Decimal, Span, LineSyntax, a_line, Attributes, no_attributes, and_attribute, an_attribute, Content, Value, TypeSyntax, Named, DomainSyntax, TableSyntax, TopicSyntax, ModelSyntax}
+use Rattle.resolver.specs.declared.shape.Shape.{Shape}
+use Rattle.resolver.specs.declared.shape.Shape.TheVariants as shapes
+use Rattle.resolver.specs.Resolved as resolved
+use Rattle.resolver.specs.Resolved.{Limits, Form, LineForm, AttributeForm, LinePart, ModelTable, Topic, ResolvedModel}
+use Rattle.resolver.specs.Numbers.{scale_of, in_units, leaves}
+use Rattle.resolver.specs.Scopes.{Scope, Meaning, is_among, place, texts, names_of, name_alone, everywhere, outside, inside}
+use Rattle.resolver.specs.Rules.{attribute_names}
+
+-- what a type stands for: itself where it is no name alone; a name that is declared further out what it stands for there, any other what the first domain of that name stands for
+pub data StandsFor (m : Meaning) : Scope → TypeSyntax → Type 0 where
+  as_written : (s : Scope) (t : TypeSyntax) → name_alone t ≡ None → m ≡ record { scope = s; kind = t } → StandsFor m s t
+  as_outside : (s : Scope) (t : TypeSyntax) (n : Ident) → name_alone t ≡ Some n → is_among n.text (names_of s.above) ≡ true → StandsFor m (outside s.above) t → StandsFor m s t
+  as_declared : (s : Scope) (t : TypeSyntax) (n : Ident) (i : ℕ) (d : DomainSyntax) → name_alone t ≡ Some n → is_among n.text (names_of s.above) ≡ false
+      → place n.text (names_of s.own) ≡ Some i → slice_get s.own i ≡ Some d → StandsFor m s d.kind → StandsFor m s t
+
+-- ---- numbers
+-- at most 18 digits
+pub record HasFewDigits (z : ℤ) : Type 0 where
+  pub above : neg_ℤ (pos (10 ^ 18)) <ℤ z
+  pub below : z <ℤ pos (10 ^ 18)
+
+-- exactly the number that is written, in units of the scale
+pub record IsBound (scale : ℕ) (d : Decimal) (z : ℤ) : Type 0 where
+  pub decimals : d.scale ≤ scale
+  pub value : z ≡ (d.digits *ℤ pos (10 ^ (scale - d.scale)))
+  pub digits : HasFewDigits z
+
+-- both bounds, the low one first
+pub record AreLimits (scale : ℕ) (s : Span) (l : Limits) : Type 0 where
+  pub low : IsBound scale s.low l.low
+  pub high : IsBound scale s.high l.high
+  pub ordered : l.low ≤ℤ l.high
+  pub decimals : l.scale ≡ scale
+
+-- a greatest number of bytes
+pub record IsLength (d : Decimal) (n : ℕ) : Type 0 where
+  pub whole : d.scale ≡ 0
+  pub value : d.digits ≡ pos n
+  pub some : 1 ≤ n
+  pub few : n ≤ 65535
+
+-- ---- values
+-- what a type is that is neither a name nor a line
+abbrev pub IsForm : TypeSyntax → Form → Type 0
+IsForm (syntax.Coord2 c) (resolved.Coord2 w) = AreLimits (scale_of (syntax.Coord2 c)) c.x w.x × AreLimits (scale_of (syntax.Coord2 c)) c.y w.y
+IsForm (syntax.Coord3 c) (resolved.Coord3 b) = AreLimits (scale_of (syntax.Coord3 c)) c.x b.x × AreLimits (scale_of (syntax.Coord3 c)) c.y b.y × AreLimits (scale_of (syntax.Coord3 c)) c.z b.z
+IsForm (syntax.Dim1 s) (resolved.Dim1 l) = AreLimits (scale_of (syntax.Dim1 s)) s l
+IsForm (syntax.Dim2 s) (resolved.Dim2 l) = AreLimits (scale_of (syntax.Dim2 s)) s l
+IsForm (syntax.Radians s) (resolved.Radians l) = AreLimits (scale_of (syntax.Radians s)) s l
+IsForm (syntax.Grads s) (resolved.Grads l) = AreLimits (scale_of (syntax.Grads s)) s l
+IsForm (syntax.Degrees s) (resolved.Degrees l) = AreLimits (scale_of (syntax.Degrees s)) s l
+IsForm (syntax.Range s) (resolved.Range l) = AreLimits (scale_of (syntax.Range s)) s l
+IsForm (syntax.Text d) (resolved.Text n) = IsLength d n
+IsForm syntax.Date resolved.Date = ⊤
+IsForm syntax.HAlignment resolved.HAlignment = ⊤
+IsForm syntax.VAlignment resolved.VAlignment = ⊤
+IsForm (syntax.Enumeration es) (resolved.Enumeration n) = n ≡ leaves es
+IsForm t f = ⊥
+
+-- a value of a type, or a reference by the number of the table that has the name
+abbrev pub IsValue : Scope → Content → Form → Type 0
+IsValue s (Value t) f = (m : Meaning) × StandsFor m s t × IsForm m.kind f
+IsValue s (syntax.Reference n) (resolved.Reference k) = place n.text s.tables ≡ Some k
+IsValue s c f = ⊥
+
+-- IDENT lists by the numbers of the attributes that have the names
+abbrev pub AreIdents : Attributes → List (List Ident) → List (List ℕ) → Type 0
+AreIdents as_ lists places = AllZip (AllZip (λ n k. place n.text (texts (attribute_names as_)) ≡ Some k)) lists places
+
+-- ---- lines
+-- vertices of two axes, those of a POLYLINE also of three
+abbrev pub AreVertices : Shape → TypeSyntax → LineForm → Type 0
+AreVertices shape (syntax.Coord2 c) f = AreLimits (scale_of (syntax.Coord2 c)) c.x f.window.x × AreLimits (scale_of (syntax.Coord2 c)) c.y f.window.y × (f.height ≡ None)
+AreVertices shapes.Polyline (syntax.Coord3 c) f =
+    AreLimits (scale_of (syntax.Coord3 c)) c.x f.window.x × AreLimits (scale_of (syntax.Coord3 c)) c.y f.window.y × (h : Limits) × (f.height ≡ Some h) × AreLimits (scale_of (syntax.Coord3 c)) c.z h
+AreVertices shape t f = ⊥
+
+-- an overlap is given where one is written, in units of the scale, further decimals dropped
+abbrev pub IsOverlap : ℕ → Option Decimal → Option ℤ → Type 0
+IsOverlap scale None None = ⊤
+IsOverlap scale (Some d) (Some z) = (z ≡ in_units scale d) × HasFewDigits z
+IsOverlap scale d z = ⊥
+
+abbrev pub IsLine : Shape → List ℕ → Bool → Scope → LineSyntax → LineForm → Type 0
+IsLine shape name optional s (a_line head as_ lists) f =
+    (v : Meaning) × StandsFor v s (Named head.vertex) × AreVertices shape v.kind f × IsOverlap (scale_of v.kind) head.overlap f.overlap
+    × (f.name ≡ name) × (f.optional ≡ optional) × (f.arcs ≡ head.arcs)
+
+-- the attributes of a line, each a value or a reference
+abbrev pub AreValues : Scope → Attributes → resolved.Attributes → Type 0
+AreValues s no_attributes resolved.no_attributes = ⊤
+AreValues s (and_attribute (an_attribute n o c) as_) (resolved.and_attribute (resolved.an_attribute name optional (resolved.Value f)) fs) = (name ≡ n.text) × (optional ≡ o) × IsValue s c f × AreValues s as_ fs
+AreValues s as_ fs = ⊥
+
+abbrev pub IsPart : Scope → LineSyntax → LinePart → Type 0
+IsPart s (a_line head as_ lists) (resolved.a_part own places) = AreValues s as_ own × AreIdents as_ lists places
+
+-- ---- attributes of tables
+-- an attribute of that name whose type is written in a scope
+abbrev pub IsTypeForm : List ℕ → Bool → Scope → TypeSyntax → AttributeForm → Type 0
+IsTypeForm name optional s (syntax.Polyline l) (resolved.Polyline f) = IsLine shapes.Polyline name optional s l f
+IsTypeForm name optional s (syntax.Surface l) (resolved.Surface f p) = IsLine shapes.Surface name optional s l f × IsPart s l p
+IsTypeForm name optional s (syntax.Area l) (resolved.Area f p) = IsLine shapes.Area name optional s l f × IsPart s l p
+IsTypeForm name optional s t (resolved.Value f) = IsForm t f
+IsTypeForm name optional s t f = ⊥
+
+abbrev pub IsContent : List ℕ → Bool → Scope → Content → AttributeForm → Type 0
+IsContent name optional s (Value t) f = (m : Meaning) × StandsFor m s t × IsTypeForm name optional m.scope m.kind f
+IsContent name optional s (syntax.Reference n) (resolved.Value (resolved.Reference k)) = place n.text s.tables ≡ Some k
+IsContent name optional s c f = ⊥
+
+abbrev pub AreAttributes : Scope → Attributes → resolved.Attributes → Type 0
+AreAttributes s no_attributes resolved.no_attributes = ⊤
+AreAttributes s (and_attribute (an_attribute n o c) as_) (resolved.and_attribute (resolved.an_attribute name optional f) fs) = (name ≡ n.text) × (optional ≡ o) × IsContent n.text o s c f × AreAttributes s as_ fs
+AreAttributes s as_ fs = ⊥
+
+-- ---- what holds attributes
+pub record IsTable (s : Scope) (t : TableSyntax) (m : ModelTable) : Type 0 where
+  pub name : m.name ≡ t.name.text
+  pub attributes : AreAttributes s t.attributes m.attributes
+  pub idents : AreIdents t.attributes t.idents m.idents
+
+pub record IsTopic (above : List DomainSyntax) (t : TopicSyntax) (m : Topic) : Type 0 where
+  pub name : m.name ≡ t.name.text
+  pub tables : AllZip (IsTable (inside above t)) t.tables m.tables
+
+-- a model and what it stands for
+pub record IsModel (written : ModelSyntax) (m : ResolvedModel) : Type 0 where
+  pub name : m.name ≡ written.model.text
+  pub codes : m.codes ≡ written.codes
+  pub topics : AllZip (IsTopic (everywhere written)) written.topics m.topics
