@@ -27,3 +27,5 @@ pub mod ExactNumbers
 pub mod StandingForms
 pub mod StandingAttributes
 pub mod StandingModels
+pub mod OneStanding
+pub mod OneModel

@@ -10,11 +10,11 @@ use Rattle.resolver.specs.declared.shape.Shape.{Shape}
 use Rattle.resolver.specs.declared.shape.Shape.TheVariants as shapes
 use Rattle.resolver.specs.Faults.{Fault, fault_if}
 use Rattle.resolver.specs.Lines.{is_area, is_line, is_long_overlap, suits, stands_for}
-use Rattle.resolver.specs.Models.{form_of_meaning, value, numbers, places, vertex_kind, line_form, line_with, line_part, line_attributes, type_form, meaning_form, content_form, attributes}
+use Rattle.resolver.specs.Models.{form, form_of_meaning, reference, value, numbers, places, vertex_kind, line_form, line_with, line_part, line_attributes, type_form, meaning_form, content_form, attributes}
 use Rattle.resolver.specs.Numbers.{is_wide}
-use Rattle.resolver.specs.Rules.{attribute_names, no_attribute, list_faults, lists_faults, names_faults, twice_in, type_name_faults, meaning_faults, kind_faults, vertex_faults, line_attribute_fault, line_attribute_faults, content_faults, attribute_faults, attributes_faults, line_faults, type_faults}
+use Rattle.resolver.specs.Rules.{attribute_names, no_attribute, list_faults, lists_faults, names_faults, twice_in, type_name_faults, meaning_faults, kind_faults, vertex_faults, line_attribute_fault, line_attribute_faults, content_faults, attribute_faults, attributes_faults, line_faults, type_faults, reference_faults}
 use Rattle.resolver.specs.Scopes.{Scope, Meaning, is_among, is_visible, place, texts, name_alone, outside, meaning, meant}
-use Rattle.resolver.specs.Standing.{StandsFor, as_written, as_outside, as_declared, IsValue, AreIdents, IsLine, AreValues, IsPart, IsTypeForm, IsContent, AreAttributes}
+use Rattle.resolver.specs.Standing.{StandsFor, as_written, as_outside, as_declared, IsReference, IsValue, AreIdents, IsLine, AreValues, IsPart, IsTypeForm, IsContent, AreAttributes}
 use Rattle.resolver.proofs.Checked.{IsChecked, AreChecked, IsFound, meaning_found, meant_found}
 use Rattle.resolver.proofs.Ends.{AreEnding, meaning_stands, meant_stands}
 use Rattle.resolver.proofs.NoFault.{none_before, none_behind, none_in_each, not_broken, holds}
@@ -71,6 +71,9 @@ pub zip_map : {X Y : Type 0} (R : X → Y → Type 0) (f : X → Y) (xs : List X
 zip_map R f [] h = tt
 zip_map R f (x ∷ xs) h = (h 0 x (omega arith), zip_map R f xs (λ i d lt. h (suc i) d (omega (arith, lt))))
 
+reference_kept : (s : Scope) (n : Ident) → reference_faults s n ≡ [] → IsReference s n (reference s n)
+reference_kept s n e = (unwrap_or (place n.text s.tables) 0, refl, place_kept n.text s.tables (names_table s n e))
+
 pub idents_kept : (as_ : Attributes) (lists : List (List Ident)) → names_faults as_ lists ≡ [] → AreIdents as_ lists (places as_ lists)
 idents_kept as_ lists e =
     let names : List (List ℕ) = texts (attribute_names as_) in
@@ -91,14 +94,15 @@ value_kept s n (syntax.Value t) f e l few =
     let k : IsKnown s t w.0 = w.1 in
     let plain : is_line w.0.kind ≡ false = sym (ap (λ (o : Option Meaning). option_map_or (λ m. is_line m.kind) o false) k.found) ∙ l in
     subst (IsValue s (syntax.Value t)) (sym (ap form_of_meaning k.found)) (w.0, k.stands, form_kept w.0.scope k.checked.owner w.0.kind k.checked.clean k.is_type plain)
-value_kept s n (syntax.Reference m) f e l few = place_kept m.text s.tables (names_table s m e)
+value_kept s n (syntax.Reference m) f e l few = reference_kept s m e
 
 values_kept : (s : Scope) (as_ : Attributes) → IsFaultless s → attributes_faults s as_ ≡ [] → line_attribute_faults s as_ ≡ [] → attributes_names as_ ≤ 4194304 → AreValues s as_ (line_attributes s as_)
-values_kept s no_attributes f e l few = tt
+values_kept s no_attributes f e l few = refl
 values_kept s (and_attribute (an_attribute n o c) as_) f e l few =
     let here : List Fault = attribute_faults s (an_attribute n o c) in
     let line : List Fault = line_attribute_fault s (an_attribute n o c) in (
-      refl,
+      value s c,
+      line_attributes s as_,
       refl,
       value_kept s n c f (none_before here (attributes_faults s as_) e) (not_broken (stands_for is_line s c) code.LineAttr n (none_before line (line_attribute_faults s as_) l)) (omega (arith, few)),
       values_kept s as_ f (none_behind here (attributes_faults s as_) e) (none_behind line (line_attribute_faults s as_) l) (omega (arith, few)),
@@ -121,7 +125,7 @@ head_kept name optional s owner shape head as_ lists f e =
     let suited : suits shape v.kind ≡ true = holds (suits shape v.kind) code.NotCoord head.vertex (none_before unsuited wide (none_behind long (unsuited ++ wide) rules)) in
     let short : is_long_overlap head.overlap v.kind ≡ false = not_broken (is_long_overlap head.overlap v.kind) code.Decimals owner (none_before long (unsuited ++ wide) rules) in
     let kept = vertices_kept v.scope here.checked.owner shape head v.kind name optional here.checked.clean suited short in
-    subst (λ (o : Option Meaning). IsLine shape name optional s (a_line head as_ lists) (line_with name optional head (vertex_kind o))) (sym w.1) (v, w.2 (Named head.vertex) refl, kept.0, kept.1, refl, refl, refl)
+    subst (λ (o : Option Meaning). IsLine shape name optional s (a_line head as_ lists) (line_with name optional head (vertex_kind o))) (sym w.1) (v, w.2 (Named head.vertex) refl, kept)
 
 line_kept : (name : List ℕ) (optional : Bool) (s : Scope) (owner : Ident) (shape : Shape) (l : LineSyntax) → IsFaultless s → line_faults s owner shape l ≡ [] → line_names l ≤ 4194304
     → IsLine shape name optional s l (line_form name optional s l) × IsPart s l (line_part s l)
@@ -132,37 +136,41 @@ line_kept name optional s owner shape (a_line head as_ lists) f e few =
     let fs : List Fault = attributes_faults s as_ in
     let rest : ns ++ (ls ++ fs) ≡ [] = none_behind vs (ns ++ (ls ++ fs)) e in
     let inner : ls ++ fs ≡ [] = none_behind ns (ls ++ fs) rest in
-    (head_kept name optional s owner shape head as_ lists f (none_before vs (ns ++ (ls ++ fs)) e), (values_kept s as_ f (none_behind ls fs inner) (none_before ls fs inner) (omega (arith, few)), idents_kept as_ lists (none_before ns (ls ++ fs) rest)))
+    (head_kept name optional s owner shape head as_ lists f (none_before vs (ns ++ (ls ++ fs)) e), (line_attributes s as_, places as_ lists, refl, values_kept s as_ f (none_behind ls fs inner) (none_before ls fs inner) (omega (arith, few)), idents_kept as_ lists (none_before ns (ls ++ fs) rest)))
 
 -- ---- attributes of tables
 type_kept : (name : List ℕ) (optional : Bool) (s : Scope) (owner : Ident) (t : TypeSyntax) → IsFaultless s → type_faults s owner t ≡ [] → type_names t ≤ 4194304 → name_alone t ≡ None → IsTypeForm name optional s t (type_form name optional s t)
 type_kept name optional s owner (syntax.Named n) f e few a = absurd (true≢false (ap (λ (o : Option Ident). is_some o) a))
-type_kept name optional s owner (syntax.Coord2 c) f e few a = form_kept s owner (syntax.Coord2 c) e refl refl
-type_kept name optional s owner (syntax.Coord3 c) f e few a = form_kept s owner (syntax.Coord3 c) e refl refl
-type_kept name optional s owner (syntax.Dim1 p) f e few a = form_kept s owner (syntax.Dim1 p) e refl refl
-type_kept name optional s owner (syntax.Dim2 p) f e few a = form_kept s owner (syntax.Dim2 p) e refl refl
-type_kept name optional s owner (syntax.Radians p) f e few a = form_kept s owner (syntax.Radians p) e refl refl
-type_kept name optional s owner (syntax.Grads p) f e few a = form_kept s owner (syntax.Grads p) e refl refl
-type_kept name optional s owner (syntax.Degrees p) f e few a = form_kept s owner (syntax.Degrees p) e refl refl
-type_kept name optional s owner (syntax.Range p) f e few a = form_kept s owner (syntax.Range p) e refl refl
-type_kept name optional s owner (syntax.Text d) f e few a = form_kept s owner (syntax.Text d) e refl refl
-type_kept name optional s owner syntax.Date f e few a = tt
-type_kept name optional s owner syntax.HAlignment f e few a = tt
-type_kept name optional s owner syntax.VAlignment f e few a = tt
-type_kept name optional s owner (syntax.Enumeration es) f e few a = refl
-type_kept name optional s owner (syntax.Polyline l) f e few a = (line_kept name optional s owner shapes.Polyline l f e few).0
-type_kept name optional s owner (syntax.Surface l) f e few a = line_kept name optional s owner shapes.Surface l f e few
-type_kept name optional s owner (syntax.Area l) f e few a = line_kept name optional s owner shapes.Area l f e few
+type_kept name optional s owner (syntax.Coord2 c) f e few a = (form (syntax.Coord2 c), refl, form_kept s owner (syntax.Coord2 c) e refl refl)
+type_kept name optional s owner (syntax.Coord3 c) f e few a = (form (syntax.Coord3 c), refl, form_kept s owner (syntax.Coord3 c) e refl refl)
+type_kept name optional s owner (syntax.Dim1 p) f e few a = (form (syntax.Dim1 p), refl, form_kept s owner (syntax.Dim1 p) e refl refl)
+type_kept name optional s owner (syntax.Dim2 p) f e few a = (form (syntax.Dim2 p), refl, form_kept s owner (syntax.Dim2 p) e refl refl)
+type_kept name optional s owner (syntax.Radians p) f e few a = (form (syntax.Radians p), refl, form_kept s owner (syntax.Radians p) e refl refl)
+type_kept name optional s owner (syntax.Grads p) f e few a = (form (syntax.Grads p), refl, form_kept s owner (syntax.Grads p) e refl refl)
+type_kept name optional s owner (syntax.Degrees p) f e few a = (form (syntax.Degrees p), refl, form_kept s owner (syntax.Degrees p) e refl refl)
+type_kept name optional s owner (syntax.Range p) f e few a = (form (syntax.Range p), refl, form_kept s owner (syntax.Range p) e refl refl)
+type_kept name optional s owner (syntax.Text d) f e few a = (form (syntax.Text d), refl, form_kept s owner (syntax.Text d) e refl refl)
+type_kept name optional s owner syntax.Date f e few a = (form syntax.Date, refl, refl)
+type_kept name optional s owner syntax.HAlignment f e few a = (form syntax.HAlignment, refl, refl)
+type_kept name optional s owner syntax.VAlignment f e few a = (form syntax.VAlignment, refl, refl)
+type_kept name optional s owner (syntax.Enumeration es) f e few a = (form (syntax.Enumeration es), refl, refl)
+type_kept name optional s owner (syntax.Polyline l) f e few a = (line_form name optional s l, refl, (line_kept name optional s owner shapes.Polyline l f e few).0)
+type_kept name optional s owner (syntax.Surface l) f e few a =
+    let k = line_kept name optional s owner shapes.Surface l f e few in
+    (line_form name optional s l, line_part s l, refl, k.0, k.1)
+type_kept name optional s owner (syntax.Area l) f e few a =
+    let k = line_kept name optional s owner shapes.Area l f e few in
+    (line_form name optional s l, line_part s l, refl, k.0, k.1)
 
 content_kept : (s : Scope) (n : Ident) (o : Bool) (c : Content) → IsFaultless s → content_faults s n c ≡ [] → content_names c ≤ 4194304 → IsContent n.text o s c (content_form s n.text o c)
 content_kept s n o (syntax.Value t) f e few =
     let w = known s n t f e few in
     let k : IsKnown s t w.0 = w.1 in
     subst (IsContent n.text o s (syntax.Value t)) (sym (ap (meaning_form n.text o) k.found)) (w.0, k.stands, type_kept n.text o w.0.scope k.checked.owner w.0.kind k.faultless k.checked.clean k.checked.few k.is_type)
-content_kept s n o (syntax.Reference m) f e few = place_kept m.text s.tables (names_table s m e)
+content_kept s n o (syntax.Reference m) f e few = (reference s m, refl, reference_kept s m e)
 
 pub attributes_kept : (s : Scope) (as_ : Attributes) → IsFaultless s → attributes_faults s as_ ≡ [] → attributes_names as_ ≤ 4194304 → AreAttributes s as_ (attributes s as_)
-attributes_kept s no_attributes f e few = tt
+attributes_kept s no_attributes f e few = refl
 attributes_kept s (and_attribute (an_attribute n o c) as_) f e few =
     let here : List Fault = attribute_faults s (an_attribute n o c) in
-    (refl, refl, content_kept s n o c f (none_before here (attributes_faults s as_) e) (omega (arith, few)), attributes_kept s as_ f (none_behind here (attributes_faults s as_) e) (omega (arith, few)))
+    (content_form s n.text o c, attributes s as_, refl, content_kept s n o c f (none_before here (attributes_faults s as_) e) (omega (arith, few)), attributes_kept s as_ f (none_behind here (attributes_faults s as_) e) (omega (arith, few)))

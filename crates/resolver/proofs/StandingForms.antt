@@ -1,5 +1,5 @@
 -- Types, vertices and overlaps that break no rule stand for what is written.
-use Rattle.std.proofs.Common.{◌≡◌, ℕ, ◌≤◌, Bool, true, false, cond, ◌&&◌, ℤ, pos, List, [], ◌∷◌, Option, Some, None, refl, ap, sym, ◌∙◌, subst, arith, true≢false}
+use Rattle.std.proofs.Common.{◌≡◌, ℕ, ◌≤◌, Bool, true, false, cond, ◌&&◌, pos, List, [], ◌∷◌, Option, Some, None, refl, ap, sym, ◌∙◌, subst, arith, true≢false}
 use Rattle.std.specs.List.{list_any}
 use Rattle.std.specs.Option.{is_some, option_map}
 use Rattle.ili_grammar.specs.Syntax as syntax
@@ -9,11 +9,11 @@ use Rattle.resolver.specs.declared.shape.Shape.{Shape}
 use Rattle.resolver.specs.declared.shape.Shape.TheVariants as shapes
 use Rattle.resolver.specs.Faults.{fault_if}
 use Rattle.resolver.specs.Lines.{is_coord, is_coord2, is_line, is_long_overlap, suits}
-use Rattle.resolver.specs.Models.{limits, form, line_with, overlap_at}
+use Rattle.resolver.specs.Models.{limits, window, block, text_length, form, line_with, overlap_at}
 use Rattle.resolver.specs.Numbers.{spans, most_decimals, scale_of, in_units, is_long, is_reversed, has_long_bound, is_text_length}
 use Rattle.resolver.specs.Rules.{numbers_faults, type_faults}
 use Rattle.resolver.specs.Scopes.{Scope, is_visible, name_alone}
-use Rattle.resolver.specs.Standing.{AreLimits, IsForm, AreVertices, IsOverlap}
+use Rattle.resolver.specs.Standing.{AreLimits, IsForm, IsOverlap, HasForm}
 use Rattle.resolver.proofs.ExactNumbers.{limits_kept, length_kept, few_digits}
 use Rattle.resolver.proofs.NoFault.{none_before, none_behind, not_broken, holds, or-left_false, or-right_false}
 
@@ -40,18 +40,18 @@ numbers_kept owner t e =
 -- a type that is no name and no line
 pub form_kept : (s : Scope) (owner : Ident) (t : TypeSyntax) → type_faults s owner t ≡ [] → name_alone t ≡ None → is_line t ≡ false → IsForm t (form t)
 form_kept s owner (syntax.Named n) e a l = absurd (true≢false (ap (λ (o : Option Ident). is_some o) a))
-form_kept s owner (syntax.Coord2 c) e a l = let k = numbers_kept owner (syntax.Coord2 c) e in (k.0, k.1.0)
-form_kept s owner (syntax.Coord3 c) e a l = let k = numbers_kept owner (syntax.Coord3 c) e in (k.0, k.1.0, k.1.1.0)
-form_kept s owner (syntax.Dim1 p) e a l = (numbers_kept owner (syntax.Dim1 p) e).0
-form_kept s owner (syntax.Dim2 p) e a l = (numbers_kept owner (syntax.Dim2 p) e).0
-form_kept s owner (syntax.Radians p) e a l = (numbers_kept owner (syntax.Radians p) e).0
-form_kept s owner (syntax.Grads p) e a l = (numbers_kept owner (syntax.Grads p) e).0
-form_kept s owner (syntax.Degrees p) e a l = (numbers_kept owner (syntax.Degrees p) e).0
-form_kept s owner (syntax.Range p) e a l = (numbers_kept owner (syntax.Range p) e).0
-form_kept s owner (syntax.Text d) e a l = length_kept d (holds (is_text_length d) code.Bounds owner e)
-form_kept s owner syntax.Date e a l = tt
-form_kept s owner syntax.HAlignment e a l = tt
-form_kept s owner syntax.VAlignment e a l = tt
+form_kept s owner (syntax.Coord2 c) e a l = let k = numbers_kept owner (syntax.Coord2 c) e in (window (scale_of (syntax.Coord2 c)) c, refl, k.0, k.1.0)
+form_kept s owner (syntax.Coord3 c) e a l = let k = numbers_kept owner (syntax.Coord3 c) e in (block (scale_of (syntax.Coord3 c)) c, refl, k.0, k.1.0, k.1.1.0)
+form_kept s owner (syntax.Dim1 p) e a l = (limits (scale_of (syntax.Dim1 p)) p, refl, (numbers_kept owner (syntax.Dim1 p) e).0)
+form_kept s owner (syntax.Dim2 p) e a l = (limits (scale_of (syntax.Dim2 p)) p, refl, (numbers_kept owner (syntax.Dim2 p) e).0)
+form_kept s owner (syntax.Radians p) e a l = (limits (scale_of (syntax.Radians p)) p, refl, (numbers_kept owner (syntax.Radians p) e).0)
+form_kept s owner (syntax.Grads p) e a l = (limits (scale_of (syntax.Grads p)) p, refl, (numbers_kept owner (syntax.Grads p) e).0)
+form_kept s owner (syntax.Degrees p) e a l = (limits (scale_of (syntax.Degrees p)) p, refl, (numbers_kept owner (syntax.Degrees p) e).0)
+form_kept s owner (syntax.Range p) e a l = (limits (scale_of (syntax.Range p)) p, refl, (numbers_kept owner (syntax.Range p) e).0)
+form_kept s owner (syntax.Text d) e a l = (text_length d, refl, length_kept d (holds (is_text_length d) code.Bounds owner e))
+form_kept s owner syntax.Date e a l = refl
+form_kept s owner syntax.HAlignment e a l = refl
+form_kept s owner syntax.VAlignment e a l = refl
 form_kept s owner (syntax.Enumeration es) e a l = refl
 form_kept s owner (syntax.Polyline k) e a l = absurd (true≢false l)
 form_kept s owner (syntax.Surface k) e a l = absurd (true≢false l)
@@ -85,14 +85,11 @@ named_visible s owner (syntax.Surface l) n q e = absurd (unlike n q)
 named_visible s owner (syntax.Area l) n q e = absurd (unlike n q)
 
 -- ---- vertices and overlaps
-overlap_kept : (scale : ℕ) (d : Decimal) → is_long scale d ≡ false → IsOverlap scale (Some d) (Some (overlap_at scale d))
-overlap_kept scale d e =
-    let kept : overlap_at scale d ≡ in_units scale d = ap (λ (b : Bool). cond b (pos 0) (in_units scale d)) e in
-    subst (λ (z : ℤ). IsOverlap scale (Some d) (Some z)) (sym kept) (refl, few_digits scale d e)
-
 overlaps_kept : (overlap : Option Decimal) (kind : TypeSyntax) → is_coord kind ≡ true → is_long_overlap overlap kind ≡ false → IsOverlap (scale_of kind) overlap (option_map (overlap_at (scale_of kind)) overlap)
-overlaps_kept None kind c e = tt
-overlaps_kept (Some d) kind c e = overlap_kept (scale_of kind) d (sym (ap (λ (b : Bool). b && is_long (scale_of kind) d) c) ∙ e)
+overlaps_kept None kind c e = refl
+overlaps_kept (Some d) kind c e =
+    let short : is_long (scale_of kind) d ≡ false = sym (ap (λ (b : Bool). b && is_long (scale_of kind) d) c) ∙ e in
+    (ap (λ (b : Bool). Some (cond b (pos 0) (in_units (scale_of kind) d))) short, few_digits (scale_of kind) d short)
 
 unsuited : (shape : Shape) (kind : TypeSyntax) → is_coord kind ≡ false → is_coord2 kind ≡ false → suits shape kind ≡ true → ⊥
 unsuited shapes.Polyline kind a b e = true≢false (sym e ∙ a)
@@ -100,21 +97,21 @@ unsuited shapes.Surface kind a b e = true≢false (sym e ∙ b)
 unsuited shapes.Area kind a b e = true≢false (sym e ∙ b)
 
 -- a line whose vertices are of a type that was checked
-abbrev pub AreKnown : Shape → LineHead → TypeSyntax → List ℕ → Bool → Type 0
-AreKnown shape head kind name optional = AreVertices shape kind (line_with name optional head kind) × IsOverlap (scale_of kind) head.overlap (line_with name optional head kind).overlap
-
-in_space : (shape : Shape) (head : LineHead) (c : syntax.Corners3) (name : List ℕ) (optional : Bool) → AreKept (scale_of (syntax.Coord3 c)) (c.x ∷ c.y ∷ c.z ∷ []) → suits shape (syntax.Coord3 c) ≡ true
-    → AreVertices shape (syntax.Coord3 c) (line_with name optional head (syntax.Coord3 c))
-in_space shapes.Polyline head c name optional k e = (k.0, k.1.0, limits (scale_of (syntax.Coord3 c)) c.z, refl, k.1.1.0)
-in_space shapes.Surface head c name optional k e = absurd (true≢false (sym e))
-in_space shapes.Area head c name optional k e = absurd (true≢false (sym e))
-
 pub vertices_kept : (s : Scope) (owner : Ident) (shape : Shape) (head : LineHead) (kind : TypeSyntax) (name : List ℕ) (optional : Bool)
-    → type_faults s owner kind ≡ [] → suits shape kind ≡ true → is_long_overlap head.overlap kind ≡ false → AreKnown shape head kind name optional
+    → type_faults s owner kind ≡ [] → suits shape kind ≡ true → is_long_overlap head.overlap kind ≡ false → HasForm shape name optional head kind (line_with name optional head kind)
 vertices_kept s owner shape head (syntax.Coord2 c) name optional f e o =
     let k = numbers_kept owner (syntax.Coord2 c) f in
-    ((k.0, k.1.0, refl), overlaps_kept head.overlap (syntax.Coord2 c) refl o)
-vertices_kept s owner shape head (syntax.Coord3 c) name optional f e o = (in_space shape head c name optional (numbers_kept owner (syntax.Coord3 c) f) e, overlaps_kept head.overlap (syntax.Coord3 c) refl o)
+    record { suits = e; vertices = (k.0, k.1.0, refl); overlap = overlaps_kept head.overlap (syntax.Coord2 c) refl o; name_is = refl; optional_is = refl; arcs = refl }
+vertices_kept s owner shape head (syntax.Coord3 c) name optional f e o =
+    let k = numbers_kept owner (syntax.Coord3 c) f in
+    record {
+      suits = e;
+      vertices = (k.0, k.1.0, limits (scale_of (syntax.Coord3 c)) c.z, refl, k.1.1.0);
+      overlap = overlaps_kept head.overlap (syntax.Coord3 c) refl o;
+      name_is = refl;
+      optional_is = refl;
+      arcs = refl;
+    }
 vertices_kept s owner shape head (syntax.Named n) name optional f e o = absurd (unsuited shape (syntax.Named n) refl refl e)
 vertices_kept s owner shape head (syntax.Dim1 p) name optional f e o = absurd (unsuited shape (syntax.Dim1 p) refl refl e)
 vertices_kept s owner shape head (syntax.Dim2 p) name optional f e o = absurd (unsuited shape (syntax.Dim2 p) refl refl e)

@@ -1,14 +1,15 @@
 -- What the parts of a model stand for, by what is written alone: no value stands in for one that is missing.
-use Rattle.std.specs.Prelude.{◌≡◌, ℕ, ◌-◌, ◌^◌, ◌≤◌, ℤ, pos, neg_ℤ, ◌*ℤ◌, ◌<ℤ◌, ◌≤ℤ◌, Bool, true, false, List, slice_get, Option, Some, None, ⊤}
+use Rattle.std.specs.Prelude.{◌≡◌, ℕ, ◌-◌, ◌^◌, ◌≤◌, ℤ, pos, neg_ℤ, ◌*ℤ◌, ◌<ℤ◌, ◌≤ℤ◌, Bool, true, false, List, slice_get, Option, Some, None}
 use Rattle.std.specs.List.{AllZip}
 use Rattle.ili_grammar.specs.Syntax as syntax
-use Rattle.ili_grammar.specs.Syntax.{Ident, Decimal, Span, LineSyntax, a_line, Attributes, no_attributes, and_attribute, an_attribute, Content, Value, TypeSyntax, Named, DomainSyntax, TableSyntax, TopicSyntax, ModelSyntax}
+use Rattle.ili_grammar.specs.Syntax.{Ident, Decimal, Span, LineHead, LineSyntax, a_line, Attributes, no_attributes, and_attribute, an_attribute, Content, Value, TypeSyntax, Named, DomainSyntax, TableSyntax, TopicSyntax, ModelSyntax}
 use Rattle.resolver.specs.declared.shape.Shape.{Shape}
 use Rattle.resolver.specs.declared.shape.Shape.TheVariants as shapes
 use Rattle.resolver.specs.Resolved as resolved
-use Rattle.resolver.specs.Resolved.{Limits, Form, LineForm, AttributeForm, LinePart, ModelTable, Topic, ResolvedModel}
+use Rattle.resolver.specs.Resolved.{Limits, Window, Block, Form, LineForm, AttributeForm, LinePart, ModelTable, Topic, ResolvedModel}
 use Rattle.resolver.specs.Numbers.{scale_of, in_units, leaves}
 use Rattle.resolver.specs.Scopes.{Scope, Meaning, is_among, place, texts, names_of, name_alone, everywhere, outside, inside}
+use Rattle.resolver.specs.Lines.{suits}
 use Rattle.resolver.specs.Rules.{attribute_names}
 
 -- what a type stands for: itself where it is no name alone; a name that is declared further out what it stands for there, any other what the first domain of that name stands for
@@ -47,77 +48,83 @@ pub record IsLength (d : Decimal) (n : ℕ) : Type 0 where
 -- ---- values
 -- what a type is that is neither a name nor a line
 abbrev pub IsForm : TypeSyntax → Form → Type 0
-IsForm (syntax.Coord2 c) (resolved.Coord2 w) = AreLimits (scale_of (syntax.Coord2 c)) c.x w.x × AreLimits (scale_of (syntax.Coord2 c)) c.y w.y
-IsForm (syntax.Coord3 c) (resolved.Coord3 b) = AreLimits (scale_of (syntax.Coord3 c)) c.x b.x × AreLimits (scale_of (syntax.Coord3 c)) c.y b.y × AreLimits (scale_of (syntax.Coord3 c)) c.z b.z
-IsForm (syntax.Dim1 s) (resolved.Dim1 l) = AreLimits (scale_of (syntax.Dim1 s)) s l
-IsForm (syntax.Dim2 s) (resolved.Dim2 l) = AreLimits (scale_of (syntax.Dim2 s)) s l
-IsForm (syntax.Radians s) (resolved.Radians l) = AreLimits (scale_of (syntax.Radians s)) s l
-IsForm (syntax.Grads s) (resolved.Grads l) = AreLimits (scale_of (syntax.Grads s)) s l
-IsForm (syntax.Degrees s) (resolved.Degrees l) = AreLimits (scale_of (syntax.Degrees s)) s l
-IsForm (syntax.Range s) (resolved.Range l) = AreLimits (scale_of (syntax.Range s)) s l
-IsForm (syntax.Text d) (resolved.Text n) = IsLength d n
-IsForm syntax.Date resolved.Date = ⊤
-IsForm syntax.HAlignment resolved.HAlignment = ⊤
-IsForm syntax.VAlignment resolved.VAlignment = ⊤
-IsForm (syntax.Enumeration es) (resolved.Enumeration n) = n ≡ leaves es
+IsForm (syntax.Coord2 c) f = (w : Window) × (f ≡ resolved.Coord2 w) × AreLimits (scale_of (syntax.Coord2 c)) c.x w.x × AreLimits (scale_of (syntax.Coord2 c)) c.y w.y
+IsForm (syntax.Coord3 c) f = (b : Block) × (f ≡ resolved.Coord3 b) × AreLimits (scale_of (syntax.Coord3 c)) c.x b.x × AreLimits (scale_of (syntax.Coord3 c)) c.y b.y × AreLimits (scale_of (syntax.Coord3 c)) c.z b.z
+IsForm (syntax.Dim1 s) f = (l : Limits) × (f ≡ resolved.Dim1 l) × AreLimits (scale_of (syntax.Dim1 s)) s l
+IsForm (syntax.Dim2 s) f = (l : Limits) × (f ≡ resolved.Dim2 l) × AreLimits (scale_of (syntax.Dim2 s)) s l
+IsForm (syntax.Radians s) f = (l : Limits) × (f ≡ resolved.Radians l) × AreLimits (scale_of (syntax.Radians s)) s l
+IsForm (syntax.Grads s) f = (l : Limits) × (f ≡ resolved.Grads l) × AreLimits (scale_of (syntax.Grads s)) s l
+IsForm (syntax.Degrees s) f = (l : Limits) × (f ≡ resolved.Degrees l) × AreLimits (scale_of (syntax.Degrees s)) s l
+IsForm (syntax.Range s) f = (l : Limits) × (f ≡ resolved.Range l) × AreLimits (scale_of (syntax.Range s)) s l
+IsForm (syntax.Text d) f = (n : ℕ) × (f ≡ resolved.Text n) × IsLength d n
+IsForm syntax.Date f = f ≡ resolved.Date
+IsForm syntax.HAlignment f = f ≡ resolved.HAlignment
+IsForm syntax.VAlignment f = f ≡ resolved.VAlignment
+IsForm (syntax.Enumeration es) f = f ≡ resolved.Enumeration (leaves es)
 IsForm t f = ⊥
 
--- a value of a type, or a reference by the number of the table that has the name
+-- a reference names the table by its number
+abbrev pub IsReference : Scope → Ident → Form → Type 0
+IsReference s n f = (k : ℕ) × (f ≡ resolved.Reference k) × (place n.text s.tables ≡ Some k)
+
 abbrev pub IsValue : Scope → Content → Form → Type 0
 IsValue s (Value t) f = (m : Meaning) × StandsFor m s t × IsForm m.kind f
-IsValue s (syntax.Reference n) (resolved.Reference k) = place n.text s.tables ≡ Some k
-IsValue s c f = ⊥
+IsValue s (syntax.Reference n) f = IsReference s n f
 
 -- IDENT lists by the numbers of the attributes that have the names
 abbrev pub AreIdents : Attributes → List (List Ident) → List (List ℕ) → Type 0
 AreIdents as_ lists places = AllZip (AllZip (λ n k. place n.text (texts (attribute_names as_)) ≡ Some k)) lists places
 
 -- ---- lines
--- vertices of two axes, those of a POLYLINE also of three
-abbrev pub AreVertices : Shape → TypeSyntax → LineForm → Type 0
-AreVertices shape (syntax.Coord2 c) f = AreLimits (scale_of (syntax.Coord2 c)) c.x f.window.x × AreLimits (scale_of (syntax.Coord2 c)) c.y f.window.y × (f.height ≡ None)
-AreVertices shapes.Polyline (syntax.Coord3 c) f =
-    AreLimits (scale_of (syntax.Coord3 c)) c.x f.window.x × AreLimits (scale_of (syntax.Coord3 c)) c.y f.window.y × (h : Limits) × (f.height ≡ Some h) × AreLimits (scale_of (syntax.Coord3 c)) c.z h
-AreVertices shape t f = ⊥
+-- where vertices lie, and their heights where they have any
+abbrev pub AreVertices : TypeSyntax → Window → Option Limits → Type 0
+AreVertices (syntax.Coord2 c) w h = AreLimits (scale_of (syntax.Coord2 c)) c.x w.x × AreLimits (scale_of (syntax.Coord2 c)) c.y w.y × (h ≡ None)
+AreVertices (syntax.Coord3 c) w h =
+    AreLimits (scale_of (syntax.Coord3 c)) c.x w.x × AreLimits (scale_of (syntax.Coord3 c)) c.y w.y × (z : Limits) × (h ≡ Some z) × AreLimits (scale_of (syntax.Coord3 c)) c.z z
+AreVertices t w h = ⊥
 
 -- an overlap is given where one is written, in units of the scale, further decimals dropped
 abbrev pub IsOverlap : ℕ → Option Decimal → Option ℤ → Type 0
-IsOverlap scale None None = ⊤
-IsOverlap scale (Some d) (Some z) = (z ≡ in_units scale d) × HasFewDigits z
-IsOverlap scale d z = ⊥
+IsOverlap scale None z = z ≡ None
+IsOverlap scale (Some d) z = (z ≡ Some (in_units scale d)) × HasFewDigits (in_units scale d)
+
+-- a line of the attribute of that name, whose vertices are of a type that suits it
+pub record HasForm (shape : Shape) (name : List ℕ) (optional : Bool) (head : LineHead) (kind : TypeSyntax) (f : LineForm) : Type 0 where
+  pub suits : suits shape kind ≡ true
+  pub vertices : AreVertices kind f.window f.height
+  pub overlap : IsOverlap (scale_of kind) head.overlap f.overlap
+  pub name_is : f.name ≡ name
+  pub optional_is : f.optional ≡ optional
+  pub arcs : f.arcs ≡ head.arcs
 
 abbrev pub IsLine : Shape → List ℕ → Bool → Scope → LineSyntax → LineForm → Type 0
-IsLine shape name optional s (a_line head as_ lists) f =
-    (v : Meaning) × StandsFor v s (Named head.vertex) × AreVertices shape v.kind f × IsOverlap (scale_of v.kind) head.overlap f.overlap
-    × (f.name ≡ name) × (f.optional ≡ optional) × (f.arcs ≡ head.arcs)
+IsLine shape name optional s (a_line head as_ lists) f = (v : Meaning) × StandsFor v s (Named head.vertex) × HasForm shape name optional head v.kind f
 
 -- the attributes of a line, each a value or a reference
 abbrev pub AreValues : Scope → Attributes → resolved.Attributes → Type 0
-AreValues s no_attributes resolved.no_attributes = ⊤
-AreValues s (and_attribute (an_attribute n o c) as_) (resolved.and_attribute (resolved.an_attribute name optional (resolved.Value f)) fs) = (name ≡ n.text) × (optional ≡ o) × IsValue s c f × AreValues s as_ fs
-AreValues s as_ fs = ⊥
+AreValues s no_attributes fs = fs ≡ resolved.no_attributes
+AreValues s (and_attribute (an_attribute n o c) as_) fs =
+    (f : Form) × (rest : resolved.Attributes) × (fs ≡ resolved.and_attribute (resolved.an_attribute n.text o (resolved.Value f)) rest) × IsValue s c f × AreValues s as_ rest
 
 abbrev pub IsPart : Scope → LineSyntax → LinePart → Type 0
-IsPart s (a_line head as_ lists) (resolved.a_part own places) = AreValues s as_ own × AreIdents as_ lists places
+IsPart s (a_line head as_ lists) p = (own : resolved.Attributes) × (places : List (List ℕ)) × (p ≡ resolved.a_part own places) × AreValues s as_ own × AreIdents as_ lists places
 
 -- ---- attributes of tables
 -- an attribute of that name whose type is written in a scope
 abbrev pub IsTypeForm : List ℕ → Bool → Scope → TypeSyntax → AttributeForm → Type 0
-IsTypeForm name optional s (syntax.Polyline l) (resolved.Polyline f) = IsLine shapes.Polyline name optional s l f
-IsTypeForm name optional s (syntax.Surface l) (resolved.Surface f p) = IsLine shapes.Surface name optional s l f × IsPart s l p
-IsTypeForm name optional s (syntax.Area l) (resolved.Area f p) = IsLine shapes.Area name optional s l f × IsPart s l p
-IsTypeForm name optional s t (resolved.Value f) = IsForm t f
-IsTypeForm name optional s t f = ⊥
+IsTypeForm name optional s (syntax.Polyline l) f = (h : LineForm) × (f ≡ resolved.Polyline h) × IsLine shapes.Polyline name optional s l h
+IsTypeForm name optional s (syntax.Surface l) f = (h : LineForm) × (p : LinePart) × (f ≡ resolved.Surface h p) × IsLine shapes.Surface name optional s l h × IsPart s l p
+IsTypeForm name optional s (syntax.Area l) f = (h : LineForm) × (p : LinePart) × (f ≡ resolved.Area h p) × IsLine shapes.Area name optional s l h × IsPart s l p
+IsTypeForm name optional s t f = (v : Form) × (f ≡ resolved.Value v) × IsForm t v
 
 abbrev pub IsContent : List ℕ → Bool → Scope → Content → AttributeForm → Type 0
 IsContent name optional s (Value t) f = (m : Meaning) × StandsFor m s t × IsTypeForm name optional m.scope m.kind f
-IsContent name optional s (syntax.Reference n) (resolved.Value (resolved.Reference k)) = place n.text s.tables ≡ Some k
-IsContent name optional s c f = ⊥
+IsContent name optional s (syntax.Reference n) f = (v : Form) × (f ≡ resolved.Value v) × IsReference s n v
 
 abbrev pub AreAttributes : Scope → Attributes → resolved.Attributes → Type 0
-AreAttributes s no_attributes resolved.no_attributes = ⊤
-AreAttributes s (and_attribute (an_attribute n o c) as_) (resolved.and_attribute (resolved.an_attribute name optional f) fs) = (name ≡ n.text) × (optional ≡ o) × IsContent n.text o s c f × AreAttributes s as_ fs
-AreAttributes s as_ fs = ⊥
+AreAttributes s no_attributes fs = fs ≡ resolved.no_attributes
+AreAttributes s (and_attribute (an_attribute n o c) as_) fs =
+    (f : AttributeForm) × (rest : resolved.Attributes) × (fs ≡ resolved.and_attribute (resolved.an_attribute n.text o f) rest) × IsContent n.text o s c f × AreAttributes s as_ rest
 
 -- ---- what holds attributes
 pub record IsTable (s : Scope) (t : TableSyntax) (m : ModelTable) : Type 0 where
