@@ -1,3 +1,5 @@
 pub mod Fields
 pub mod Leaves
 pub mod Meeting
+pub mod Strokes
+pub mod ValueFindings

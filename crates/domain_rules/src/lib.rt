@@ -31,9 +31,13 @@ mod field;
 mod laws;
 mod leaves;
 mod numbers;
+mod strokes;
 #[cfg(test)]
 mod tests;
+mod values;
 mod words;
 
 pub use field::field_ok;
 pub use laws::leaves_are_spelled;
+pub use strokes::stroke_ok;
+pub use values::check_values;

@@ -1,4 +1,5 @@
 pub mod Faults
+pub mod Findings
 pub mod Forms
 pub mod Machine
 pub mod Readings

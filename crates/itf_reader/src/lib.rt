@@ -40,6 +40,7 @@ mod gathered;
 mod laws;
 mod naming;
 mod open;
+mod order;
 mod placing;
 mod reading;
 mod refusal;
@@ -54,6 +55,7 @@ mod transfer;
 
 pub use findings::{Code, Finding, Other};
 pub use laws::{machine_begins, machine_reads, machine_stops, one_answer, one_transfer};
+pub use order::sort_findings;
 pub use reading::read_transfer;
 pub use refusal::ReadRefusal;
 pub use transfer::{Row, Stroke, Structure, TableRows, Transfer, Vertex, VertexKind};

