@@ -8,5 +8,6 @@ pub mod Laid
 pub mod Numbers
 pub mod Readings
 pub mod Refused
+pub mod Sorting
 pub mod LineByLine
 pub mod Stands

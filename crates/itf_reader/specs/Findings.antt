@@ -46,12 +46,12 @@ abbrev pub is_before : Finding → Finding → Bool
 is_before f g = is_lt (finding_cmp f g)
 
 -- an element in front of the first that does not come before it
-pub put_in : {X : Type 0} → (X → X → Bool) → X → List X → List X
+abbrev pub put_in : {X : Type 0} → (X → X → Bool) → X → List X → List X
 put_in lt x [] = x ∷ []
 put_in lt x (y ∷ ys) = if lt y x then y ∷ put_in lt x ys else x ∷ y ∷ ys
 
 -- elements in order; those that tie keep theirs
-pub sorted : {X : Type 0} → (X → X → Bool) → List X → List X
+abbrev pub sorted : {X : Type 0} → (X → X → Bool) → List X → List X
 sorted lt [] = []
 sorted lt (x ∷ xs) = put_in lt x (sorted lt xs)
 

@@ -45,6 +45,6 @@ fn compare(a: &Finding, b: &Finding) -> Ordering
 pub fn sort_findings(findings: &mut Vec<Finding>) -> Result<(), Memory>
     ensures { OnOk result (findings_of findings.new.items ≡ in_order (findings_of findings.old.items)) }
 {
-    let _unused = compare;
-    Err(Memory)
+    findings.sort_by(compare)?;
+    Ok(())
 }

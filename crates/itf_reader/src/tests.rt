@@ -3,7 +3,9 @@ ghost use Rattle.table_layout.specs.Layouts.{Table as LayoutTable};
 ghost use Rattle.table_layout.specs.Valid.{IsTable, IsValid};
 ghost use Rattle.table_layout.specs.Values.{layout_view, table_view};
 
-use super::{ReadRefusal, Row, Structure, Transfer, read_transfer};
+use super::{
+    Code, Finding, Other, ReadRefusal, Row, Structure, Transfer, read_transfer, sort_findings,
+};
 use ili_grammar::Codes;
 use itf_lines::{Field, logical_lines};
 use ports::Name;
@@ -276,4 +278,59 @@ fn continuation_and_the_end_keep_their_codes(rt: HostRuntime) {
         ("EMOD \\\nCONT\nFOO\n", 7, Structure::Word),
     ];
     refuses(&rt, rt.alloc(), HEAD, &faults);
+}
+
+// A line, a column, a code, and the line that came first.
+type Place = (u32, u32, Code, u32);
+
+fn finding(place: &Place) -> Finding {
+    let (line, column, code, first) = *place;
+    Finding {
+        line,
+        column,
+        code,
+        other: Other::Line(first),
+    }
+}
+
+fn first_line(other: &Other) -> u32 {
+    match other {
+        Other::Line(line) => *line,
+        _ => 0,
+    }
+}
+
+#[test]
+fn findings_stand_by_line_then_column_then_code(rt: HostRuntime) {
+    let places: [Place; 7] = [
+        (9, 0, Code::Tid, 7),
+        (9, 2, Code::Number, 0),
+        (4, 3, Code::Reference, 0),
+        (9, 1, Code::Ident, 8),
+        (9, 1, Code::Undefined, 0),
+        (9, 1, Code::Ident, 4),
+        (4, 3, Code::Count, 0),
+    ];
+    let want: [Place; 7] = [
+        (4, 3, Code::Count, 0),
+        (4, 3, Code::Reference, 0),
+        (9, 0, Code::Tid, 7),
+        (9, 1, Code::Undefined, 0),
+        (9, 1, Code::Ident, 8),
+        (9, 1, Code::Ident, 4),
+        (9, 2, Code::Number, 0),
+    ];
+    let mut findings = Vec::new(rt.alloc());
+    for place in &places {
+        findings.push(finding(place)).expect(&rt, "memory");
+    }
+    sort_findings(&mut findings).expect(&rt, "memory");
+    assert_eq!(&rt; findings.len(), want.len());
+    for (finding, want) in findings.iter().zip(&want) {
+        let (line, column, code, first) = *want;
+        assert_eq!(&rt; finding.line, line);
+        assert_eq!(&rt; finding.column, column);
+        assert_eq!(&rt; finding.code, code);
+        assert_eq!(&rt; first_line(&finding.other), first);
+    }
 }
