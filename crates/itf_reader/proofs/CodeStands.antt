@@ -1,12 +1,54 @@
 -- The code with which the machine stops is the first that fits.
 use Rattle.std.proofs.Common.{◌≡◌, ℕ, Bool, true, false, List, [], Option, Some, None, Result, Ok, Err, ap, sym, if◌then◌else◌}
-use Rattle.std.specs.Prelude.{not, is_some}
+use Rattle.std.specs.Prelude.{not, is_some, ◌&&◌}
 use Rattle.itf_lines.specs.declared.word.LineWord.{LineWord}
 use Rattle.itf_lines.specs.declared.word.LineWord.TheVariants.{Scnt, Slashes, Mtid, Modl, Motr, Topi, Tabl, Obje, Stpt, Lipt, Arcp, Elin, Etab, Etop, Emod, Ende}
+use Rattle.itf_lines.specs.LogicalLines.{LogicalLine}
 use Rattle.itf_reader.specs.Forms.{Table, Form, TopicRows, names, table_named, topic_named, table_came, topic_came}
 use Rattle.itf_reader.specs.TransferText.{line}
-use Rattle.itf_reader.specs.Machine.{InTopic, State, start, free, title, model, topics, tables, objects, strokes, vertices, arc, last, done, named_table, named_topic, Code, Word, AsMotr, Name, Twice, by_word}
-use Rattle.itf_reader.specs.Faults.{has_room, code_of}
+use Rattle.itf_reader.specs.Machine.{InTopic, State, start, free, title, model, topics, tables, objects, strokes, vertices, arc, last, done, named_table, named_topic, has_room, has_ended, Code, Word, AsMotr, Name, Twice, by_word}
+
+-- the words that may stand there
+abbrev pub may_stand : State → LineWord → Bool
+may_stand start Scnt = true
+may_stand free word = true
+may_stand title Mtid = true
+may_stand model Modl = true
+may_stand (topics came) Topi = true
+may_stand (topics came) Emod = true
+may_stand (tables t) Tabl = true
+may_stand (tables t) Etop = true
+may_stand (objects t) Obje = true
+may_stand (objects t) Etab = true
+may_stand (strokes r) Obje = true
+may_stand (strokes r) Etab = true
+may_stand (strokes r) Stpt = has_room r
+may_stand (strokes r) Elin = has_room r
+may_stand (vertices r vs) Lipt = true
+may_stand (vertices r vs) Arcp = true
+may_stand (vertices r vs) Elin = true
+may_stand (arc r vs) Lipt = true
+may_stand (last came) Ende = true
+may_stand state word = false
+
+-- MODL has exactly the model's name, TOPI that of a topic, TABL that of a table of the open topic
+abbrev pub state_named : Form → State → List (List ℕ) → Bool
+state_named f model fields = names fields f.model
+state_named f (topics came) fields = is_some (topic_named 0 fields f.topics)
+state_named f (tables t) fields = is_some (table_named 0 t.number fields f.tables)
+state_named f state fields = true
+
+abbrev pub is_motr : LineWord → Bool
+is_motr Motr = true
+is_motr word = false
+
+-- the first code that fits a line at fault
+abbrev pub code_of : Form → State → LogicalLine → Code
+code_of f s l =
+    if is_motr l.word && not (has_ended s) then AsMotr
+    else if not (may_stand s l.word) then Word
+    else if not (state_named f s l.fields) then Name
+    else Twice
 
 abbrev code_in : Code → Result State Code → Code
 code_in other (Ok s) = other

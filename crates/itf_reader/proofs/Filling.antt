@@ -1,7 +1,7 @@
 -- Strokes that are filled up one by one.
-use Rattle.std.proofs.Common.{◌≡◌, ◌≤◌, ◌<◌, ◌-◌, ◌+◌, ℕ, suc, List, [], ◌∷◌, ◌++◌, length, ap, sym, ◌∙◌, arith}
+use Rattle.std.proofs.Common.{◌≡◌, ◌<◌, ◌-◌, ◌+◌, ℕ, suc, List, [], ◌∷◌, ◌++◌, length, ap, sym, ◌∙◌, arith}
 use Rattle.std.specs.Prelude.{replicate}
-use Rattle.std.proofs.lemmas.List.{append_assoc, append-nil, length-append}
+use Rattle.std.proofs.lemmas.List.{append_assoc, length-append}
 use Rattle.std.proofs.lemmas.List.{map-append, length-map}
 use Rattle.itf_reader.specs.declared.transfer.Stroke.{Stroke as CodeStroke}
 use Rattle.itf_reader.specs.Forms.{Vertex, filled}
@@ -12,9 +12,6 @@ filled_more n ss h =
     let l : length (ss ++ ([] ∷ [])) ≡ length ss + 1 = length-append ss ([] ∷ []) in
     let e : n - length ss ≡ suc (n - length (ss ++ ([] ∷ []))) = omega (arith, l) in
     append_assoc ss ([] ∷ []) (replicate (n - length (ss ++ ([] ∷ []))) []) ∙ ap (λ (k : ℕ). ss ++ replicate k []) (sym e)
-
-pub filled_full : (n : ℕ) (ss : List (List Vertex)) → n ≤ length ss → filled n ss ≡ ss
-filled_full n ss h = let e : n - length ss ≡ 0 = omega arith in ap (λ (k : ℕ). ss ++ replicate k []) e ∙ append-nil ss
 
 -- a stroke without vertices, where there is room for it
 pub filled_push : (n : ℕ) (ss : List CodeStroke) (s : CodeStroke) → stroke_of s ≡ [] → length ss < n → filled n (strokes_of (ss ++ (s ∷ []))) ≡ filled n (strokes_of ss)

@@ -4,6 +4,9 @@ pub mod Completes
 pub mod Drive
 pub mod Filling
 pub mod Counted
+pub mod Fresh
+pub mod Wider
+pub mod Codes
 pub mod Laid
 pub mod Numbers
 pub mod Readings

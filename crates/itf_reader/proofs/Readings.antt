@@ -9,12 +9,12 @@ use Rattle.itf_lines.specs.LogicalLines.{LogicalLine, LogicalLines}
 use Rattle.itf_reader.specs.Forms.{Form, Row, TopicRows, placed}
 use Rattle.itf_reader.specs.TransferText.{IsText, TransferText, Begins, IsFaultAt}
 use Rattle.itf_reader.specs.Machine.{State, start, free, title, model, topics, tables, objects, strokes, vertices, arc, last, done, Code, step, then_run, run}
-use Rattle.itf_reader.specs.Faults.{code_of}
-use Rattle.itf_reader.specs.Readings.{Structure, OfLine, End, Continue, Cont, IsRead, IsRefused, HasCode, HasAnswer, at_line, at_open, at_stray, at_end}
+use Rattle.itf_reader.specs.Codes.{HasCode}
+use Rattle.itf_reader.specs.Readings.{Structure, OfLine, End, Continue, Cont, IsRead, IsRefused, HasAnswer, at_line, at_open, at_stray, at_end}
 use Rattle.itf_reader.proofs.Back.{ok, same_state}
-use Rattle.itf_reader.proofs.CodeStands.{code_stands}
+use Rattle.itf_reader.proofs.Codes.{has_code, one_code}
 use Rattle.itf_reader.proofs.Drive.{one_text, text_drive}
-use Rattle.itf_reader.proofs.Stands.{done_text, taken_begins, taken_on, refused_at}
+use Rattle.itf_reader.proofs.Stands.{done_text, taken_begins, refused_begins, taken_on, refused_at}
 
 pub one_transfer : (f : Form) (ls : List LogicalLine) (a b : List (List Row)) → TransferText f ls a → TransferText f ls b → a ≡ b
 one_transfer f ls a b h k = h.2 ∙ (ap (placed f) (one_text f ls h.0 k.0 h.1 k.1) ∙ sym k.2)
@@ -61,8 +61,7 @@ stop f s (l ∷ ls) c h = stop_on f s l ls c (step f s l) refl h (λ u k. stop f
 
 refused_line : (f : Form) (found : LogicalLines) (c : Code) → Stop f start found.lines c → (n : ℕ) × (code : Structure) × IsRefused f found n code
 refused_line f found c k =
-    let code = code_of f k.behind k.l in
-    (k.l.number, OfLine code, at_line k.front k.rest k.l code k.whole (refused_at f k.front k.l k.behind c k.taken k.refused) (k.behind, k.taken, refl))
+    (k.l.number, OfLine c, at_line k.front k.rest k.l c k.whole (refused_at f k.front k.l k.behind c k.taken k.refused) (has_code f k.front k.l k.behind c k.taken k.refused))
 
 -- a state that is not the last one has no text behind it
 abbrev Ended : State → Type 0
@@ -119,15 +118,20 @@ stop_at f s t l [] rest c h e = ap (λ (r : Result State Code). told l r (λ x. 
 stop_at f s t l (m ∷ front) rest c h e = stop_tail f t t l m front rest c (step f s m) h (λ x k. stop_at f x t l front rest c k e)
 
 -- the machine refuses the line at fault, with its code
-line_refused : (f : Form) (front : List LogicalLine) (l : LogicalLine) (s : State) (code : Code) (taken : Result State Code) → step f s l ≡ taken → IsFaultAt f front l → run f start front ≡ Ok s → code ≡ code_of f s l → taken ≡ Err code
+line_refused : (f : Form) (front : List LogicalLine) (l : LogicalLine) (s : State) (code : Code) (taken : Result State Code) → step f s l ≡ taken → IsFaultAt f front l → run f start front ≡ Ok s → HasCode f front l code → taken ≡ Err code
 line_refused f front l s code (Ok t) e h k q = absurd (h.1 (taken_on f front l s t k e))
-line_refused f front l s code (Err c) e h k q = ap (λ (d : Code). Err d) (code_stands f s l.word l.number l.fields c e ∙ sym q)
+line_refused f front l s code (Err c) e h k q = ap (λ (d : Code). Err d) (one_code f front l c code (has_code f front l s c k e) q)
+
+-- what begins a text the machine takes
+front_taken : (f : Form) (front : List LogicalLine) (r : Result State Code) → run f start front ≡ r → Begins f front → (s : State) × (run f start front ≡ Ok s)
+front_taken f front (Ok s) e b = (s, e)
+front_taken f front (Err c) e b = absurd (refused_begins f front c e b)
 
 line_stops : (f : Form) (found : LogicalLines) (front rest : List LogicalLine) (l : LogicalLine) (code : Code) → found.lines ≡ front ++ (l ∷ rest) → IsFaultAt f front l → HasCode f front l code
     → first_stop f start found.lines ≡ Some (l.number, code)
 line_stops f found front rest l code e h k =
-    let r = line_refused f front l k.0 code (step f k.0 l) refl h k.1 k.2 in
-    ap (first_stop f start) e ∙ stop_at f start k.0 l front rest code k.1 r
+    let t = front_taken f front (run f start front) refl h.0 in
+    ap (first_stop f start) e ∙ stop_at f start t.0 l front rest code t.1 (line_refused f front l t.0 code (step f t.0 l) refl h t.1 k)
 
 -- where all lines begin a text, none is at fault
 no_line : (f : Form) (found : LogicalLines) (front rest : List LogicalLine) (l : LogicalLine) → found.lines ≡ front ++ (l ∷ rest) → IsFaultAt f front l → Begins f found.lines → ⊥

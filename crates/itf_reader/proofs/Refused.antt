@@ -16,13 +16,12 @@ use Rattle.itf_reader.specs.declared.open.Place.TheVariants as places
 use Rattle.itf_reader.specs.Views.{came_topics, state_of}
 use Rattle.itf_reader.specs.Forms.{Form, Row, TopicRows, placed}
 use Rattle.itf_reader.specs.TransferText.{IsText}
-use Rattle.itf_reader.specs.Machine.{State, start, done, Code, Word, AsMotr, Name, Twice, run}
-use Rattle.itf_reader.specs.Faults.{has_ended}
+use Rattle.itf_reader.specs.Machine.{State, start, done, has_ended, Code, Word, AsMotr, Name, Twice, run}
 use Rattle.itf_reader.specs.Readings.{Structure as Fault, OfLine, IsRead, IsRefused, at_line, at_open, at_stray, at_end}
 use Rattle.itf_reader.specs.Refusals.{fault_of, broken, Refuses}
-use Rattle.itf_reader.specs.Runs.{StopsAt, Runs, Ends}
+use Rattle.itf_reader.specs.Runs.{StopsAt, Ends}
 use Rattle.itf_reader.specs.Steps.{told}
-use Rattle.itf_reader.proofs.CodeStands.{code_stands}
+use Rattle.itf_reader.proofs.Codes.{has_code}
 use Rattle.itf_reader.proofs.Drive.{text_drive}
 use Rattle.itf_reader.proofs.Stands.{done_text, taken_begins, refused_at}
 
@@ -35,8 +34,7 @@ told_fault Twice = refl
 -- where it stops, the line is refused
 stopped_refused : (f : Form) (found : LogicalLines) (n : ℕ) (code : Structure) → StopsAt f start found.lines n code → IsRefused f found n (fault_of code)
 stopped_refused f found n code k =
-    let c = code_stands f k.behind k.l.word k.l.number k.l.fields k.kind k.refused in
-    let r = at_line k.front k.rest k.l k.kind k.whole (refused_at f k.front k.l k.behind k.kind k.taken k.refused) (k.behind, k.taken, c) in
+    let r = at_line k.front k.rest k.l k.kind k.whole (refused_at f k.front k.l k.behind k.kind k.taken k.refused) (has_code f k.front k.l k.behind k.kind k.taken k.refused) in
     let e : fault_of code ≡ OfLine k.kind = ap fault_of k.is_code ∙ told_fault k.kind in
     subst (λ (x : ℕ). IsRefused f found x (fault_of code)) (sym k.is_number) (subst (λ (x : Fault). IsRefused f found k.l.number x) (sym e) r)
 
@@ -99,10 +97,6 @@ run_ends f s t ls (Some came) h k = h ∙ ap ok k
   where
     ok : State → Result State Code
     ok s = Ok s
-
-pub run_stops : (f : Form) (s : State) (ls : List LogicalLine) (r : ReadRefusal) → Runs f s ls (Err r) → Ends f s ls (Err r)
-run_stops f s ls (refusals.At n code) k = k
-run_stops f s ls refusals.Memory k = tt
 
 pub ends_refused : (f : Form) (found : LogicalLines) (r : ReadRefusal) → Ends f start found.lines (Err r) → Refuses f found r
 ends_refused f found (refusals.At n code) k = stopped_refused f found n code k

@@ -10,7 +10,7 @@ use lib.ListN.{get_or}
 use Rattle.itf_reader.specs.declared.findings.Finding.{Finding as CodeFinding}
 use Rattle.itf_reader.specs.Findings.{Finding, rank, finding_cmp, is_before, finding_of, findings_of, in_order, put_in, sorted}
 
-by_test : {P : Type 0} (b : Bool) → (b ≡ true → P) → (b ≡ false → P) → P
+pub by_test : {P : Type 0} (b : Bool) → (b ≡ true → P) → (b ≡ false → P) → P
 by_test true f g = f refl
 by_test false f g = g refl
 

@@ -1,15 +1,14 @@
 -- The machine stops exactly at the first line after which no text can follow.
-use Rattle.std.proofs.Common.{◌≡◌, ℕ, true, List, [], ◌∷◌, ◌++◌, Result, Ok, Err, refl, ap, sym, subst, ◌∙◌, arith}
+use Rattle.std.proofs.Common.{◌≡◌, List, [], ◌∷◌, ◌++◌, Result, Ok, Err, refl, ap, sym, subst, ◌∙◌, arith}
 use Rattle.std.proofs.lemmas.List.{append-nil}
-use Rattle.std.proofs.lemmas.Slice.Eq.{bytes_eq-Decides}
 use Rattle.itf_lines.specs.declared.word.LineWord.TheVariants.{Scnt, Slashes, Mtid, Modl, Lipt, Elin, Etab, Etop, Emod, Ende}
 use Rattle.itf_lines.specs.LogicalLines.{LogicalLine}
-use Rattle.itf_lines.specs.Words.{same}
 use Rattle.itf_reader.specs.Forms.{Form, Straight, Vertex, vertex, TopicRows}
 use Rattle.itf_reader.specs.TransferText.{line, no_vertex, no_stroke, no_object, no_table, no_topic, no_free, IsText, text, Begins, IsFaultAt}
 use Rattle.itf_reader.specs.Machine.{InTopic, InTable, InRow, State, start, free, title, model, topics, tables, objects, strokes, vertices, arc, last, done, with_stroke, closed_row, Code, step, then_run, run}
 use Rattle.itf_reader.proofs.Completes.{and_strokes, and_tables, and_rows, Completes, at_done, at_last, at_topics, at_tables, at_objects, at_strokes, at_vertices, at_arc, at_model, at_title, at_free, at_start}
 use Rattle.itf_reader.proofs.Drive.{text_drive}
+use Rattle.itf_reader.proofs.Fresh.{same_itself}
 use Rattle.itf_reader.proofs.Back.{back, same_state}
 
 -- what completes the start is a text
@@ -50,9 +49,6 @@ live_arc : (f : Form) (r : InRow) (acc : List Vertex) → Live f (arc r acc)
 live_arc f r acc =
     let l = live_strokes f (with_stroke r (acc ++ (vertex Straight 0 [] ∷ []))) in
     (l.0, line Lipt 0 [] ∷ line Elin 0 [] ∷ l.1, at_arc r acc [] l.0 0 0 [] [] (line Elin 0 [] ∷ l.1) l.1 (no_vertex (line Elin 0 [] ∷ l.1)) l.2)
-
-same_itself : (name : List ℕ) → same name name ≡ true
-same_itself name = let d = bytes_eq-Decides name name in d.1 refl
 
 live_model : (f : Form) → Live f model
 live_model f = let l = live_topics f [] in (l.0, line Modl 0 (f.model ∷ []) ∷ l.1, at_model l.0 0 (f.model ∷ []) l.1 (same_itself f.model) l.2)

@@ -1,4 +1,4 @@
-pub mod Faults
+pub mod Codes
 pub mod Findings
 pub mod Forms
 pub mod Machine

@@ -1,5 +1,5 @@
 -- A machine that takes the lines of a transfer text one by one.
-use Rattle.std.specs.Prelude.{ℕ, List, [], ◌∷◌, ◌++◌, length, Option, Some, None, Result, Ok, Err, if◌then◌else◌, nat_lt}
+use Rattle.std.specs.Prelude.{ℕ, Bool, true, false, List, [], ◌∷◌, ◌++◌, length, Option, Some, None, Result, Ok, Err, if◌then◌else◌, nat_lt}
 use Rattle.itf_lines.specs.declared.word.LineWord.{LineWord}
 use Rattle.itf_lines.specs.declared.word.LineWord.TheVariants.{Scnt, Slashes, Mtid, Modl, Motr, Topi, Tabl, Obje, Stpt, Lipt, Arcp, Elin, Etab, Etop, Emod, Ende}
 use Rattle.itf_lines.specs.LogicalLines.{LogicalLine}
@@ -84,9 +84,13 @@ abbrev pub refusal : LineWord → Code
 refusal Motr = AsMotr
 refusal word = Word
 
--- a stroke begins, where the table has a line for it
+-- the table of the object has a line for one more stroke
+abbrev pub has_room : InRow → Bool
+has_room r = nat_lt (length r.strokes) r.inside.lines
+
+-- a stroke begins, where there is room
 abbrev pub more_of : InRow → State → Result State Code
-more_of r next = if nat_lt (length r.strokes) r.inside.lines then Ok next else Err Word
+more_of r next = if has_room r then Ok next else Err Word
 
 -- what a line of that word, number and fields does
 abbrev pub by_word : Form → State → LineWord → ℕ → List (List ℕ) → Result State Code
@@ -124,3 +128,8 @@ then_run rest (Err c) = Err c
 abbrev pub run : Form → State → List LogicalLine → Result State Code
 run f s [] = Ok s
 run f s (l ∷ ls) = then_run (λ t. run f t ls) (step f s l)
+
+-- the ENDE of the form has come
+abbrev pub has_ended : State → Bool
+has_ended (done came) = true
+has_ended state = false

@@ -1,11 +1,11 @@
 -- What a reader answers for the logical lines of a text.
-use Rattle.std.specs.Prelude.{◌≡◌, ℕ, ◌+◌, ◌⊎◌, List, ◌∷◌, ◌++◌, Some, None, Ok}
+use Rattle.std.specs.Prelude.{◌≡◌, ℕ, ◌+◌, ◌⊎◌, List, ◌∷◌, ◌++◌, Some, None}
 use Rattle.itf_lines.specs.declared.logical.LineFault.TheVariants.{OpenContinue, StrayCont}
 use Rattle.itf_lines.specs.LogicalLines.{LogicalLine, LogicalLines}
 use Rattle.itf_reader.specs.Forms.{Form, Row, TopicRows}
 use Rattle.itf_reader.specs.TransferText.{IsText, TransferText, Begins, IsFaultAt}
-use Rattle.itf_reader.specs.Machine.{State, start, Code, run}
-use Rattle.itf_reader.specs.Faults.{code_of}
+use Rattle.itf_reader.specs.Machine.{Code}
+use Rattle.itf_reader.specs.Codes.{HasCode}
 
 -- the codes of a text that is no transfer
 pub data Structure : Type 0 where
@@ -15,10 +15,6 @@ pub data Structure : Type 0 where
 -- the text has no fault of continuation, and its lines are the text of that transfer
 abbrev pub IsRead : Form → LogicalLines → List (List Row) → Type 0
 IsRead form found transfer = (found.fault ≡ None) × TransferText form found.lines transfer
-
--- the code of a line behind those lines, which begin a text
-abbrev pub HasCode : Form → List LogicalLine → LogicalLine → Code → Type 0
-HasCode form front l code = (s : State) × (run form start front ≡ Ok s) × (code ≡ code_of form s l)
 
 -- the first line with which the lines begin no text, with its code; where all lines begin one, the line of the fault of
 -- continuation; and where there is none, the line behind the last one, for a text that ends too soon

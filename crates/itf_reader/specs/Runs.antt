@@ -7,9 +7,8 @@ use Rattle.itf_reader.specs.declared.refusal.ReadRefusal.{ReadRefusal}
 use Rattle.itf_reader.specs.declared.refusal.ReadRefusal.TheVariants as refusals
 use Rattle.itf_reader.specs.declared.open.Place.{Place}
 use Rattle.itf_reader.specs.declared.came.CameTopic.{CameTopic}
-use Rattle.itf_reader.specs.Faults.{has_ended}
 use Rattle.itf_reader.specs.Forms.{Form}
-use Rattle.itf_reader.specs.Machine.{State, done, Code, step, run}
+use Rattle.itf_reader.specs.Machine.{State, done, has_ended, Code, step, run}
 use Rattle.itf_reader.specs.Views.{came_topics, state_of}
 use Rattle.itf_reader.specs.Steps.{told}
 

@@ -4,7 +4,7 @@ ghost use Rattle.itf_lines.specs.LogicalLines.{LogicalLine, LogicalLines};
 ghost use Rattle.itf_reader.specs.Forms.{Form, Row, TopicRows};
 ghost use Rattle.itf_reader.specs.TransferText.{IsText, TransferText, Begins, IsFaultAt};
 ghost use Rattle.itf_reader.specs.Machine.{State, start, done, Code, run, step};
-ghost use Rattle.itf_reader.specs.Faults.{code_of};
+ghost use Rattle.itf_reader.specs.Codes.{HasCode};
 ghost use Rattle.itf_reader.specs.Readings.{Structure, IsRead, IsRefused, HasAnswer};
 
 /// Some lines are the text of at most one transfer.
@@ -29,7 +29,7 @@ pub fn machine_begins()
 /// So the line at which it stops is the line at fault, and its code is the first that fits.
 pub fn machine_stops()
     ensures fault { (form : Form) (front : List LogicalLine) (l : LogicalLine) (s : State) (c : Code) → run form start front ≡ Ok s → step form s l ≡ Err c → IsFaultAt form front l }
-    ensures code { (form : Form) (front : List LogicalLine) (l : LogicalLine) (s : State) (c : Code) → run form start front ≡ Ok s → step form s l ≡ Err c → c ≡ code_of form s l }
+    ensures code { (form : Form) (front : List LogicalLine) (l : LogicalLine) (s : State) (c : Code) → run form start front ≡ Ok s → step form s l ≡ Err c → HasCode form front l c }
 {}
 
 /// Some lines are read or refused, never both, and they are refused at one line with one code.

@@ -11,7 +11,9 @@
 //!   end exactly with a text (`machine_reads`), and stops at the first line with which no text
 //!   begins, with the first code that fits it (`machine_stops`). So each list of lines, with its
 //!   fault of continuation, is read or refused, never both, and refused at one line with one code
-//!   (`one_answer`).
+//!   (`one_answer`). What a code means is said of the lines alone (`HasCode`): whether a line of
+//!   that word may stand there at all is asked with names put aside, of the form with further
+//!   topics and tables, so that a line TOPI is no wrong word where every topic came.
 //! - **Reading.** `read_transfer` takes the lines of a text one after another, by the names of a
 //!   layout, and keeps what is open between two of them. It gives the rows of each table in the
 //!   order of the layout, none for a table that did not come, each row with as many strokes as

@@ -4,7 +4,7 @@ ghost use Rattle.table_layout.specs.Values.{layout_view};
 ghost use Rattle.table_layout.specs.Valid.{IsValid};
 ghost use Rattle.itf_lines.specs.Views.{lines_seen, seen};
 ghost use Rattle.itf_reader.specs.Machine.{start, done};
-ghost use Rattle.itf_reader.specs.Faults.{has_ended};
+ghost use Rattle.itf_reader.specs.Machine.{has_ended};
 ghost use Rattle.itf_reader.specs.Readings.{IsRead};
 ghost use Rattle.itf_reader.specs.Refusals.{broken, Refuses};
 ghost use Rattle.itf_reader.specs.Layouts.{form_of};

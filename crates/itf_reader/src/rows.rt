@@ -2,7 +2,7 @@
 ghost use Rattle.std.specs.Prelude.{◌≡◌, ◌≤◌, ◌++◌, ◌∷◌, [], length, List, ℕ, OnOk, IfOk};
 ghost use Rattle.itf_reader.specs.Forms.{vertex, filled};
 ghost use Rattle.itf_reader.specs.Machine.{closed_row, closed_table, closed_topic, opened_row, with_stroke};
-ghost use Rattle.itf_reader.specs.Faults.{has_room};
+ghost use Rattle.itf_reader.specs.Machine.{has_room};
 ghost use Rattle.itf_reader.specs.Views.{kind_of, vertices_of, strokes_of, in_row_of, table_of, topic_of, came_topics};
 
 use super::came::{CameTable, CameTopic};

@@ -1,4 +1,4 @@
-use Rattle.itf_reader.proofs.CodeStands.{code_stands}
+use Rattle.itf_reader.proofs.Codes.{has_code}
 use Rattle.itf_reader.proofs.Stands.{refused_at}
 use Rattle.itf_reader.proofs.laws.machine_stops.Goals as goal
 
@@ -6,4 +6,4 @@ pub returns-clause-fault : goal.returns-clause-fault
 returns-clause-fault c = refused_at
 
 pub returns-clause-code : goal.returns-clause-code
-returns-clause-code c form front l s code h k = code_stands form s l.word l.number l.fields code k
+returns-clause-code c = has_code
