@@ -1,3 +1,5 @@
+pub mod Collinear
+pub mod SoundStrokes
 pub mod SpelledLeaves
 pub mod ValuesMeet
 pub mod WholeWords

@@ -27,17 +27,22 @@
 //! `field_ok` takes time linear in the words and no memory.
 #![tactic(auto)]
 
+mod counting;
 mod field;
 mod laws;
 mod leaves;
 mod numbers;
+mod place;
+mod places;
 mod strokes;
 #[cfg(test)]
 mod tests;
 mod values;
 mod words;
 
+pub use counting::{is_counted, width};
 pub use field::field_ok;
 pub use laws::leaves_are_spelled;
 pub use strokes::stroke_ok;
 pub use values::check_values;
+pub use words::is_undefined;

@@ -74,7 +74,8 @@ pub fn space_code(block: &Block, words: &[Field]) -> Option<Code>
     }
 }
 
-fn first_code(first: Option<Code>, second: Option<Code>) -> Option<Code>
+/// The first of two tests that fails.
+pub fn first_code(first: Option<Code>, second: Option<Code>) -> Option<Code>
     ensures { result ≡ first_code first second }
 {
     match first {
