@@ -1,5 +1,5 @@
 -- Each table that stands for a declared table is valid.
-use Rattle.std.proofs.Common.{false, ◌≡◌, ◌<◌, ◌+◌, ℕ, List, [], ◌∷◌, ◌++◌, Some, length, refl, ◌∙◌, sym, ap, subst, arith, length-append, append_assoc}
+use Rattle.std.proofs.Common.{false, ◌≡◌, ◌<◌, ◌+◌, ◌≤◌, ℕ, List, [], ◌∷◌, ◌++◌, Some, length, refl, ◌∙◌, sym, ap, subst, arith, length-append, append_assoc}
 use Rattle.std.specs.Prelude.{slice_get}
 use Rattle.std.specs.List.{All, flat_map}
 use Rattle.std.proofs.lemmas.List.Elements.{All-nil, All-cons, All-head, All-tail, All-append, All-weaker}
@@ -26,6 +26,17 @@ length_each mains (an_attribute n o (Surface l p)) = refl
 length_columns : (mains : List ℕ) (own : List Attribute) → length (flat_map (columns_of mains) own) ≡ length (flat_map (columns_of []) own)
 length_columns mains [] = refl
 length_columns mains (a ∷ as_) = omega (arith, length-append (columns_of mains a) (flat_map (columns_of mains) as_), length-append (columns_of [] a) (flat_map (columns_of []) as_), length_each mains a, length_columns mains as_)
+
+column_count : (mains : List ℕ) (a : Attribute) → length (columns_of mains a) + length (lines_of a) ≤ 1
+column_count mains (an_attribute n o (Value f)) = omega arith
+column_count mains (an_attribute n o (Area l p)) = omega arith
+column_count mains (an_attribute n o (Polyline l)) = omega arith
+column_count mains (an_attribute n o (Surface l p)) = omega arith
+
+-- an attribute is a column, a line, or none
+columns_few : (mains : List ℕ) (own : List Attribute) → length (flat_map (columns_of mains) own) + length (flat_map lines_of own) ≤ length own
+columns_few mains [] = omega arith
+columns_few mains (a ∷ as_) = omega (arith, length-append (columns_of mains a) (flat_map (columns_of mains) as_), length-append (lines_of a) (flat_map lines_of as_), column_count mains a, columns_few mains as_)
 
 abbrev Within : ℕ → Column → Type 0
 Within n c = IsWithin n c.form
@@ -76,6 +87,7 @@ area_valid count whole w owner before after (an_attribute n o (Area l (a_part ow
     All-cons (IsTable count whole) _ []
     (record {
       topic = topic;
+      few = omega (arith, columns_few w.mains (listed own), h.1.few);
       references = own_within (length whole) w.mains (listed own) lists all h.1;
       idents = subst (λ b. All (All (λ p. p < b)) (idents_of 0 (listed own) lists)) (omega arith) (own_places (length w.mains) w.mains 0 (listed own) lists h.1);
       role = record { owner = owner; point = x; line = record l { optional = false }; main = main; is_main = role; column = at; form = refl; lines = refl; narrow = h.0 };
@@ -90,6 +102,7 @@ surface_valid count whole w owner (an_attribute n o (Surface l (a_part own lists
     All-cons (IsTable count whole) _ []
     (record {
       topic = topic;
+      few = omega (arith, columns_few w.mains (listed own), h.few);
       references = All-cons (Within (length whole)) (owner_column w) (flat_map (columns_of w.mains) (listed own)) (slice_get_within whole w.main owner main) (own_within (length whole) w.mains (listed own) lists all h);
       idents = subst (λ b. All (All (λ p. p < b)) (idents_of 1 (listed own) lists)) (omega arith) (own_places (length w.mains) w.mains 1 (listed own) lists h);
       role = record { owner = owner; reference = owner_column w; line = record l { optional = false }; main = main; is_main = role; column = refl; form = refl; lines = refl };
@@ -113,11 +126,12 @@ surfaces_valid count whole w owner (a ∷ as_) topic all main role h =
     (surface_valid count whole w owner a topic all main role (All-head (IsSoundAttribute (length w.mains)) a as_ h))
     (surfaces_valid count whole w owner as_ topic all main role (All-tail (IsSoundAttribute (length w.mains)) a as_ h))
 
-pub with_helpers_valid : (count : ℕ) (whole : List Table) (w : Owner) (own : List Attribute) (lists : List (List ℕ)) → w.topic < count → All (λ m. m < length whole) w.mains → slice_get whole w.main ≡ Some (main_table w own lists) → All (IsSoundAttribute (length w.mains)) own → All (IsTable count whole) (with_helpers w own lists)
-with_helpers_valid count whole w own lists topic all main h =
+pub with_helpers_valid : (count : ℕ) (whole : List Table) (w : Owner) (own : List Attribute) (lists : List (List ℕ)) → w.topic < count → length own ≤ 4194304 → All (λ m. m < length whole) w.mains → slice_get whole w.main ≡ Some (main_table w own lists) → All (IsSoundAttribute (length w.mains)) own → All (IsTable count whole) (with_helpers w own lists)
+with_helpers_valid count whole w own lists topic few all main h =
     let t : Table = main_table w own lists in
     let valid : IsTable count whole t = record {
       topic = topic;
+      few = omega (arith, columns_few w.mains own, few);
       references = columns_within (length whole) w.mains own all h;
       idents = idents_below (length (flat_map (columns_of w.mains) own) + length (flat_map lines_of own)) 0 own lists (omega (arith, length_columns w.mains own));
       role = tt;

@@ -8,9 +8,9 @@ use Rattle.resolver.specs.Resolved.{ModelTable, Topic, ResolvedModel}
 use Rattle.resolver.specs.Sound.{listed, IsSound, IsSoundTable, IsSoundTopic}
 use Rattle.table_layout.specs.Layouts.{Role, Main, AreaLines, SurfaceLines, Table, AreaOf, Layout}
 use Rattle.table_layout.specs.Tables.{Owner, areas_in, surfaces_in, tables_in, numbers_from, area_tables, surface_table, main_table, with_helpers, tables_beside, topic_tables, tables_from, column_name, area_of, areas_from, topic_names_of}
-use Rattle.table_layout.specs.Few.{numbers_in}
+use Rattle.table_layout.specs.Few.{IsSmallTable, IsSmallTopic, numbers_in}
 use Rattle.table_layout.specs.Valid.{IsTable, IsArea, IsValid}
-use Rattle.table_layout.proofs.Counts.{length-areas, length-with_helpers, length-topic, numbers_few}
+use Rattle.table_layout.proofs.Counts.{length-areas, length-with_helpers, length-topic, numbers_few, small_topics}
 use Rattle.table_layout.proofs.Steps.{length-numbers}
 use Rattle.table_layout.proofs.HelpersValid.{get_at, with_helpers_valid}
 
@@ -31,9 +31,9 @@ regroup : (pre block rest post : List Table) → pre ++ ((block ++ rest) ++ post
 regroup pre block rest post = simp append_assoc
 
 topic_valid : (count n : ℕ) (whole : List Table) (mains : List ℕ) (first : ℕ) (ts : List ModelTable) (pre post : List Table) → n < count → All (λ m. m < length whole) mains → whole ≡ pre ++ (tables_beside n mains (numbers_from first ts) ts ++ post) → length pre ≡ first
-    → All (IsSoundTable (length mains)) ts → All (IsTable count whole) (tables_beside n mains (numbers_from first ts) ts)
-topic_valid count n whole mains first [] pre post topic all e l h = All-nil (IsTable count whole)
-topic_valid count n whole mains first (t ∷ ts) pre post topic all e l h =
+    → All IsSmallTable ts → All (IsSoundTable (length mains)) ts → All (IsTable count whole) (tables_beside n mains (numbers_from first ts) ts)
+topic_valid count n whole mains first [] pre post topic all e l few h = All-nil (IsTable count whole)
+topic_valid count n whole mains first (t ∷ ts) pre post topic all e l few h =
     let own = listed t.attributes in
     let w : Owner = record { topic = n; mains = mains; main = first + areas_in own; name = t.name } in
     let block : List Table = with_helpers w own t.idents in
@@ -43,13 +43,13 @@ topic_valid count n whole mains first (t ∷ ts) pre post topic all e l h =
     let main = got_at whole (pre ++ area_tables w 0 own) (main_table w own t.idents) (flat_map (surface_table w) own ++ (rest ++ post)) (first + areas_in own) (e ∙ regroup_main pre (area_tables w 0 own) (main_table w own t.idents) (flat_map (surface_table w) own) rest post) far in
     let further : length (pre ++ block) ≡ next = omega (arith, length-append pre block, length-with_helpers w own t.idents) in
     All-append (IsTable count whole) block rest
-    (with_helpers_valid count whole w own t.idents topic all main (All-head (IsSoundTable (length mains)) t ts h).attributes)
-    (topic_valid count n whole mains next ts (pre ++ block) post topic all (e ∙ regroup pre block rest post) further (All-tail (IsSoundTable (length mains)) t ts h))
+    (with_helpers_valid count whole w own t.idents topic (All-head IsSmallTable t ts few).few all main (All-head (IsSoundTable (length mains)) t ts h).attributes)
+    (topic_valid count n whole mains next ts (pre ++ block) post topic all (e ∙ regroup pre block rest post) further (All-tail IsSmallTable t ts few) (All-tail (IsSoundTable (length mains)) t ts h))
 
 -- ---- all topics
-topics_valid : (count : ℕ) (whole : List Table) (n first : ℕ) (ts : List Topic) (pre : List Table) → whole ≡ pre ++ tables_from n first ts → length pre ≡ first → n + length ts ≤ count → All IsSoundTopic ts → All (IsTable count whole) (tables_from n first ts)
-topics_valid count whole n first [] pre e l few h = All-nil (IsTable count whole)
-topics_valid count whole n first (t ∷ ts) pre e l few h =
+topics_valid : (count : ℕ) (whole : List Table) (n first : ℕ) (ts : List Topic) (pre : List Table) → whole ≡ pre ++ tables_from n first ts → length pre ≡ first → n + length ts ≤ count → All IsSmallTopic ts → All IsSoundTopic ts → All (IsTable count whole) (tables_from n first ts)
+topics_valid count whole n first [] pre e l below few h = All-nil (IsTable count whole)
+topics_valid count whole n first (t ∷ ts) pre e l below few h =
     let one : List Table = topic_tables n first t.tables in
     let rest : List Table = tables_from (n + 1) (first + length one) ts in
     let long : length whole ≡ length pre + (length one + length rest) = ap (length {A = Table}) e ∙ omega (arith, length-append pre (one ++ rest), length-append one rest) in
@@ -57,8 +57,8 @@ topics_valid count whole n first (t ∷ ts) pre e l few h =
     let sound = subst (λ k. All (IsSoundTable k) t.tables) (sym (length-numbers first t.tables)) (All-head IsSoundTopic t ts h) in
     let further : length (pre ++ one) ≡ first + length one = omega (arith, length-append pre one) in
     All-append (IsTable count whole) one rest
-    (topic_valid count n whole (numbers_from first t.tables) first t.tables pre rest (omega arith) all e l sound)
-    (topics_valid count whole (n + 1) (first + length one) ts (pre ++ one) (e ∙ sym (append_assoc pre one rest)) further (omega arith) (All-tail IsSoundTopic t ts h))
+    (topic_valid count n whole (numbers_from first t.tables) first t.tables pre rest (omega arith) all e l (All-head IsSmallTopic t ts few) sound)
+    (topics_valid count whole (n + 1) (first + length one) ts (pre ++ one) (e ∙ sym (append_assoc pre one rest)) further (omega arith) (All-tail IsSmallTopic t ts few) (All-tail IsSoundTopic t ts h))
 
 length_from : (n first : ℕ) (ts : List Topic) → length (tables_from n first ts) ≤ numbers_in ts
 length_from n first [] = omega arith
@@ -91,6 +91,6 @@ valid m l h names e areas =
     let count : length l.topics ≡ length m.topics = ap (length {A = List ℕ}) names ∙ length-map m.topics (λ (t : Topic). t.name) in
     record {
       few = few_tables m l.tables h e;
-      tables = subst (λ ts. All (IsTable (length l.topics) l.tables) ts) (sym e) (topics_valid (length l.topics) l.tables 0 0 m.topics [] e refl (omega arith) h.topics);
+      tables = subst (λ ts. All (IsTable (length l.topics) l.tables) ts) (sym e) (topics_valid (length l.topics) l.tables 0 0 m.topics [] e refl (omega arith) (small_topics m.topics h.few h.topics) h.topics);
       areas = subst (λ s. All (IsArea l.tables) s) (sym areas) (areas_valid l.tables 0 l.tables [] refl refl);
     }

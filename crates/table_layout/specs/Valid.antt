@@ -35,9 +35,11 @@ IsRole tables t Main = Unit {0}
 IsRole tables t (AreaLines main column) = IsAreaTable tables t.lines main column
 IsRole tables t (SurfaceLines main) = IsSurfaceTable tables t.columns t.lines main
 
--- a table: its topic is there, its references name tables, and its IDENT lists columns or lines
+-- a table: its topic is there, its columns and lines are few, its references name tables, and its
+-- IDENT lists columns or lines
 pub record IsTable (topics : ℕ) (tables : List Table) (t : Table) : Type 0 where
   pub topic : t.topic < topics
+  pub few : length t.columns + length t.lines ≤ 4194306
   pub references : All (λ (c : Column). IsWithin (length tables) c.form) t.columns
   pub idents : All (All (λ p. p < length t.columns + length t.lines)) t.idents
   pub role : IsRole tables t t.role

@@ -19,8 +19,8 @@
 //!   its helper table, its main table, its column there, and its attribute.
 //! - **What a contract sees.** `layout_view` is the layout without memory, with lists in place of
 //!   vectors; `layout_of` is the function of the model that `layout` computes.
-//! - **What later layers may use** (`IsValid`): there are at most 4,194,304 tables; every number of
-//!   a topic, a table, a column and a place is in range; the helper table of an AREA or a SURFACE
+//! - **What later layers may use** (`IsValid`): there are at most 4,194,304 tables; a table has at
+//!   most 4,194,306 columns and lines; every number of a topic, a table, a column and a place is in range; the helper table of an AREA or a SURFACE
 //!   has one line, and its main table is a declared one; the column of an area is the point of
 //!   that line's window, which is less than 2^40 units wide in each axis.
 //! - **Not checked here.** `layout` takes a model as `resolve` gives it (`IsSound`): few names,
