@@ -1,3 +1,4 @@
+pub mod Few
 pub mod Fields
 pub mod Leaves
 pub mod LineTests

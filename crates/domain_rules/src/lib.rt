@@ -27,10 +27,13 @@
 //! `field_ok` takes time linear in the words and no memory.
 #![tactic(auto)]
 
+mod columns;
 mod counting;
 mod field;
+mod found;
 mod laws;
 mod leaves;
+mod lines;
 mod numbers;
 mod place;
 mod places;

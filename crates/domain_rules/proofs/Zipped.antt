@@ -1,0 +1,46 @@
+-- Lines with their strokes, and tables with their rows, one pair after the other.
+use Rattle.std.proofs.Common.{◌≡◌, ◌⊎◌, inl, inr, ℕ, List, [], ◌∷◌, ◌++◌, refl, ◌∙◌, sym, ap, subst, append-nil, append_assoc}
+use Rattle.std.specs.List.{All}
+use Rattle.std.proofs.lemmas.List.Elements.{All-head, All-tail}
+use Rattle.ili_grammar.specs.Syntax.{Codes}
+use Rattle.resolver.specs.declared.models.LineForm.{LineForm}
+use Rattle.table_layout.specs.Layouts.{Role}
+use Rattle.table_layout.specs.declared.layouts.Table.{Table}
+use Rattle.table_layout.specs.Values.{lines_view, table_view, tables_view}
+use Rattle.itf_reader.specs.declared.transfer.Row.{Row}
+use Rattle.itf_reader.specs.declared.transfer.Stroke.{Stroke}
+use Rattle.itf_reader.specs.declared.transfer.TableRows.{TableRows}
+use Rattle.itf_reader.specs.Findings.{Finding}
+use Rattle.itf_reader.specs.Views.{strokes_of, rows_of, tables_seen}
+use Rattle.domain_rules.specs.Few.{HasFew}
+use Rattle.domain_rules.specs.ValueFindings.{lines_findings, table_findings, tables_findings}
+
+-- nothing is left to be found
+pub all_found : (found left all : List Finding) → left ≡ [] → found ++ left ≡ all → found ≡ all
+all_found found left all e h = sym (append-nil found) ∙ (ap (λ (s : List Finding). found ++ s) (sym e) ∙ h)
+
+pub lines_end : (role : Role) (line column : ℕ) (ls : List LineForm) (ss : List Stroke) → (ls ≡ []) ⊎ (ss ≡ []) → lines_findings role line column (lines_view ls) (strokes_of ss) ≡ []
+lines_end role line column [] ss h = refl
+lines_end role line column (l ∷ ls) [] h = refl
+lines_end role line column (l ∷ ls) (s ∷ ss) (inl h) = cc
+lines_end role line column (l ∷ ls) (s ∷ ss) (inr h) = cc
+
+pub tables_end : (codes : Codes) (ts : List Table) (came : List TableRows) → (ts ≡ []) ⊎ (came ≡ []) → tables_findings codes (tables_view ts) (tables_seen came) ≡ []
+tables_end codes [] came h = refl
+tables_end codes (t ∷ ts) [] h = refl
+tables_end codes (t ∷ ts) (r ∷ came) (inl h) = cc
+tables_end codes (t ∷ ts) (r ∷ came) (inr h) = cc
+
+-- each table has few, the first one and those after it
+pub first_few : (all : List Table) (t : Table) (ts : List Table) → all ≡ t ∷ ts → All HasFew (tables_view all) → HasFew (table_view t)
+first_few all t ts e h = All-head HasFew (table_view t) (tables_view ts) (subst (λ (s : List Table). All HasFew (tables_view s)) e h)
+
+pub others_few : (all : List Table) (t : Table) (ts : List Table) → all ≡ t ∷ ts → All HasFew (tables_view all) → All HasFew (tables_view ts)
+others_few all t ts e h = All-tail HasFew (table_view t) (tables_view ts) (subst (λ (s : List Table). All HasFew (tables_view s)) e h)
+
+-- the rows of the first table are judged
+pub tables_step : (codes : Codes) (all : List Table) (t : Table) (ts : List Table) (whole : List TableRows) (r : TableRows) (came : List TableRows) (rows : List Row) (found more result : List Finding) → all ≡ t ∷ ts → whole ≡ r ∷ came → rows ≡ r.rows.items
+    → more ≡ found ++ table_findings codes (table_view t) (rows_of rows) → found ++ tables_findings codes (tables_view all) (tables_seen whole) ≡ result → more ++ tables_findings codes (tables_view ts) (tables_seen came) ≡ result
+tables_step codes all t ts whole r came rows found more result e f g h k =
+    let same : tables_findings codes (tables_view all) (tables_seen whole) ≡ table_findings codes (table_view t) (rows_of rows) ++ tables_findings codes (tables_view ts) (tables_seen came) = rw (e, f, g) refl in
+    rw (h, append_assoc, ← same) k

@@ -1,0 +1,24 @@
+use Rattle.std.proofs.lemmas.Slice.Zip.{either_empty_from_Zip, Zip-more}
+use Rattle.std.specs.Iterator.Adapters.{zip_first, zip_second}
+use Rattle.std.specs.Slice.Iter.{iter_rest}
+use Rattle.ili_grammar.specs.Values.{codes_of}
+use Rattle.domain_rules.proofs.Zipped.{all_found, tables_end, first_few, others_few, tables_step}
+use Rattle.domain_rules.proofs.values.add_tables.Goals as goal
+
+pub add_rows-requires : goal.add_rows-requires
+add_rows-requires c =
+    let more = Zip-more c.loop-table.table-iterator c.next.new.self c.next.result _ c.in-Some.is c.next.ensures.steps in
+    first_few _ c.in-Some.table.now (iter_rest (zip_first c.next.new.self)) more.0 c.loop-table.invariant.few
+
+pub loop-table-preserved : goal.loop-table-preserved
+loop-table-preserved c =
+    let more = Zip-more c.loop-table.table-iterator c.next.new.self c.next.result _ c.in-Some.is c.next.ensures.steps in
+    record {
+      can_next = (tt, tt);
+      is_finite = tt;
+      few = others_few _ c.in-Some.table.now (iter_rest (zip_first c.next.new.self)) more.0 c.loop-table.invariant.few;
+      found = tables_step (codes_of c.args.codes.now) _ c.in-Some.table.now (iter_rest (zip_first c.next.new.self)) _ c.in-Some.objects.now (iter_rest (zip_second c.next.new.self)) c.deref.result.now c.loop-table.found c.add_rows.new.found _ more.0 more.1 c.deref.ensures.value c.in_ok-add_rows.ensures c.loop-table.invariant.found;
+    }
+
+pub returns : goal.returns
+returns c = all_found _ _ _ (tables_end (codes_of c.args.codes.now) (iter_rest (zip_first c.loop-table.table-iterator)) (iter_rest (zip_second c.loop-table.table-iterator)) (either_empty_from_Zip c.loop-table.table-iterator c.next.new.self c.next.result c.in-None.is c.next.ensures.steps)) c.loop-table.invariant.found
