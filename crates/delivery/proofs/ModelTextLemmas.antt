@@ -1,4 +1,4 @@
--- What the text of a model is, it is alone: one model of the first form, or refused for one reason.
+-- What the text of a model is, it is alone: a model with one layout, or refused for one reason.
 use Rattle.std.proofs.Common.{◌≡◌, ◌<◌, ℕ, length, arith, List, Option, Some, None, sym, ap, ◌∙◌, subst}
 use Rattle.std.specs.Prelude.{slice_get}
 use Rattle.ili_lexer.specs.declared.tokens.Token.{Token}
@@ -19,13 +19,17 @@ use Rattle.ili_grammar.proofs.FirstFault.{same_fault as same_first_fault, no_mod
 use Rattle.ili_grammar.specs.Values.{model_of}
 use Rattle.ili_grammar.specs.declared.syntax.ModelSyntax as syntax
 use Rattle.delivery.specs.declared.refusals.Refusal as stored
-use Rattle.delivery.specs.declared.model.Model as stored_model
 use Rattle.delivery.specs.declared.model_text.Reading.{Reading}
 use Rattle.delivery.specs.declared.model_text.Reading.TheVariants as readings
-use Rattle.delivery.specs.RefusalViews.{refusal_of, IsReading}
-use Rattle.delivery.specs.Views.{first_model, first_found}
-use Rattle.delivery.specs.FirstModel.{Model, first_of}
-use Rattle.delivery.specs.ModelTexts.{Refusal, lex_refusal, end_refusal, token_refusal, IsSpelt, IsFaulty, no_token, ends_early, wrong_token, IsRefused, at_fault, left_for_later, IsFirstModel}
+use Rattle.delivery.specs.declared.model_text.ModelReading.{ModelReading}
+use Rattle.delivery.specs.declared.model_text.ModelReading.TheVariants as models
+use Rattle.delivery.specs.RefusalViews.{refusal_of, IsReading, IsLaidOut, IsModelReading}
+use Rattle.resolver.specs.Faults.{Fault}
+use Rattle.resolver.specs.Models.{resolved_model}
+use Rattle.resolver.specs.Rules.{first_fault}
+use Rattle.table_layout.specs.Layouts.{Layout}
+use Rattle.table_layout.specs.Tables.{layout_of}
+use Rattle.delivery.specs.ModelTexts.{Refusal, lex_refusal, end_refusal, token_refusal, name_refusal, IsSpelt, IsFaulty, no_token, ends_early, wrong_token, IsRefused, at_fault, misnamed, HasLayout}
 
 -- a text is cut in one way
 same_tokens : (text : List ℕ) (a b : List Token) → AreTokens text a → AreTokens text b → a ≡ b
@@ -82,48 +86,46 @@ module _ (text : List ℕ) where
 
   -- what the reader of the syntax tells of the tokens that it was given
   module _ (ts us : List Token) (f : SyntaxFault) (c : SyntaxCode) (k : Option ℕ) (are : AreTokens text ts) (same : us ≡ ts) (h : IsFirstFault (toks text us) f) (is : f ≡ parsed.At c k) where
-    first_fault : (j : Option ℕ) → k ≡ j → IsFirstFault (toks text ts) (parsed.At c j)
-    first_fault j e =
+    fault_there : (j : Option ℕ) → k ≡ j → IsFirstFault (toks text ts) (parsed.At c j)
+    fault_there j e =
         subst (λ (i : Option ℕ). IsFirstFault (toks text ts) (parsed.At c i)) e
         (subst (IsFirstFault (toks text ts)) is (subst (λ (vs : List Token). IsFirstFault (toks text vs) f) same h))
 
     pub end_faulty : (r : Refusal) → k ≡ None → r ≡ end_refusal text c → IsFaulty text r
-    end_faulty r e g = ends_early ts c are (first_fault None e) g
+    end_faulty r e g = ends_early ts c are (fault_there None e) g
 
     pub token_there : (j : ℕ) → k ≡ Some j → j < length ts
-    token_there j e = omega (arith, (first_fault (Some j) e).0, length-toks text ts)
+    token_there j e = omega (arith, (fault_there (Some j) e).0, length-toks text ts)
 
     pub token_faulty : (j : ℕ) (t : Token) (r : Refusal) → k ≡ Some j → slice_get ts j ≡ Some t → r ≡ token_refusal text c t → IsFaulty text r
-    token_faulty j t r e l g = wrong_token ts c j t are (first_fault (Some j) e) l g
+    token_faulty j t r e l g = wrong_token ts c j t are (fault_there (Some j) e) l g
 
-  pub one_model : (m n : Model) → IsFirstModel text m → IsFirstModel text n → m ≡ n
-  one_model m n h k =
-      let s = same_syntax h.syntax k.syntax h.spelt k.spelt in
-      let e = ap first_of s in
-      let f = h.first in
-      let g = k.first in cc
+  pub one_layout : (a b : Layout) → HasLayout text a → HasLayout text b → a ≡ b
+  one_layout a b h k = h.laid_out ∙ ap (λ (m : ModelSyntax). layout_of (resolved_model m)) (same_syntax h.syntax k.syntax h.spelt k.spelt) ∙ sym k.laid_out
 
-  pub not_refused : (m : Model) (r : Refusal) → IsFirstModel text m → IsRefused text r → ⊥
-  not_refused m r h (at_fault f) = not_faulty h.syntax r h.spelt f
-  not_refused m r h (left_for_later n s e g) =
-      let q = ap first_of (same_syntax h.syntax n h.spelt s) in
-      let f = h.first in cc
+  pub not_refused : (l : Layout) (r : Refusal) → HasLayout text l → IsRefused text r → ⊥
+  not_refused l r h (at_fault f) = not_faulty h.syntax r h.spelt f
+  not_refused l r h (misnamed n f s e g) =
+      let q = ap first_fault (same_syntax h.syntax n h.spelt s) in
+      let none = h.faultless in cc
 
   pub one_refusal : (q r : Refusal) → IsRefused text q → IsRefused text r → q ≡ r
   one_refusal q r (at_fault f) (at_fault g) = one_faulty q r f g
-  one_refusal q r (at_fault f) (left_for_later n s e g) = absurd (not_faulty n q s f)
-  one_refusal q r (left_for_later m s e g) (at_fault f) = absurd (not_faulty m r s f)
-  one_refusal q r (left_for_later m s e g) (left_for_later n u f h) = g ∙ sym h
+  one_refusal q r (at_fault f) (misnamed n g s e d) = absurd (not_faulty n q s f)
+  one_refusal q r (misnamed m f s e d) (at_fault g) = absurd (not_faulty m r s g)
+  one_refusal q r (misnamed m f s e d) (misnamed n g u h k) =
+      let o = ap first_fault (same_syntax m n s u) in
+      let same : f ≡ g = cc in
+      d ∙ ap name_refusal same ∙ sym k
 
 -- ---- what the reader of a text gave
-pub faulty_of : (a b : List ℕ) (x : Reading) (r : stored.Refusal) → a ≡ b → IsReading a x → x ≡ readings.Refused r → IsRefused b (refusal_of r)
-faulty_of a b x r e h f = at_fault (subst (λ (text : List ℕ). IsFaulty text (refusal_of r)) e (subst (IsReading a) f h))
+pub faulty_of : (a : List ℕ) (x : Reading) (r : stored.Refusal) → IsReading a x → x ≡ readings.Refused r → IsRefused a (refusal_of r)
+faulty_of a x r h f = at_fault (subst (IsReading a) f h)
 
-pub spelt_of : (a b : List ℕ) (x : Reading) (s : syntax.ModelSyntax) → a ≡ b → IsReading a x → x ≡ readings.Syntax s → IsSpelt b (model_of s)
-spelt_of a b x s e h f = subst (λ (text : List ℕ). IsSpelt text (model_of s)) e (subst (IsReading a) f h)
+pub spelt_of : (a : List ℕ) (x : Reading) (s : syntax.ModelSyntax) → IsReading a x → x ≡ readings.Syntax s → IsSpelt a (model_of s)
+spelt_of a x s h f = subst (IsReading a) f h
 
-pub no_first : (o : Option stored_model.Model) (m : ModelSyntax) → first_found o ≡ first_of m → o ≡ None → first_of m ≡ None
-no_first o m h e = sym h ∙ ap first_found e
-
-pub some_first : (o : Option stored_model.Model) (f : stored_model.Model) (m : ModelSyntax) → first_found o ≡ first_of m → o ≡ Some f → first_of m ≡ Some (first_model f)
-some_first o f m h e = sym h ∙ ap first_found e
+-- the layout of a syntax that the text spells, or its refusal
+pub read_as : (a : List ℕ) (m : ModelSyntax) (x : ModelReading) → IsSpelt a m → IsLaidOut m x → IsModelReading a x
+read_as a m (models.Laid layout) s h = record { syntax = m; spelt = s; faultless = h.0; laid_out = h.1 }
+read_as a m (models.Refused r) s h = misnamed m h.0 s h.1 h.2

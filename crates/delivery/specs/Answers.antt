@@ -2,37 +2,94 @@
 use Rattle.std.specs.Prelude.{◌≡◌, ◌≢◌, ℕ, List, [], Option, ◌⊎◌, ⊤}
 use Rattle.ports.specs.Files.{Files}
 use Rattle.ports.specs.Output.{Adds, AddsPrefix}
-use Rattle.delivery.specs.Commands.{Check, IsCheck, IsUsage}
-use Rattle.delivery.specs.FirstModel.{Model}
-use Rattle.delivery.specs.ModelTexts.{Refusal}
-use Rattle.delivery.specs.Findings.{findings}
-use Rattle.delivery.specs.Lines.{Record}
-use Rattle.delivery.specs.Outcomes.{Outcome, unread, status_of, name_of, TooLong, ReadsRefused, ReadsOtherTransfer, ReadsObjects, Decides}
+use Rattle.itf_reader.specs.Forms.{Row}
+use Rattle.itf_reader.specs.Layouts.{form_of}
+use Rattle.itf_reader.specs.Readings.{Structure, IsRead, IsRefused as IsAtFault}
+use Rattle.table_layout.specs.Layouts.{Layout}
+use Rattle.delivery.specs.Commands.{Check, Command, check, IsCompile, IsCheck, IsCommand, IsUsage}
+use Rattle.delivery.specs.Deciding.{model_limit, transfer_limit, model_name, Decides}
+use Rattle.delivery.specs.Judging.{lines_of, findings}
+use Rattle.delivery.specs.ModelTexts.{Refusal, IsRefused, HasLayout}
+use Rattle.delivery.specs.Outcomes.{Outcome, unread, status_of}
+use Rattle.delivery.specs.Reading.{IsWhole, IsLonger}
 use Rattle.delivery.specs.Report.{report_of}
-use Rattle.delivery.specs.declared.outcome.File.{File}
 use Rattle.delivery.specs.declared.status.Status.{Status}
 use Rattle.delivery.specs.declared.status.Status.TheVariants.{Accepted, Rejected, Undecided, ModelRefused, Usage, ReadFault, WriteFault, OverLimit, Memory, NotProved}
 
--- the model and the transfer were read, and are of the first form with these objects
-pub record Reads (told : Option Files) (words : List (List ℕ)) (m : Model) (objects : List Record) : Type 0 where
-  pub check : Check
-  pub words_are : IsCheck words check
-  pub objects_are : ReadsObjects told check m objects
+-- the model was read, it has no fault, and this is its layout
+pub record ReadsModel (told : Option Files) (model : List ℕ) (l : Layout) : Type 0 where
+  pub text : List ℕ
+  pub read : IsWhole told model model_limit text
+  pub is_model : HasLayout text l
+
+-- the model was read, and is refused
+pub record ReadsRefused (told : Option Files) (model : List ℕ) (r : Refusal) : Type 0 where
+  pub text : List ℕ
+  pub read : IsWhole told model model_limit text
+  pub is_refused : IsRefused text r
+
+-- model and transfer were read, and the transfer is the text of these rows by the layout of the model
+pub record ReadsRows (told : Option Files) (c : Check) (l : Layout) (transfer : List (List Row)) : Type 0 where
+  pub model : ReadsModel told c.model l
+  pub text : List ℕ
+  pub read : IsWhole told c.transfer transfer_limit text
+  pub rows : IsRead (form_of l) (lines_of l text) transfer
+
+-- model and transfer were read, and the first line of the transfer at fault is this one
+pub record ReadsFault (told : Option Files) (c : Check) (n : ℕ) (code : Structure) : Type 0 where
+  pub l : Layout
+  pub model : ReadsModel told c.model l
+  pub text : List ℕ
+  pub read : IsWhole told c.transfer transfer_limit text
+  pub at_fault : IsAtFault (form_of l) (lines_of l text) n code
+
+-- the words ask to check files whose transfer has rows that pass a test
+abbrev pub Checks : Option Files → List (List ℕ) → (Layout → List (List Row) → Type 0) → Type 0
+Checks told words test = (c : Check) × (l : Layout) × (transfer : List (List Row)) × IsCheck words c × ReadsRows told c l transfer × test l transfer
+
+-- the words ask to compile a model that has no fault
+abbrev pub Compiles : Option Files → List (List ℕ) → Type 0
+Compiles told words = (model : List ℕ) × (l : Layout) × IsCompile words model × ReadsModel told model l
+
+-- each object meets the declarations of its table, and the model has no AREA
+abbrev pub IsClean : Layout → List (List Row) → Type 0
+IsClean l transfer = (findings l transfer ≡ []) × (l.areas ≡ [])
+
+-- each object meets the declarations of its table, and the model has an AREA
+abbrev pub HasAreas : Layout → List (List Row) → Type 0
+HasAreas l transfer = (findings l transfer ≡ []) × (l.areas ≢ [])
+
+abbrev pub HasFindings : Layout → List (List Row) → Type 0
+HasFindings l transfer = findings l transfer ≢ []
+
+-- the transfer has a first line at fault
+abbrev pub IsMisbuilt : Option Files → List (List ℕ) → Type 0
+IsMisbuilt told words = (c : Check) × (n : ℕ) × (code : Structure) × IsCheck words c × ReadsFault told c n code
+
+-- a file that is longer than its limit: the transfer is read only behind a model without fault
+pub data IsOverLimit (told : Option Files) (words : List (List ℕ)) : Type 0 where
+  long_model : (c : Command) → IsCommand words c → IsLonger told (model_name c) model_limit → IsOverLimit told words
+  long_transfer : (c : Check) → IsCheck words c → (l : Layout) → ReadsModel told c.model l → IsLonger told c.transfer transfer_limit → IsOverLimit told words
+
+-- a fault was counted for a file that was to be read
+abbrev pub IsUnread : (List ℕ → Type 0) → List (List ℕ) → Type 0
+IsUnread counted words = ((c : Command) × IsCommand words c × counted (model_name c)) ⊎ ((c : Check) × IsCheck words c × counted c.transfer)
 
 -- The cause of each answer.
--- Accepted: every object meets the declarations of its table. Rejected: the report's lines are the findings of the objects.
--- ModelRefused: the model's text has this first fault of its tokens or of its grammar, or it spells a model that is not of the first form.
--- Undecided: the transfer is not of the first form.
+-- Accepted: the model has no fault; for `check`, it has no AREA, and every object meets the declarations of its table.
+-- Rejected: a line of the transfer is at fault, or the objects have findings.
+-- Undecided: every object meets the declarations of its table, and the model has an AREA.
+-- ModelRefused: the model has this first fault of its tokens, of its grammar, or of its names and types.
 -- Usage: the words have no right form. ReadFault: a fault was counted for a file that was to be read. OverLimit: a file is longer than its limit.
 abbrev pub Means : Option Files → (List ℕ → Type 0) → List (List ℕ) → Status → Type 0
-Means told counted words Accepted = (m : Model) × (objects : List Record) × Reads told words m objects × (findings m.columns objects ≡ [])
-Means told counted words Rejected = (m : Model) × (objects : List Record) × Reads told words m objects × (findings m.columns objects ≢ [])
-Means told counted words Undecided = (c : Check) × IsCheck words c × ReadsOtherTransfer told c
-Means told counted words ModelRefused = (c : Check) × (r : Refusal) × IsCheck words c × ReadsRefused told c r
+Means told counted words Accepted = Compiles told words ⊎ Checks told words IsClean
+Means told counted words Rejected = IsMisbuilt told words ⊎ Checks told words HasFindings
+Means told counted words Undecided = Checks told words HasAreas
+Means told counted words ModelRefused = (c : Command) × (r : Refusal) × IsCommand words c × ReadsRefused told (model_name c) r
 Means told counted words Usage = IsUsage words
-Means told counted words ReadFault = (c : Check) × (file : File) × IsCheck words c × counted (name_of c file)
+Means told counted words ReadFault = IsUnread counted words
 Means told counted words WriteFault = ⊤
-Means told counted words OverLimit = (c : Check) × (file : File) × IsCheck words c × TooLong told c file
+Means told counted words OverLimit = IsOverLimit told words
 Means told counted words Memory = ⊤
 Means told counted words NotProved = ⊥
 

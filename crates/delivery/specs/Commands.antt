@@ -7,8 +7,11 @@ pub record Check : Type 0 where
   pub transfer : List ℕ
   pub certificate : List ℕ
 
-abbrev pub words_of : Check → List (List ℕ)
-words_of c = codes "check" ∷ c.model ∷ c.transfer ∷ c.certificate ∷ []
+-- what the words may ask for
+pub data Command : Type 0 where
+  -- compile M: the model
+  compile : List ℕ → Command
+  check : Check → Command
 
 -- a name of a file is not empty and does not begin with a minus
 abbrev pub is_file_name : List ℕ → Bool
@@ -16,12 +19,20 @@ is_file_name [] = false
 is_file_name (c ∷ name) = not (c == 45)
 
 -- the words have the right form, that of this command
+pub record IsCompile (words : List (List ℕ)) (model : List ℕ) : Type 0 where
+  pub spelled : words ≡ codes "compile" ∷ model ∷ []
+  pub is_name : is_file_name model ≡ true
+
 pub record IsCheck (words : List (List ℕ)) (c : Check) : Type 0 where
-  pub spelled : words ≡ words_of c
+  pub spelled : words ≡ codes "check" ∷ c.model ∷ c.transfer ∷ c.certificate ∷ []
   pub model : is_file_name c.model ≡ true
   pub transfer : is_file_name c.transfer ≡ true
   pub certificate : is_file_name c.certificate ≡ true
 
+abbrev pub IsCommand : List (List ℕ) → Command → Type 0
+IsCommand words (compile model) = IsCompile words model
+IsCommand words (check c) = IsCheck words c
+
 -- the words have no right form
 abbrev pub IsUsage : List (List ℕ) → Type 0
-IsUsage words = (c : Check) → IsCheck words c → ⊥
+IsUsage words = (c : Command) → IsCommand words c → ⊥

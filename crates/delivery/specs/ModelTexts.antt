@@ -1,4 +1,4 @@
--- What the text of a model is: refused, or a model of the first form.
+-- What the text of a model is: refused, or a model with a layout.
 use Rattle.std.specs.Prelude.{◌≡◌, ℕ, List, codes, Option, Some, None, slice_get}
 use Rattle.ili_lexer.specs.Places.{line_after, column_after}
 use Rattle.ili_lexer.specs.Tokens.{AreTokens, IsFault}
@@ -13,7 +13,11 @@ use Rattle.ili_grammar.specs.Slices.{bytes_of, toks}
 use Rattle.ili_grammar.specs.Syntax.{ModelSyntax}
 use Rattle.ili_grammar.specs.declared.syntax.SyntaxCode.{SyntaxCode}
 use Rattle.ili_grammar.specs.declared.syntax.SyntaxFault.TheVariants as parsed
-use Rattle.delivery.specs.FirstModel.{Model, first_of}
+use Rattle.resolver.specs.Faults.{Fault}
+use Rattle.resolver.specs.Models.{resolved_model}
+use Rattle.resolver.specs.Rules.{first_fault}
+use Rattle.table_layout.specs.Layouts.{Layout}
+use Rattle.table_layout.specs.Tables.{layout_of}
 use Rattle.delivery.specs.declared.refusals.RefusalCode.{RefusalCode}
 use Rattle.delivery.specs.declared.refusals.RefusalCode.TheVariants as refused
 
@@ -48,9 +52,9 @@ token_refusal text code t = record { code = refused.Syntax code; line = t.line; 
 abbrev pub end_refusal : List ℕ → SyntaxCode → Refusal
 end_refusal text code = wordless (refused.Syntax code) (line_after text) (column_after text)
 
--- a model that is not of the first form is left for later
-abbrev pub later_refusal : Refusal
-later_refusal = wordless refused.Later 1 1
+-- a fault of the names and types, at the name where it counts
+abbrev pub name_refusal : Fault → Refusal
+name_refusal f = record { code = refused.Names f.code; line = f.name.line; column = f.name.column; word = f.name.text }
 
 -- the text is cut into tokens, and these spell the syntax
 pub record IsSpelt (text : List ℕ) (syntax : ModelSyntax) : Type 0 where
@@ -64,13 +68,14 @@ pub data IsFaulty (text : List ℕ) (r : Refusal) : Type 0 where
   ends_early : (ts : List Token) (c : SyntaxCode) → AreTokens text ts → IsFirstFault (toks text ts) (parsed.At c None) → r ≡ end_refusal text c → IsFaulty text r
   wrong_token : (ts : List Token) (c : SyntaxCode) (k : ℕ) (t : Token) → AreTokens text ts → IsFirstFault (toks text ts) (parsed.At c (Some k)) → slice_get ts k ≡ Some t → r ≡ token_refusal text c t → IsFaulty text r
 
--- the text is no model, or a model that is not of the first form
+-- the text is no model, or a model whose names and types break a rule: the fault that counts
 pub data IsRefused (text : List ℕ) (r : Refusal) : Type 0 where
   at_fault : IsFaulty text r → IsRefused text r
-  left_for_later : (m : ModelSyntax) → IsSpelt text m → first_of m ≡ None → r ≡ later_refusal → IsRefused text r
+  misnamed : (m : ModelSyntax) (f : Fault) → IsSpelt text m → first_fault m ≡ Some f → r ≡ name_refusal f → IsRefused text r
 
--- the text spells a model of the first form
-pub record IsFirstModel (text : List ℕ) (m : Model) : Type 0 where
+-- the text spells a model without fault, and its tables are laid out so
+pub record HasLayout (text : List ℕ) (l : Layout) : Type 0 where
   pub syntax : ModelSyntax
   pub spelt : IsSpelt text syntax
-  pub first : first_of syntax ≡ Some m
+  pub faultless : first_fault syntax ≡ None
+  pub laid_out : l ≡ layout_of (resolved_model syntax)

@@ -1,11 +1,23 @@
 -- Refusals and readings of the code, without where they lie in memory.
-use Rattle.std.specs.Prelude.{ℕ, ◌≤◌, List, ⊤}
-use Rattle.ili_grammar.specs.Limits.{name_count}
+use Rattle.std.specs.Prelude.{◌≡◌, ℕ, List, Some, None, ⊤}
+use Rattle.ili_grammar.specs.Limits.{IsWithinLimits}
 use Rattle.ili_grammar.specs.Values.{model_of}
+use Rattle.ili_grammar.specs.Syntax.{ModelSyntax}
+use Rattle.ili_grammar.specs.Values.{ident_of}
+use Rattle.resolver.specs.Faults.{Fault}
+use Rattle.resolver.specs.Models.{resolved_model}
+use Rattle.resolver.specs.Rules.{first_fault}
+use Rattle.resolver.specs.declared.faults.ModelFault.{ModelFault}
+use Rattle.resolver.specs.declared.faults.ModelFault.TheVariants as faults
+use Rattle.table_layout.specs.Tables.{layout_of}
+use Rattle.table_layout.specs.Valid.{IsValid}
+use Rattle.table_layout.specs.Values.{layout_view}
 use Rattle.delivery.specs.declared.refusals.Refusal.{Refusal as CodeRefusal}
 use Rattle.delivery.specs.declared.model_text.Reading.{Reading}
 use Rattle.delivery.specs.declared.model_text.Reading.TheVariants as readings
-use Rattle.delivery.specs.ModelTexts.{Refusal, IsSpelt, IsFaulty}
+use Rattle.delivery.specs.declared.model_text.ModelReading.{ModelReading}
+use Rattle.delivery.specs.declared.model_text.ModelReading.TheVariants as models
+use Rattle.delivery.specs.ModelTexts.{Refusal, name_refusal, IsSpelt, IsFaulty, IsRefused, HasLayout}
 
 abbrev pub refusal_of : CodeRefusal → Refusal
 refusal_of r = record { code = r.code; line = r.line; column = r.column; word = r.word.items }
@@ -15,7 +27,31 @@ abbrev pub IsReading : List ℕ → Reading → Type 0
 IsReading text (readings.Syntax syntax) = IsSpelt text (model_of syntax)
 IsReading text (readings.Refused r) = IsFaulty text (refusal_of r)
 
--- a syntax has at most so many names as a text has bytes
-abbrev pub HasFewNames : Reading → Type 0
-HasFewNames (readings.Syntax syntax) = name_count (model_of syntax) ≤ 4194304
-HasFewNames (readings.Refused r) = ⊤
+-- a syntax is as small as a text makes it
+abbrev pub IsSmallReading : Reading → Type 0
+IsSmallReading (readings.Syntax syntax) = IsWithinLimits (model_of syntax)
+IsSmallReading (readings.Refused r) = ⊤
+
+-- a fault of the names and types is told so; want of memory is not told
+abbrev pub IsNameRefusal : ModelFault → Refusal → Type 0
+IsNameRefusal (faults.At code name) r = r ≡ name_refusal (record { code = code; name = ident_of name })
+IsNameRefusal faults.Memory r = ⊥
+
+-- the fault that counts is told
+abbrev pub TellsFault : ModelSyntax → Refusal → Type 0
+TellsFault m r = (f : Fault) × (first_fault m ≡ Some f) × (r ≡ name_refusal f)
+
+-- the syntax has this layout, or the fault that counts is told
+abbrev pub IsLaidOut : ModelSyntax → ModelReading → Type 0
+IsLaidOut m (models.Laid layout) = (first_fault m ≡ None) × (layout_view layout ≡ layout_of (resolved_model m))
+IsLaidOut m (models.Refused r) = TellsFault m (refusal_of r)
+
+-- the text has this layout, or is refused so
+abbrev pub IsModelReading : List ℕ → ModelReading → Type 0
+IsModelReading text (models.Laid layout) = HasLayout text (layout_view layout)
+IsModelReading text (models.Refused r) = IsRefused text (refusal_of r)
+
+-- a layout is valid
+abbrev pub IsValidReading : ModelReading → Type 0
+IsValidReading (models.Laid layout) = IsValid (layout_view layout)
+IsValidReading (models.Refused r) = ⊤

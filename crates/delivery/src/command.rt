@@ -1,7 +1,7 @@
 // The words of the command line.
-ghost use Rattle.std.specs.Prelude.{◌≡◌, IfSome, IfNone};
-ghost use Rattle.delivery.specs.Commands.{is_file_name, IsCheck, IsUsage};
-ghost use Rattle.delivery.specs.CommandViews.{check_of};
+ghost use Rattle.std.specs.Prelude.{◌≡◌, IfSome, IfNone, List, ℕ};
+ghost use Rattle.delivery.specs.Commands.{Check as AnyCheck, is_file_name, IsCheck, IsCompile, IsCommand, IsUsage};
+ghost use Rattle.delivery.specs.CommandViews.{check_of, command_of as command_seen};
 
 use crate::word::Word;
 
@@ -11,6 +11,14 @@ pub struct Check<'a> {
     pub model: &'a str,
     pub transfer: &'a str,
     pub certificate: &'a str,
+}
+
+/// What the words ask for.
+#[derive(Clone, Copy)]
+pub enum Command<'a> {
+    /// `compile M`: the name of the model.
+    Compile(&'a str),
+    Check(Check<'a>),
 }
 
 // A name of a file is not empty and does not begin with a minus.
@@ -23,10 +31,26 @@ fn is_file_name(name: &str) -> bool
     }
 }
 
-/// The command that the words spell; none where they have no right form.
-pub fn command_of(words: &[Word]) -> Option<Check<'_>>
-    ensures check { IfSome result (λ check. IsCheck words.now (check_of check)) }
-    ensures usage { IfNone result (IsUsage words.now) }
+// The model that the words ask to compile, if they do.
+fn compile_of(words: &[Word]) -> Option<&str>
+    ensures some { IfSome result (λ model. IsCompile words.now model.now) }
+    ensures none { IfNone result ((model : List ℕ) → IsCompile words.now model → ⊥) }
+{
+    let [command, model] = words else {
+        return None;
+    };
+    let model = model.text();
+    if command.text() == "compile" && is_file_name(model) {
+        Some(model)
+    } else {
+        None
+    }
+}
+
+// The check that the words ask for, if they do.
+fn check_of(words: &[Word]) -> Option<Check<'_>>
+    ensures some { IfSome result (λ check. IsCheck words.now (check_of check)) }
+    ensures none { IfNone result ((c : AnyCheck) → IsCheck words.now c → ⊥) }
 {
     let [command, model, transfer, certificate] = words else {
         return None;
@@ -44,5 +68,19 @@ pub fn command_of(words: &[Word]) -> Option<Check<'_>>
         Some(check)
     } else {
         None
+    }
+}
+
+/// The command that the words spell; none where they have no right form.
+pub fn command_of(words: &[Word]) -> Option<Command<'_>>
+    ensures command { IfSome result (λ command. IsCommand words.now (command_seen command)) }
+    ensures usage { IfNone result (IsUsage words.now) }
+{
+    if let Some(check) = check_of(words) {
+        return Some(Command::Check(check));
+    }
+    match compile_of(words) {
+        Some(model) => Some(Command::Compile(model)),
+        None => None,
     }
 }

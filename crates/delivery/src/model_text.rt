@@ -1,21 +1,31 @@
-// The text of a model becomes its syntax, or is refused.
-ghost use Rattle.std.specs.Prelude.{◌≡◌, ◌≤◌, ◌<◌, length, IfOk, IfSome, Some, slice_get};
+// The text of a model becomes its layout, or is refused.
+ghost use Rattle.std.specs.Prelude.{◌≡◌, ◌≤◌, length, IfOk, Some};
 ghost use Rattle.ili_lexer.specs.Places.{line_after, column_after};
 ghost use Rattle.ili_grammar.specs.Slices.{bytes_of};
 ghost use Rattle.ili_grammar.specs.Values.{model_of};
-ghost use Rattle.delivery.specs.ModelTexts.{wordless, lex_refusal, word_of, token_refusal, end_refusal, later_refusal, IsSpelt, IsFaulty};
-ghost use Rattle.delivery.specs.RefusalViews.{refusal_of, IsReading, HasFewNames};
+ghost use Rattle.ili_grammar.specs.Limits.{IsWithinLimits};
+ghost use Rattle.delivery.specs.ModelTexts.{wordless, lex_refusal, word_of, token_refusal, end_refusal};
+ghost use Rattle.delivery.specs.RefusalViews.{refusal_of, IsReading, IsSmallReading, IsModelReading, IsValidReading, IsNameRefusal, IsLaidOut};
 
 use crate::refusals::{Refusal, RefusalCode};
 use ili_grammar::{ModelSyntax, SyntaxCode, SyntaxFault, parse};
 use ili_lexer::{Kind, LexFault, Token, end_place, lex};
 use ports::Memory;
+use resolver::{ModelFault, resolve};
 use std::alloc::Global;
+use table_layout::{Layout, layout};
 
-/// What a model's text is read as.
+/// What a model's text is, as far as its tokens and its grammar go.
 #[derive(Drop)]
 pub enum Reading {
     Syntax(ModelSyntax),
+    Refused(Refusal),
+}
+
+/// What a model's text is.
+#[derive(Drop)]
+pub enum ModelReading {
+    Laid(Layout),
     Refused(Refusal),
 }
 
@@ -29,13 +39,6 @@ fn wordless(alloc: Global, code: RefusalCode, line: u32, column: u32) -> Result<
         column,
         word: b"-".to_vec(alloc)?,
     })
-}
-
-/// The refusal of a model that is not of the form that is served so far.
-pub fn later(alloc: Global) -> Result<Refusal, Memory>
-    ensures { IfOk result (λ refusal. refusal_of refusal ≡ later_refusal) }
-{
-    wordless(alloc, RefusalCode::Later, 1, 1)
 }
 
 // The refusal of a text that is not cut into tokens.
@@ -90,11 +93,11 @@ fn end_refusal(alloc: Global, text: &[u8], code: SyntaxCode) -> Result<Refusal, 
     wordless(alloc, RefusalCode::Syntax(code), line, column)
 }
 
-/// Reads the syntax that a model's text spells.
-pub fn read_syntax(alloc: Global, text: &[u8]) -> Result<Reading, Memory>
+// Reads the syntax that a model's text spells.
+fn read_syntax(alloc: Global, text: &[u8]) -> Result<Reading, Memory>
     requires { length text.now ≤ 4194304 }
     ensures reads { IfOk result (λ reading. IsReading text.now reading) }
-    ensures few { IfOk result (λ reading. HasFewNames reading) }
+    ensures small { IfOk result (λ reading. IsSmallReading reading) }
 {
     let tokens = match lex(alloc, text) {
         Ok(tokens) => tokens,
@@ -115,5 +118,44 @@ pub fn read_syntax(alloc: Global, text: &[u8]) -> Result<Reading, Memory>
             let token = &tokens[at as usize];
             Ok(Reading::Refused(token_refusal(alloc, text, code, token)?))
         }
+    }
+}
+
+// The refusal of a model whose names and types break a rule.
+fn fault_refusal(alloc: Global, fault: ModelFault) -> Result<Refusal, Memory>
+    ensures { IfOk result (λ refusal. IsNameRefusal fault (refusal_of refusal)) }
+{
+    match fault {
+        ModelFault::At { code, name } => Ok(Refusal {
+            code: RefusalCode::Names(code),
+            line: name.line,
+            column: name.column,
+            word: name.text.bytes().to_vec(alloc)?,
+        }),
+        ModelFault::Memory => Err(Memory),
+    }
+}
+
+// The layout of a model by its syntax, or the fault of its names and types that counts.
+fn lay_out(alloc: Global, syntax: &ModelSyntax) -> Result<ModelReading, Memory>
+    requires { IsWithinLimits (model_of syntax.now) }
+    ensures laid { IfOk result (λ reading. IsLaidOut (model_of syntax.now) reading) }
+    ensures valid { IfOk result (λ reading. IsValidReading reading) }
+{
+    match resolve(alloc, syntax) {
+        Ok(model) => Ok(ModelReading::Laid(layout(alloc, &model)?)),
+        Err(fault) => Ok(ModelReading::Refused(fault_refusal(alloc, fault)?)),
+    }
+}
+
+/// Reads the model that a text spells, and lays its tables out.
+pub fn read_model(alloc: Global, text: &[u8]) -> Result<ModelReading, Memory>
+    requires { length text.now ≤ 4194304 }
+    ensures reads { IfOk result (λ reading. IsModelReading text.now reading) }
+    ensures valid { IfOk result (λ reading. IsValidReading reading) }
+{
+    match read_syntax(alloc, text)? {
+        Reading::Syntax(syntax) => lay_out(alloc, &syntax),
+        Reading::Refused(refusal) => Ok(ModelReading::Refused(refusal)),
     }
 }

@@ -3,9 +3,10 @@ ghost use Rattle.std.specs.Prelude.{◌≡◌};
 ghost use Rattle.delivery.specs.Outcomes.{status_of};
 ghost use Rattle.delivery.specs.OutcomeViews.{outcome_of};
 
-use crate::findings::Finding;
 use crate::refusals::Refusal;
 use crate::status::Status;
+use itf_reader::{Finding, Structure as Code};
+use table_layout::Layout;
 
 /// A file that is read.
 #[derive(Clone, Copy, Debug, PartialEq, Eq)]
@@ -25,12 +26,16 @@ pub enum Outcome {
     TooLong(File),
     /// The model is refused.
     Refused(Refusal),
-    /// The transfer is not of the first form.
-    TransferLater,
-    /// The objects have findings.
+    /// The model is compiled.
+    Compiled(Layout),
+    /// The first line at fault of a transfer that is no text of its model.
+    Structure { line: u32, code: Code },
+    /// The transfer has findings.
     Rejected(Vec<Finding>),
-    /// So many objects, and no finding.
-    Accepted(u32),
+    /// The transfer has no finding, and the areas of the layout are not looked at yet.
+    AreasLater(Layout),
+    /// So many objects, no finding and no area.
+    Accepted(u128),
 }
 
 impl Outcome {
@@ -44,8 +49,10 @@ impl Outcome {
             Outcome::Unread(_) => Status::ReadFault,
             Outcome::TooLong(_) => Status::OverLimit,
             Outcome::Refused(_) => Status::ModelRefused,
-            Outcome::TransferLater => Status::Undecided,
+            Outcome::Compiled(_) => Status::Accepted,
+            Outcome::Structure { .. } => Status::Rejected,
             Outcome::Rejected(_) => Status::Rejected,
+            Outcome::AreasLater(_) => Status::Undecided,
             Outcome::Accepted(_) => Status::Accepted,
         }
     }

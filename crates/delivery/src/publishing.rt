@@ -4,7 +4,7 @@ ghost use Rattle.ports.specs.Faults.{Rose};
 ghost use Rattle.ports.specs.Files.{Puts, OthersStay};
 ghost use Rattle.ports.specs.Output.{Adds, AddsPrefix};
 ghost use Rattle.delivery.specs.Report.{no_certificates};
-ghost use Rattle.delivery.specs.Publishing.{Stays};
+ghost use Rattle.delivery.specs.Publishing.{Keeps, Stays};
 ghost use Rattle.delivery.specs.Outcomes.{status_of};
 ghost use Rattle.delivery.specs.OutcomeViews.{outcome_of};
 
@@ -31,6 +31,7 @@ fn write_certificates<S: Shelf>(shelf: &mut S, name: &str) -> Result<(), Failed>
 // Writes the certificates, where the outcome is that the delivery is accepted.
 fn write_files<S: Shelf>(outcome: &Outcome, name: &str, shelf: &mut S) -> Result<(), Failed>
     ensures done { OnOk result (Stays (outcome_of outcome.now) (S.held shelf.old) name.now (S.held shelf.new)) }
+    ensures kept { Keeps (outcome_of outcome.now) → S.held shelf.new ≡ S.held shelf.old }
     ensures others { OthersStay (S.held shelf.old) name.now (S.held shelf.new) }
     ensures reads { (q : List ℕ) → S.read_faults shelf.old q ≤ S.read_faults shelf.new q }
     ensures writes { S.write_faults shelf.old ≤ S.write_faults shelf.new }
@@ -52,6 +53,7 @@ pub fn publish<S: Shelf, K: Sink>(
 ) -> Status
     ensures status { result ≢ Status.WriteFault → result ≡ status_of (outcome_of outcome.now) }
     ensures files { result ≢ Status.WriteFault → Stays (outcome_of outcome.now) (S.held shelf.old) name.now (S.held shelf.new) }
+    ensures kept { Keeps (outcome_of outcome.now) → S.held shelf.new ≡ S.held shelf.old }
     ensures text { result ≢ Status.WriteFault → Adds (K.written out.old) text.now (K.written out.new) }
     ensures prefix { AddsPrefix (K.written out.old) text.now (K.written out.new) }
     ensures others { OthersStay (S.held shelf.old) name.now (S.held shelf.new) }

@@ -1,5 +1,6 @@
 // Why a model is refused.
 use ili_grammar::SyntaxCode;
+use resolver::ModelCode;
 
 /// Why a model is refused.
 #[derive(Clone, Copy, Debug, PartialEq, Eq)]
@@ -12,8 +13,8 @@ pub enum RefusalCode {
     LongNumber,
     /// With this token the text begins no model.
     Syntax(SyntaxCode),
-    /// The model has no fault and is not of the form that is served so far.
-    Later,
+    /// A rule on names and types is broken at this name.
+    Names(ModelCode),
 }
 
 /// A refusal, the line and the column of what is at fault, both from 1, and the token there, or

@@ -3,12 +3,14 @@ ghost use Rattle.std.specs.Prelude.{◌≡◌, ◌≢◌, ◌≤◌, ◌⊎◌, 
 ghost use Rattle.ports.specs.Faults.{Rose};
 ghost use Rattle.ports.specs.Files.{Files, Puts, OthersStay};
 ghost use Rattle.delivery.specs.Answers.{Means, Finishes, Begins, IsCertificate, IsAnswer, IsFaultless, IsComplete};
-ghost use Rattle.delivery.specs.Commands.{Check, IsCheck};
-ghost use Rattle.delivery.specs.Outcomes.{Outcome as AnyOutcome, Decides};
+ghost use Rattle.delivery.specs.Commands.{Check, IsCheck, IsCompile};
+ghost use Rattle.delivery.specs.Deciding.{Decides};
+ghost use Rattle.delivery.specs.Outcomes.{Outcome as AnyOutcome};
+ghost use Rattle.delivery.specs.CommandViews.{command_of as command_seen, certificate_name};
 ghost use Rattle.delivery.specs.OutcomeViews.{outcome_of};
 ghost use Rattle.delivery.specs.Report.{no_certificates};
 
-use crate::command::command_of;
+use crate::command::{Command, command_of};
 use crate::decision::decide;
 use crate::outcome::Outcome;
 use crate::publishing::publish;
@@ -17,6 +19,16 @@ use crate::status::Status;
 use crate::word::Word;
 use ports::{Memory, Shelf, Sink};
 use std::alloc::Global;
+
+// The name of the file for the certificates, nothing where there is none.
+fn certificate_name<'a>(command: &Command<'a>) -> &'a str
+    ensures { result.now ≡ certificate_name (command_seen command.now) }
+{
+    match command {
+        Command::Compile(_) => "",
+        Command::Check(check) => check.certificate,
+    }
+}
 
 // The outcome of the words and the files, and the name of the file for the certificates.
 fn judge<'a, S: Shelf>(
@@ -30,11 +42,11 @@ fn judge<'a, S: Shelf>(
     ensures reads { (q : List ℕ) → S.read_faults shelf.old q ≤ S.read_faults shelf.new q }
     ensures writes { S.write_faults shelf.old ≤ S.write_faults shelf.new }
 {
-    let Some(check) = command_of(words) else {
+    let Some(command) = command_of(words) else {
         return Ok((Outcome::Usage, ""));
     };
-    let outcome = decide(alloc, &check, shelf)?;
-    Ok((outcome, check.certificate))
+    let outcome = decide(alloc, &command, shelf)?;
+    Ok((outcome, certificate_name(&command)))
 }
 
 /// Does what the words ask for, over files by name and an output, and answers with a status
@@ -54,11 +66,12 @@ pub fn run<S: Shelf, K: Sink>(alloc: Global, words: &[Word], shelf: &mut S, out:
     // Whatever outcome the words and the files have, the answer and the report are those of this outcome, unless a read or a write failed or memory was wanting.
     ensures exact { (files : Files) → S.held shelf.old ≡ Some files → (outcome : AnyOutcome) → Decides (Some files) (λ name. Rose (S.read_faults shelf.old name) (S.read_faults shelf.new name)) words.now outcome → IsAnswer outcome result (K.written out.old) (K.written out.new) }
 
-    // Accepted leaves the empty list of certificates under the name that the words give.
+    // A check that is accepted leaves the empty list of certificates under the name that the words give.
     ensures certificates { result ≡ Status.Accepted → (c : Check) → IsCheck words.now c → Puts (S.held shelf.old) c.certificate (λ file. no_certificates) (S.held shelf.new) }
 
-    // No other answer changes a file, but a write that failed; and that changed no other file.
+    // No other answer changes a file, but a write that failed, and that changed no other file; nor does the compilation of a model.
     ensures unchanged { result ≢ Status.Accepted → result ≢ Status.WriteFault → S.held shelf.new ≡ S.held shelf.old }
+    ensures compiled { (model : List ℕ) → IsCompile words.now model → S.held shelf.new ≡ S.held shelf.old }
     ensures others { (c : Check) → IsCheck words.now c → OthersStay (S.held shelf.old) c.certificate (S.held shelf.new) }
 
     // A write fails only where a fault of it was counted. The output then gained the front of the report.

@@ -1,4 +1,4 @@
-//! Transfers at the edges of the first form, each with what the rules say of it.
+//! Transfers at the edges of the form, each with what the rules say of it.
 
 use super::rows::{CHECK, words_of};
 use delivery::run;
@@ -9,8 +9,6 @@ use std::test::Fail;
 
 const TWO_COLUMNS: &str =
     "TRANSFER One; MODEL M TOPIC T = TABLE A = N: [-5 .. 10]; K: [+1..999999999999999999]; NO IDENT END A; END T. END M. FORMAT FREE; CODE BLANK = DEFAULT, UNDEFINED = DEFAULT, CONTINUE = DEFAULT; TID = ANY; END.";
-
-const LATER: &str = "LATER transfer\nVERDICT UNDECIDED\n";
 
 // Transfers for the model with two columns, and their reports.
 const TRANSFERS: [(&str, &str); 22] = [
@@ -32,36 +30,36 @@ const TRANSFERS: [(&str, &str); 22] = [
         "SCNT\n////\nMTID\nMODL M\nTOPI T\nTABL A\nOBJE 1 010 0001\nOBJE 2 1 1 1\nETAB\nETOP\nEMOD\nENDE\n",
         "FINDING 8 count 0\nVERDICT REJECTED\n",
     ),
-    // an identification comes once
+    // an identification comes once in a table
     (
         "SCNT\n////\nMTID\nMODL M\nTOPI T\nTABL A\nOBJE 1 1 1\nOBJE 1 1 1\nETAB\nETOP\nEMOD\nENDE\n",
-        LATER,
+        "FINDING 8 tid 0 7\nVERDICT REJECTED\n",
     ),
     (
         "SCNT\n////\nMTID\nMODL M\nTOPI T\nTABL A\nOBJE 10 1 1\nOBJE 9 1 1\nOBJE a 1 1\nOBJE 9 1 1\nETAB\nETOP\nEMOD\nENDE\n",
-        LATER,
+        "FINDING 10 tid 0 8\nVERDICT REJECTED\n",
     ),
     (
         "SCNT\n////\nMTID\nMODL M\nTOPI T\nTABL A\nOBJE 10 1 1\nOBJE 9 1 1\nOBJE a 1 1\nETAB\nETOP\nEMOD\nENDE\n",
         "VERDICT ACCEPTED 3\n",
     ),
-    // no value is the undefined word or has a full stop
+    // the undefined word, and what is no number
     (
         "SCNT\n////\nMTID\nMODL M\nTOPI T\nTABL A\nOBJE @ @ 1\nETAB\nETOP\nEMOD\nENDE\n",
-        LATER,
+        "FINDING 7 undefined 1\nVERDICT REJECTED\n",
     ),
     (
         "SCNT\n////\nMTID\nMODL M\nTOPI T\nTABL A\nOBJE @ 1 1.\nETAB\nETOP\nEMOD\nENDE\n",
-        LATER,
+        "FINDING 7 number 2\nVERDICT REJECTED\n",
     ),
     (
         "SCNT\n////\nMTID\nMODL M\nTOPI T\nTABL A\nOBJE @.@ 1 1\nETAB\nETOP\nEMOD\nENDE\n",
         "VERDICT ACCEPTED 1\n",
     ),
-    // behind the slashes no line goes on, blanks at its end dropped
+    // behind the slashes a line goes on by its last byte, blanks at its end dropped
     (
         "SCNT\n////\nMTID\nMODL M\nTOPI T\nTABL A\nOBJE 1 1 1 \\ \nETAB\nETOP\nEMOD\nENDE\n",
-        LATER,
+        "STRUCTURE 7 continue\nVERDICT REJECTED\n",
     ),
     (
         "SCNT \\\n\\\n////\nMTID\nMODL M\nTOPI T\nTABL A\nETAB\nETOP\nEMOD\nENDE\n",
@@ -70,42 +68,42 @@ const TRANSFERS: [(&str, &str); 22] = [
     // the line of slashes begins with them
     (
         "SCNT\n ////\nMTID\nMODL M\nTOPI T\nTABL A\nETAB\nETOP\nEMOD\nENDE\n",
-        LATER,
+        "STRUCTURE 11 end\nVERDICT REJECTED\n",
     ),
     (
         "////\nMTID\nMODL M\nTOPI T\nTABL A\nETAB\nETOP\nEMOD\nENDE\n",
-        LATER,
+        "STRUCTURE 1 word\nVERDICT REJECTED\n",
     ),
     (
         "SCNT\n////\n////\nMTID\nMODL M\nTOPI T\nTABL A\nETAB\nETOP\nEMOD\nENDE\n",
-        LATER,
+        "STRUCTURE 3 word\nVERDICT REJECTED\n",
     ),
     // each line has its word and, where it needs one, the name of the model
     (
         "SCNT\n////\nMTID\nMODL N\nTOPI T\nTABL A\nETAB\nETOP\nEMOD\nENDE\n",
-        LATER,
+        "STRUCTURE 4 name\nVERDICT REJECTED\n",
     ),
     (
         "SCNT\n////\nMTID\nMODL M M\nTOPI T\nTABL A\nETAB\nETOP\nEMOD\nENDE\n",
-        LATER,
+        "STRUCTURE 4 name\nVERDICT REJECTED\n",
     ),
     (
         "SCNT\n////\nMTID\nMODL M\nTOPI T\nTABL A\nSTPT 1 1\nETAB\nETOP\nEMOD\nENDE\n",
-        LATER,
+        "STRUCTURE 7 word\nVERDICT REJECTED\n",
     ),
     (
         "SCNT\n////\nMTID\nMODL M\nTOPI T\nTABL A\nETAB\nETOP\nEMOD\nENDE\nENDE\n",
-        LATER,
+        "STRUCTURE 11 word\nVERDICT REJECTED\n",
     ),
     (
         "SCNT\n////\nMTID\nMODL M\nTOPI T\nTABL A\nETAB\nETOP\nEMOD\n",
-        LATER,
+        "STRUCTURE 10 end\nVERDICT REJECTED\n",
     ),
     (
         "\nSCNT\n////\nMTID\nMODL M\nTOPI T\nTABL A\nETAB\nETOP\nEMOD\nENDE\n",
-        LATER,
+        "STRUCTURE 1 word\nVERDICT REJECTED\n",
     ),
-    ("", LATER),
+    ("", "STRUCTURE 1 end\nVERDICT REJECTED\n"),
 ];
 
 pub fn report_on(alloc: Global, model: &str, transfer: &str) -> Result<Vec<u8>, Fail> {
@@ -125,7 +123,7 @@ fn reports(rt: &impl Abort, alloc: Global, transfer: &str, report: &str) -> Resu
 }
 
 #[test]
-fn transfers_at_the_edge_are_decided_or_left(rt: HostRuntime) -> Result<(), Fail> {
+fn transfers_at_the_edge_are_decided(rt: HostRuntime) -> Result<(), Fail> {
     for (transfer, report) in &TRANSFERS {
         reports(&rt, rt.alloc(), transfer, report)?;
     }

@@ -1,6 +1,9 @@
 //! The program's worked rows: inputs with the answers that a reader of the rules expects.
 
+mod compiled;
+mod deliveries;
 mod endless;
 mod inputs;
 mod models;
 mod rows;
+mod values;

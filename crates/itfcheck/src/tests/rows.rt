@@ -44,7 +44,7 @@ const USAGE: &str =
 
 const EMPTY_LIST: &str = "ITFCERT 1\nAREAS 0\n";
 
-const ROWS: [Row; 10] = [
+const ROWS: [Row; 13] = [
     Row {
         name: "a number within its bounds",
         words: CHECK,
@@ -118,8 +118,41 @@ const ROWS: [Row; 10] = [
         transfer: SEVEN,
         failing_shelf_calls: &[],
         failing_puts: &[],
-        report: "FAULT MODEL later 1 1 -\n",
-        status: Status::ModelRefused,
+        report: "VERDICT ACCEPTED 1\n",
+        status: Status::Accepted,
+        certificate: Some(EMPTY_LIST),
+    },
+    Row {
+        name: "a model is compiled",
+        words: &["compile", "M"],
+        model: MODEL,
+        transfer: "",
+        failing_shelf_calls: &[],
+        failing_puts: &[],
+        report: "MODEL M\nTABLE T A MAIN 1 0\nVERDICT COMPILED 1\n",
+        status: Status::Accepted,
+        certificate: None,
+    },
+    Row {
+        name: "the report on a compiled model is not taken",
+        words: &["compile", "M"],
+        model: MODEL,
+        transfer: "",
+        failing_shelf_calls: &[],
+        failing_puts: &[1],
+        report: "",
+        status: Status::WriteFault,
+        certificate: None,
+    },
+    Row {
+        name: "a name that begins with a minus",
+        words: &["compile", "-M"],
+        model: MODEL,
+        transfer: "",
+        failing_shelf_calls: &[],
+        failing_puts: &[],
+        report: USAGE,
+        status: Status::Usage,
         certificate: None,
     },
     Row {

@@ -1,11 +1,12 @@
-use Rattle.std.proofs.Common.{subst}
-use Rattle.delivery.specs.Frames.{HasNoTransfer}
-use Rattle.delivery.specs.Views.{titles_of}
+use Rattle.std.proofs.Common.{ℕ, List, subst}
+use Rattle.table_layout.specs.Values.{layout_view}
+use Rattle.delivery.specs.Deciding.{HasText, transfer_read}
+use Rattle.delivery.specs.OutcomeViews.{outcome_of}
+use Rattle.delivery.proofs.Steps.{if_ok}
 use Rattle.delivery.proofs.decision.decide_transfer.Goals as goal
 
-pub returns-in_default-clause-outcome : goal.returns-in_default-clause-outcome
-returns-in_default-clause-outcome g c = record {
-  text = c.in-Ok.text.items;
-  read = c.in-Ok.ensures.whole;
-  other = subst (HasNoTransfer (titles_of c.args.model.now.titles)) c.deref.ensures.value (rw c.in_default.is at c.in_ok-objects.ensures.other);
-}
+pub returns-in-Ok-clause-outcome : goal.returns-in-Ok-clause-outcome
+returns-in-Ok-clause-outcome g c =
+    if_ok _ _ c.judge_text.result
+    (λ o h. transfer_read c.in-Ok.text.items c.in-Ok.ensures.whole (subst (λ (text : List ℕ). HasText (layout_view c.args.layout) text (outcome_of o)) c.deref.ensures.value h))
+    c.judge_text.ensures
