@@ -7,7 +7,7 @@ use Rattle.resolver.specs.Resolved.{Form}
 use Rattle.table_layout.specs.Layouts.{Column, Table, Layout}
 use Rattle.itf_reader.specs.declared.findings.Code.{Code}
 use Rattle.itf_reader.specs.declared.findings.Code.TheVariants.{Tid, Ident, Reference}
-use Rattle.itf_reader.specs.Findings.{Other, Line, Word, Finding, in_order}
+use Rattle.itf_reader.specs.Findings.{Line, Word, Finding, in_order}
 use Rattle.itf_reader.specs.Forms.{Row}
 use Rattle.domain_rules.specs.Fields.{is_undefined, width}
 use Rattle.domain_rules.specs.ValueFindings.{is_counted}
