@@ -7,13 +7,7 @@ use Rattle.itf_reader.specs.Findings.{Finding}
 use Rattle.itf_reader.specs.Views.{row_of, rows_of}
 use Rattle.ident_refs.specs.Rows.{identification}
 use Rattle.ident_refs.specs.KeyFindings.{clash, first_named, tid_findings}
-
--- rows that are split at one of them
-pub split_suc : (i : ℕ) (rows : List CodeRow) (r : CodeRow) → i < length rows → r ≡ get_or rows i r
-    → (drop i (rows_of rows) ≡ row_of r ∷ drop (suc i) (rows_of rows)) × (take (suc i) (rows_of rows) ≡ take i (rows_of rows) ++ row_of r ∷ [])
-split_suc i [] r lt at = absurd (omega arith)
-split_suc zero (x ∷ rows) r lt at = (ap (λ (y : CodeRow). row_of y ∷ rows_of rows) (sym at), ap (λ (y : CodeRow). row_of y ∷ []) (sym at))
-split_suc (suc i) (x ∷ rows) r lt at = let s = split_suc i rows r (omega arith) at in (s.0, ap (λ (l : List Row). row_of x ∷ l) s.1)
+use Rattle.ident_refs.proofs.Splits.{split}
 
 -- the findings of a row are told
 pub tids_over : (before after : List Row) (r : Row) (found new start : List Finding)
@@ -27,8 +21,7 @@ pub tids_step : (i : ℕ) (rows : List CodeRow) (r : CodeRow) (found new start :
     → found ++ tid_findings (take i (rows_of rows)) (drop i (rows_of rows)) ≡ start
     → new ++ tid_findings (take (i + 1) (rows_of rows)) (drop (i + 1) (rows_of rows)) ≡ start
 tids_step i rows r found new start lt at n inv =
-    let s = split_suc i rows r lt at in
-    let step = tids_over (take i (rows_of rows)) (drop (suc i) (rows_of rows)) (row_of r) found new start n
-    (ap (λ (l : List Row). found ++ tid_findings (take i (rows_of rows)) l) (sym s.0) ∙ inv) in
-    ap (λ (j : ℕ). new ++ tid_findings (take j (rows_of rows)) (drop j (rows_of rows))) (add-one i)
-    ∙ ap (λ (l : List Row). new ++ tid_findings l (drop (suc i) (rows_of rows))) s.1 ∙ step
+    let s = split row_of i rows r lt at in
+    let step = tids_over (take i (rows_of rows)) (drop (i + 1) (rows_of rows)) (row_of r) found new start n
+        (ap (λ (l : List Row). found ++ tid_findings (take i (rows_of rows)) l) (sym s.0) ∙ inv) in
+    ap (λ (l : List Row). new ++ tid_findings l (drop (i + 1) (rows_of rows))) s.1 ∙ step

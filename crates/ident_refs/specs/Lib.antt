@@ -1,3 +1,6 @@
 pub mod Rows
 pub mod ListValues
 pub mod KeyFindings
+pub mod NamedRows
+pub mod Compared
+pub mod Firsts

@@ -50,13 +50,13 @@ value_of model.HAlignment words = Bytes (bytes_of words)
 value_of model.VAlignment words = Bytes (bytes_of words)
 value_of (model.Reference k) words = Bytes (bytes_of words)
 
--- the value of a column, none where it is undefined or has a finding
-abbrev pub column_value : Codes → Column → List (List ℕ) → Option Value
-column_value codes c words = if is_none (field_code c.form codes words) then Some (value_of c.form words) else None
+-- the value of a column by its form, none where it is undefined or has a finding
+abbrev pub form_value : Codes → Form → List (List ℕ) → Option Value
+form_value codes form words = if is_none (field_code form codes words) then Some (value_of form words) else None
 
 abbrev pub columns_values : Codes → List Column → List (List ℕ) → List (Option Value)
 columns_values codes [] words = []
-columns_values codes (c ∷ cs) words = column_value codes c (take (width c.form) words) ∷ columns_values codes cs (drop (width c.form) words)
+columns_values codes (c ∷ cs) words = form_value codes c.form (take (width c.form) words) ∷ columns_values codes cs (drop (width c.form) words)
 
 abbrev pub corner_of : LineForm → Vertex → Corner
 corner_of l v = record { kind = v.kind; numbers = numbers_on (axes l) v.fields }
