@@ -3,3 +3,13 @@ pub mod Splits
 pub mod TidSteps
 pub mod ColumnSteps
 pub mod Sameness
+pub mod SoundVertices
+pub mod SpanLaws
+pub mod RowValues
+pub mod LineLaws
+pub mod Gathering
+pub mod Told
+pub mod IdentSteps
+pub mod FlatSteps
+pub mod TableSteps
+pub mod AllMapped

@@ -12,8 +12,8 @@ use Rattle.ident_refs.specs.declared.compared.Demand.{Demand}
 use Rattle.ident_refs.specs.declared.compared.Value.TheVariants as values
 use Rattle.ident_refs.specs.contracts.compared.ValuePartialEq.TheImpl as value_eq
 use Rattle.ident_refs.specs.contracts.compared.CornerPartialEq.TheImpl as corner_eq
-use Rattle.ident_refs.specs.contracts.compared.DemandPartialEq.TheImpl as demand_eq
-use Rattle.ident_refs.specs.Compared.{value_view, values_view, corner_view, demand_view}
+use Rattle.ident_refs.specs.Compared.{value_view, corner_view, demand_view}
+use Rattle.ident_refs.specs.Notes.{equal}
 use Rattle.ident_refs.specs.ListValues.{is_same_value, is_same_corner, is_same_kind}
 
 abbrev pub equal_corner : CodeCorner → CodeCorner → Bool
@@ -21,9 +21,6 @@ equal_corner = (corner_eq.ghosts).eq
 
 abbrev pub equal_value : CodeValue → CodeValue → Bool
 equal_value = (value_eq.ghosts).eq
-
-abbrev pub equal : Demand → Demand → Bool
-equal = (demand_eq.ghosts).eq
 
 -- ---- numbers
 pub int_same : (m n : ℤ) → int_eq m n ≡ is_same m n

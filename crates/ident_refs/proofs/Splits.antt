@@ -1,5 +1,5 @@
 -- Lists that are split at one of their elements.
-use Rattle.std.proofs.Common.{◌≡◌, ℕ, suc, zero, ◌+◌, ◌<◌, List, [], ◌∷◌, ◌++◌, length, take, drop, get_or, map, refl, sym, ap, ◌∙◌, arith, add-one}
+use Rattle.std.proofs.Common.{◌≡◌, ℕ, suc, zero, ◌+◌, ◌<◌, List, [], ◌∷◌, ◌++◌, length, take, drop, get_or, map, sym, ap, ◌∙◌, arith, add-one}
 
 pub split_suc : {X Y : Type 0} (f : X → Y) (i : ℕ) (xs : List X) (x : X) → i < length xs → x ≡ get_or xs i x
     → (drop i (map f xs) ≡ f x ∷ drop (suc i) (map f xs)) × (take (suc i) (map f xs) ≡ take i (map f xs) ++ f x ∷ [])

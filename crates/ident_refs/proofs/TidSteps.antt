@@ -1,5 +1,5 @@
 -- Findings of identifications, row by row.
-use Rattle.std.proofs.Common.{◌≡◌, ℕ, suc, zero, ◌+◌, ◌<◌, List, [], ◌∷◌, ◌++◌, length, take, drop, get_or, sym, ap, ◌∙◌, arith, add-one, append_assoc}
+use Rattle.std.proofs.Common.{◌≡◌, ℕ, ◌+◌, ◌<◌, List, [], ◌∷◌, ◌++◌, length, take, drop, get_or, sym, ap, ◌∙◌, append_assoc}
 use Rattle.itf_reader.specs.declared.transfer.Row.{Row as CodeRow}
 use Rattle.itf_reader.specs.declared.findings.Code.TheVariants.{Tid}
 use Rattle.itf_reader.specs.Forms.{Row}
@@ -23,5 +23,5 @@ pub tids_step : (i : ℕ) (rows : List CodeRow) (r : CodeRow) (found new start :
 tids_step i rows r found new start lt at n inv =
     let s = split row_of i rows r lt at in
     let step = tids_over (take i (rows_of rows)) (drop (i + 1) (rows_of rows)) (row_of r) found new start n
-        (ap (λ (l : List Row). found ++ tid_findings (take i (rows_of rows)) l) (sym s.0) ∙ inv) in
+    (ap (λ (l : List Row). found ++ tid_findings (take i (rows_of rows)) l) (sym s.0) ∙ inv) in
     ap (λ (l : List Row). new ++ tid_findings l (drop (i + 1) (rows_of rows))) s.1 ∙ step

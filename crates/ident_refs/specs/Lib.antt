@@ -4,3 +4,5 @@ pub mod KeyFindings
 pub mod NamedRows
 pub mod Compared
 pub mod Firsts
+pub mod Spans
+pub mod Notes

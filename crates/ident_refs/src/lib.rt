@@ -7,6 +7,7 @@ mod found;
 mod ids;
 mod keys;
 mod references;
+mod sheet;
 mod values;
 
 pub use keys::check_keys;

@@ -23,7 +23,7 @@ use table_layout::{Column, Table};
 #[derive(Drop)]
 pub struct NamedRows<'a> {
     alloc: Global,
-    codes: &'a Codes,
+    pub codes: &'a Codes,
     pub tables: Vec<Names<'a>>,
 }
 
@@ -31,7 +31,11 @@ impl<'a> NamedRows<'a> {
     ghost use Rattle.ident_refs.specs.NamedRows.{rows_in};
 
     /// The rows of a transfer.
-    pub fn new(alloc: Global, codes: &'a Codes, transfer: &'a Transfer) -> Result<NamedRows<'a>, Memory>
+    pub fn new(
+        alloc: Global,
+        codes: &'a Codes,
+        transfer: &'a Transfer,
+    ) -> Result<NamedRows<'a>, Memory>
         ensures codes { IfOk result (λ named. named.codes.now ≡ codes.now) }
         ensures rows { IfOk result (λ named. rows_in named ≡ transfer_of transfer.now) }
     {

@@ -1,9 +1,5 @@
-use Rattle.std.proofs.Common.{◌≡◌, ℕ, List, ◌∙◌, ap, length, take, drop}
+use Rattle.std.proofs.Common.{ℕ, List, ◌∙◌, ap, length}
 use Rattle.ili_grammar.specs.Values.{codes_of}
-use Rattle.resolver.specs.Values.{form_of}
-use Rattle.table_layout.specs.Values.{columns_view}
-use Rattle.itf_reader.specs.Findings.{findings_of}
-use Rattle.domain_rules.specs.ValueFindings.{widths}
 use Rattle.ident_refs.specs.NamedRows.{rows_in}
 use Rattle.ident_refs.proofs.ColumnSteps.{width_below, rest_counted, columns_step}
 use Rattle.ident_refs.proofs.references.NamedRows.add_columns.Goals as goal
@@ -16,11 +12,11 @@ split_at-requires c =
 pub loop-place-preserved : goal.loop-place-preserved
 loop-place-preserved c = record {
   counted =
-    ap (λ (ws : List (List ℕ)). length ws) c.split_at.ensures.back
-    ∙ rest_counted c.loop-place.place c.args.columns.now c.index-columns-place.result c.loop-place.left.now c.width.result
+      ap (λ (ws : List (List ℕ)). length ws) c.split_at.ensures.back
+      ∙ rest_counted c.loop-place.place c.args.columns.now c.index-columns-place.result c.loop-place.left.now c.width.result
       c.loop-place-test.true c.index-columns-place.is c.width.ensures c.loop-place.invariant.counted;
   told =
-    columns_step (codes_of c.args.self.now.codes.now) (rows_in c.args.self.now) c.args.line c.loop-place.place c.args.columns.now c.index-columns-place.result
-    c.loop-place.left.now c.split_at.result.0.now c.split_at.result.1.now c.width.result _ _ _
-    c.loop-place-test.true c.index-columns-place.is c.width.ensures c.split_at.ensures.front c.split_at.ensures.back c.in_ok-add_column.ensures c.loop-place.invariant.told;
+      columns_step (codes_of c.args.self.now.codes.now) (rows_in c.args.self.now) c.args.line c.loop-place.place c.args.columns.now c.index-columns-place.result
+      c.loop-place.left.now c.split_at.result.0.now c.split_at.result.1.now c.width.result _ _ _
+      c.loop-place-test.true c.index-columns-place.is c.width.ensures c.split_at.ensures.front c.split_at.ensures.back c.in_ok-add_column.ensures c.loop-place.invariant.told;
 }

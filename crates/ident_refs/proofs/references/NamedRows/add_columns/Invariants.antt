@@ -11,6 +11,6 @@ abbrev pub invariant-loop-place : goal.invariant-loop-place
 invariant-loop-place l = record {
   counted : length l.left ≡ widths (drop l.place (columns_view l.columns));
   told :
-    findings_of l.found.items ++ columns_references (codes_of l.self.codes.now) (rows_in l.self) l.line (l.place + 1) (drop l.place (columns_view l.columns)) l.left
-    ≡ findings_of l.fn.found.items ++ columns_references (codes_of l.self.codes.now) (rows_in l.self) l.line 1 (columns_view l.columns) l.fn.words;
+      findings_of l.found.items ++ columns_references (codes_of l.self.codes.now) (rows_in l.self) l.line (l.place + 1) (drop l.place (columns_view l.columns)) l.left
+      ≡ findings_of l.fn.found.items ++ columns_references (codes_of l.self.codes.now) (rows_in l.self) l.line 1 (columns_view l.columns) l.fn.words;
 }

@@ -1,0 +1,188 @@
+// The rows of a table by the values that tell them apart.
+ghost use Rattle.std.specs.Prelude.{◌≡◌, ◌≤◌, ◌<◌, ◌++◌, ◌∷◌, ◌-◌, List, None, [], IsTrue, drop, length, take, map, slice_index_or, IfOk, OnOk};
+ghost use Rattle.std.specs.List.{All};
+ghost use Rattle.std.specs.Option.{option_map};
+ghost use Rattle.ili_grammar.specs.Values.{codes_of};
+ghost use Rattle.resolver.specs.Values.{line_of};
+ghost use Rattle.table_layout.specs.Values.{columns_view, role_view, table_view};
+ghost use Rattle.itf_reader.specs.declared.findings.Code.TheVariants.{Ident};
+ghost use Rattle.itf_reader.specs.Findings.{findings_of};
+ghost use Rattle.itf_reader.specs.Forms.{Row as GivenRow};
+ghost use Rattle.itf_reader.specs.Views.{row_of, rows_of, strokes_of};
+ghost use Rattle.domain_rules.specs.ValueFindings.{is_counted};
+ghost use Rattle.ident_refs.specs.Compared.{value_view, demand_view};
+ghost use Rattle.ident_refs.specs.KeyFindings.{clash, column_of, ident_findings};
+ghost use Rattle.ident_refs.specs.ListValues.{demand, is_same_demand, lines_values, row_values};
+ghost use Rattle.ident_refs.specs.Notes.{Notes};
+ghost use Rattle.ident_refs.specs.Rows.{first_such};
+ghost use Rattle.ident_refs.specs.Spans.{span_view, spans_from};
+
+use super::compared::{Demand, Value};
+use super::firsts::note_first;
+use super::found::add_clash;
+use super::values::{form_value, line_value};
+use domain_rules::{is_counted, width};
+use ili_grammar::Codes;
+use indexmap::IndexMap;
+use itf_lines::Field;
+use itf_reader::{Code, Finding, Row, Stroke};
+use ports::Memory;
+use resolver::Form;
+use std::alloc::Global;
+use table_layout::{Column, Table};
+
+/// A column: its form, and where its words begin and end among the fields of a row.
+#[derive(Drop)]
+pub struct Span<'a> {
+    pub form: &'a Form,
+    pub start: usize,
+    pub end: usize,
+}
+
+impl<'a> Span<'a> {
+    // The words of the column among the fields of a row.
+    fn words<'b>(&self, fields: &'b [Field]) -> &'b [Field]
+        requires ordered { self.now.start ≤ self.now.end }
+        requires within { self.now.end ≤ length fields.now }
+        ensures { result.now ≡ take (self.now.end - self.now.start) (drop self.now.start fields.now) }
+    {
+        &fields[self.start..self.end]
+    }
+}
+
+/// A table, and where the words of its columns stand.
+#[derive(Drop)]
+pub struct Sheet<'a> {
+    alloc: Global,
+    pub codes: &'a Codes,
+    pub table: &'a Table,
+    spans: Vec<Span<'a>>,
+    ghost spread: { map span_view spans.items ≡ spans_from 1 (columns_view table.now.columns.items) },
+}
+
+// Where the words of some columns stand, behind the identification.
+fn spans_of<'a>(alloc: Global, columns: &'a [Column]) -> Result<Vec<Span<'a>>, Memory>
+    requires { length columns.now ≤ 4194306 }
+    ensures { IfOk result (λ spans. map span_view spans.items ≡ spans_from 1 (columns_view columns.now)) }
+{
+    let mut spans = Vec::with_capacity(alloc, columns.len())?;
+    let mut start = 1;
+    for column in columns {
+        let end = start + width(&column.form);
+        spans.push(Span {
+            form: &column.form,
+            start,
+            end,
+        })?;
+        start = end;
+    }
+    Ok(spans)
+}
+
+// The column of a finding of an IDENT list: that of its first place, counted from 1.
+fn column_of(places: &[u32]) -> u32
+    requires { All (λ p. p < 4194306) places.now }
+    ensures { result ≡ column_of places.now }
+{
+    match places {
+        [place, ..] => *place + 1,
+        [] => 0,
+    }
+}
+
+impl<'a> Sheet<'a> {
+    /// The sheet of a table.
+    pub fn new(alloc: Global, codes: &'a Codes, table: &'a Table) -> Result<Sheet<'a>, Memory>
+        requires { length table.now.columns.items ≤ 4194306 }
+        ensures codes { IfOk result (λ sheet. sheet.codes.now ≡ codes.now) }
+        ensures table { IfOk result (λ sheet. sheet.table.now ≡ table.now) }
+    {
+        let spans = spans_of(alloc, &table.columns)?;
+        Ok(Sheet {
+            alloc,
+            codes,
+            table,
+            spans,
+        })
+    }
+
+    // The value of the line of that number.
+    fn line_at<'b>(&self, strokes: &[Stroke], number: usize) -> Result<Option<Value<'b>>, Memory>
+        ensures { IfOk result (λ value. option_map value_view value ≡ slice_index_or (lines_values (role_view self.now.table.now.role) (map line_of self.now.table.now.lines.items) (strokes_of strokes.now)) number None) }
+    {
+        let Some(form) = self.table.lines.get(number) else {
+            return Ok(None);
+        };
+        let Some(stroke) = strokes.get(number) else {
+            return Ok(None);
+        };
+        line_value(self.alloc, self.table.role, form, &stroke.vertices)
+    }
+
+    // The value at a place: that of a column, or that of a line behind the columns.
+    fn value_at<'b>(&self, row: &'b Row, place: usize) -> Result<Option<Value<'b>>, Memory>
+        requires { IsTrue (is_counted (table_view self.now.table.now) (row_of row.now)) }
+        ensures { IfOk result (λ value. option_map value_view value ≡ slice_index_or (row_values (codes_of self.now.codes.now) (table_view self.now.table.now) (row_of row.now)) place None) }
+    {
+        match self.spans.get(place) {
+            Some(span) => Ok(form_value(span.form, self.codes, span.words(&row.fields))),
+            None => self.line_at(&row.strokes, place - self.spans.len()),
+        }
+    }
+
+    // What a row demands by a list: that no other row has these values.
+    fn demand<'b>(&self, places: &[u32], row: &'b Row) -> Result<Option<Demand<'b>>, Memory>
+        ensures { IfOk result (λ demanded. option_map demand_view demanded ≡ demand (codes_of self.now.codes.now) (table_view self.now.table.now) places.now (row_of row.now)) }
+    {
+        if !is_counted(self.table, row) {
+            return Ok(None);
+        }
+        let mut values = Vec::with_capacity(self.alloc, places.len())?;
+        for place in places {
+            match self.value_at(row, *place as usize)? {
+                Some(value) => values.push(value)?,
+                None => return Ok(None),
+            }
+        }
+        Ok(Some(Demand { values }))
+    }
+
+    // Adds a finding for a row, if a row before it demanded the same, and notes what it demands.
+    fn add_row<'b>(
+        &self,
+        places: &[u32],
+        column: u32,
+        row: &'b Row,
+        lines: &mut IndexMap<Demand<'b>, u32>,
+        found: &mut Vec<Finding>,
+    ) -> Result<(), Memory>
+        ensures noted { OnOk result ((before : List GivenRow) → Notes (codes_of self.now.codes.now) (table_view self.now.table.now) places.now before lines.old → Notes (codes_of self.now.codes.now) (table_view self.now.table.now) places.now (before ++ row_of row.now ∷ []) lines.new) }
+        ensures told { OnOk result ((before : List GivenRow) → Notes (codes_of self.now.codes.now) (table_view self.now.table.now) places.now before lines.old → findings_of found.new.items ≡ findings_of found.old.items ++ clash Ident column (row_of row.now) (first_such (λ other. is_same_demand (demand (codes_of self.now.codes.now) (table_view self.now.table.now) places.now (row_of row.now)) (demand (codes_of self.now.codes.now) (table_view self.now.table.now) places.now other)) before)) }
+    {
+        match self.demand(places, row)? {
+            Some(demand) => {
+                let first = note_first(lines, demand, row.line)?;
+                add_clash(found, Code::Ident, column, row, first)
+            }
+            None => Ok(()),
+        }
+    }
+
+    /// Adds a finding for each row that demands by a list what a row before it demands.
+    pub fn add_clashes(
+        &self,
+        places: &[u32],
+        rows: &[Row],
+        found: &mut Vec<Finding>,
+    ) -> Result<(), Memory>
+        requires { All (λ p. p < 4194306) places.now }
+        ensures { OnOk result (findings_of found.new.items ≡ findings_of found.old.items ++ ident_findings (codes_of self.now.codes.now) (table_view self.now.table.now) places.now [] (rows_of rows.now)) }
+    {
+        let column = column_of(places);
+        let mut lines = IndexMap::new(self.alloc);
+        for row in rows {
+            self.add_row(places, column, row, &mut lines, found)?;
+        }
+        Ok(())
+    }
+}
