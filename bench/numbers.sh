@@ -6,6 +6,7 @@
 set -euo pipefail
 here=$(cd "$(dirname "${BASH_SOURCE[0]}")/.." && pwd)
 objects=${1:-2000000}
+. "$here/bench/measure.sh"
 work=$(mktemp -d)
 trap 'rm -rf "$work"' EXIT
 cd "$work"
@@ -44,32 +45,11 @@ int main(int argc, char **argv) {
 C
 cc -O2 -o plain plain.c
 
-# CPU time in milliseconds and peak memory in KiB of a command, the best of three runs
-measure() {
-    python3 - "$@" <<'PY'
-import os, subprocess, sys
-best, peak = None, 0
-for _ in range(3):
-    pid = os.fork()
-    if pid == 0:
-        sink = os.open(os.devnull, os.O_WRONLY)
-        os.dup2(sink, 1)
-        os.execvp(sys.argv[1], sys.argv[1:])
-    _, status, usage = os.wait4(pid, 0)
-    if os.WEXITSTATUS(status) != 0:
-        sys.exit(f"{sys.argv[1]} ended with {os.WEXITSTATUS(status)}")
-    spent = usage.ru_utime + usage.ru_stime
-    best = spent if best is None else min(best, spent)
-    peak = max(peak, usage.ru_maxrss)
-print(round(best * 1000), peak)
-PY
-}
-
 "$here/itfcheck" check model transfer certificates > /dev/null
 size=$(( $(stat -c %s transfer) / 1024 ))
-read -r count_time _ <<< "$(measure wc -l transfer)"
-read -r plain_time _ <<< "$(measure ./plain transfer)"
-read -r check_time check_peak <<< "$(measure "$here/crates/itfcheck/out/itfcheck" check model transfer certificates)"
+read -r count_time _ <<< "$(measure 0 wc -l transfer)"
+read -r plain_time _ <<< "$(measure 0 ./plain transfer)"
+read -r check_time check_peak <<< "$(measure 0 "$here/crates/itfcheck/out/itfcheck" check model transfer certificates)"
 awk -v s="$size" -v w="$count_time" -v p="$plain_time" -v c="$check_time" -v m="$check_peak" -v n="$objects" 'BEGIN {
     printf "objects: %d, file: %d MiB\n", n, s / 1024
     printf "CPU time of check: %.1f times the plain C program, %.1f times wc -l\n", c / p, c / (w < 1 ? 1 : w)
