@@ -40,6 +40,8 @@ mod places;
 mod strokes;
 #[cfg(test)]
 mod tests;
+#[cfg(test)]
+mod value_tests;
 mod values;
 mod words;
 
