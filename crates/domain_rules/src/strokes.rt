@@ -156,17 +156,16 @@ pub fn is_bad_arc(form: &LineForm, s: &Vertex, m: &Vertex, e: &Vertex) -> bool
 }
 
 // Each arc is one.
+#[tactic(auto, using(crate::proofs::Arcs::too_few))]
 fn are_arcs(form: &LineForm, vertices: &[Vertex]) -> bool
     ensures { result ≡ is_nothing (arc_findings (line_of form.now) 0 (vertices_of vertices.now)) }
 {
     let mut rest = vertices;
-    while let [s, after @ ..] = rest {
-        if let [m, e, ..] = after {
-            if is_bad_arc(form, s, m, e) {
-                return false;
-            }
+    while let [s, m, e, ..] = rest {
+        if is_bad_arc(form, s, m, e) {
+            return false;
         }
-        rest = after;
+        rest = &rest[1..];
     }
     true
 }
