@@ -338,11 +338,15 @@ fn sound(rt: &impl Abort, alloc: Global, layout: &Layout, transfer: &Transfer) -
 fn a_row_and_its_lines_are_sound(rt: HostRuntime) {
     let alloc = rt.alloc();
     let layout = laid(&rt, alloc);
-    let text = "TABL Parcel_Form\nOBJE 1\nOBJE\nSTPT 1 1\nLIPT 1 1.0\nELIN\nOBJE 2 3\nSTPT 1 1\nLIPT 1 2\nELIN\nETAB\nTABL Parcel\nOBJE 1 5 @ @ 1 1\nSTPT 1 1 5\nELIN\nSTPT 1 1\nARCP 2 2\nLIPT 1 1\nELIN\nOBJE 2 5\nSTPT 1 1\nELIN\n";
+    let text =
+        "TABL Parcel_Form\nOBJE 1\nOBJE\nSTPT 1 1\nLIPT 1 1.0\nELIN\nOBJE 2 3\nSTPT 1 1\nLIPT 1 2\nELIN\nETAB\nTABL Parcel\nOBJE 1 5 @ @ 1 1\nSTPT 1 1 5\nELIN\nSTPT 1 1\nARCP 2 2\nLIPT 1 1\nELIN\nOBJE 2 5\nSTPT 1 1\nELIN\n";
     let transfer = read(&rt, alloc, &layout, text);
     let want = "true true\nfalse false\nfalse true\ntrue true false\nfalse false true\n";
     assert_eq!(rt; sound(&rt, alloc, &layout, &transfer).as_str(), want);
     assert!(rt; is_undefined(&CODES, b"@"));
     assert!(rt; !is_undefined(&CODES, b"@@"));
-    assert_eq!(rt; (width(&Form::AreaPoint(PLACES)), width(&Form::Text(2))), (2, 1));
+    assert_eq!(rt;
+        (width(&Form::AreaPoint(PLACES)), width(&Form::Text(2))),
+        (2, 1)
+    );
 }
