@@ -1,6 +1,6 @@
 // The lines of objects.
 ghost use Rattle.std.specs.Prelude.{◌≡◌, ◌≤◌, ◌++◌, ◌∷◌, [], length, List, ℕ, OnOk, IfOk};
-ghost use Rattle.itf_reader.specs.Forms.{vertex, filled};
+ghost use Rattle.itf_reader.specs.Forms.{Start, vertex, filled};
 ghost use Rattle.itf_reader.specs.Machine.{closed_row, closed_table, closed_topic, opened_row, with_stroke};
 ghost use Rattle.itf_reader.specs.Machine.{has_room};
 ghost use Rattle.itf_reader.specs.Views.{kind_of, vertices_of, strokes_of, in_row_of, table_of, topic_of, came_topics};
@@ -41,15 +41,26 @@ pub fn add_vertex(
     Ok(())
 }
 
-/// Opens the object of a line.
+/// The first vertex of a stroke. There is room for one more, since most strokes are one straight.
+pub fn start_stroke(alloc: Global, line: &Line) -> Result<Vec<Vertex>, Memory>
+    ensures { IfOk result (λ vertices. vertices_of vertices.items ≡ vertex Start line.now.number line.now.fields.items ∷ []) }
+{
+    let mut vertices = Vec::with_capacity(alloc, 2)?;
+    add_vertex(alloc, &mut vertices, VertexKind::Start, line)?;
+    Ok(vertices)
+}
+
+/// Opens the object of a line. There is room for the strokes of its table and no more, which it has
+/// when it is closed, since a transfer has millions of objects with one stroke.
 pub fn open_row(alloc: Global, inside: OpenTable, line: &Line) -> Result<OpenRow, Memory>
     ensures { IfOk result (λ row. in_row_of row ≡ opened_row (table_of inside) line.now.number line.now.fields.items) }
 {
+    let strokes = Vec::with_capacity(alloc, inside.lines)?;
     Ok(OpenRow {
         inside,
         line: line.number,
         fields: copied(alloc, &line.fields)?,
-        strokes: Vec::new(alloc),
+        strokes,
     })
 }
 

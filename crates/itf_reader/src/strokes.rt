@@ -6,7 +6,9 @@ ghost use Rattle.itf_reader.specs.Views.{vertices_of, in_row_of, table_of};
 ghost use Rattle.itf_reader.specs.Steps.{Stands};
 
 use super::open::{OpenRow, OpenTable, Place};
-use super::rows::{add_stroke, add_vertex, close_row, close_table, has_room, open_row};
+use super::rows::{
+    add_stroke, add_vertex, close_row, close_table, has_room, open_row, start_stroke,
+};
 use super::stopped::{Stopped, refusal};
 use super::transfer::{Vertex, VertexKind};
 use itf_lines::{Line, LineWord};
@@ -68,11 +70,7 @@ pub fn behind_stroke(alloc: Global, row: OpenRow, line: &Line) -> Result<Place, 
             let table = close_row(alloc, row)?;
             Ok(Place::Tables(close_table(table)?))
         }
-        LineWord::Stpt if has_room(&row) => {
-            let mut vertices = Vec::new(alloc);
-            add_vertex(alloc, &mut vertices, VertexKind::Start, line)?;
-            Ok(Place::Vertices(row, vertices))
-        }
+        LineWord::Stpt if has_room(&row) => { Ok(Place::Vertices(row, start_stroke(alloc, line)?)) }
         LineWord::Elin if has_room(&row) => Ok(Place::Strokes(add_stroke(row, Vec::new(alloc))?)),
         word => Err(Stopped::At(refusal(word))),
     }
