@@ -14,7 +14,7 @@ abbrev pub table_of : OpenTable → InTable
 table_of t = record { inside = topic_of t.inside; number = t.number; lines = t.lines; rows = rows_of t.rows.items }
 
 abbrev pub in_row_of : OpenRow → InRow
-in_row_of r = record { inside = table_of r.inside; line = r.line; fields = r.fields.items; strokes = strokes_of r.strokes.items }
+in_row_of r = record { inside = table_of r.inside.value; line = r.line; fields = r.fields.items; strokes = strokes_of r.strokes.items }
 
 abbrev pub state_of : Place → State
 state_of places.Start = start
@@ -23,7 +23,7 @@ state_of places.Title = title
 state_of places.Model = model
 state_of (places.Topics came) = topics (came_topics came.list.items)
 state_of (places.Tables t) = tables (topic_of t)
-state_of (places.Objects t) = objects (table_of t)
+state_of (places.Objects t) = objects (table_of t.value)
 state_of (places.Strokes r) = strokes (in_row_of r)
 state_of (places.Vertices r vs) = vertices (in_row_of r) (vertices_of vs.items)
 state_of (places.Arc r vs) = arc (in_row_of r) (vertices_of vs.items)

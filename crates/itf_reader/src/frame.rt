@@ -34,7 +34,7 @@ fn open_topic(
     Ok(Place::Tables(OpenTopic {
         came,
         number,
-        tables: CameTables::new(alloc),
+        tables: CameTables::new(alloc)?,
     }))
 }
 
@@ -53,12 +53,13 @@ fn open_table(
     if inside.tables.has(number) {
         return Err(Stopped::At(Structure::Twice));
     }
-    Ok(Place::Objects(OpenTable {
+    let table = OpenTable {
         inside,
         number,
         lines,
         rows: Vec::new(alloc),
-    }))
+    };
+    Ok(Place::Objects(table.boxed(alloc)?))
 }
 
 /// Between topics.
@@ -103,7 +104,7 @@ pub fn behind_title(alloc: Global, directory: &Directory, line: &Line) -> Result
     match line.word {
         LineWord::Modl => {
             if names(&line.fields, directory.layout.model.bytes()) {
-                Ok(Place::Topics(CameTopics::new(alloc)))
+                Ok(Place::Topics(CameTopics::new(alloc)?))
             } else {
                 Err(Stopped::At(Structure::Name))
             }

@@ -13,8 +13,8 @@ use std::alloc::Global;
 #[derive(Drop)]
 pub struct CameTables {
     pub list: Vec<CameTable>,
-    numbers: IndexSet<u32>,
-    ghost told: { (n : ℕ) → contains nat_eq numbers n ≡ table_came n (came_tables list.items) },
+    numbers: Box<IndexSet<u32>>,
+    ghost told: { (n : ℕ) → contains nat_eq numbers.value n ≡ table_came n (came_tables list.items) },
 }
 
 impl CameTables {
@@ -22,13 +22,14 @@ impl CameTables {
     ghost use Rattle.itf_reader.specs.RowViews.{came_table};
 
     /// No table.
-    pub fn new(alloc: Global) -> CameTables
-        ensures { came_tables result.list.items ≡ [] }
+    pub fn new(alloc: Global) -> Result<CameTables, Memory>
+        ensures { IfOk result (λ new. came_tables new.list.items ≡ []) }
     {
-        CameTables {
+        let numbers = Box::new(alloc, IndexSet::new(alloc))?;
+        Ok(CameTables {
             list: Vec::new(alloc),
-            numbers: IndexSet::new(alloc),
-        }
+            numbers,
+        })
     }
 
     /// The table of that number came.
@@ -54,8 +55,8 @@ impl CameTables {
 #[derive(Drop)]
 pub struct CameTopics {
     pub list: Vec<CameTopic>,
-    numbers: IndexSet<usize>,
-    ghost told: { (n : ℕ) → contains nat_eq numbers n ≡ topic_came n (came_topics list.items) },
+    numbers: Box<IndexSet<usize>>,
+    ghost told: { (n : ℕ) → contains nat_eq numbers.value n ≡ topic_came n (came_topics list.items) },
 }
 
 impl CameTopics {
@@ -63,13 +64,14 @@ impl CameTopics {
     ghost use Rattle.itf_reader.specs.RowViews.{came_topic};
 
     /// No topic.
-    pub fn new(alloc: Global) -> CameTopics
-        ensures { came_topics result.list.items ≡ [] }
+    pub fn new(alloc: Global) -> Result<CameTopics, Memory>
+        ensures { IfOk result (λ new. came_topics new.list.items ≡ []) }
     {
-        CameTopics {
+        let numbers = Box::new(alloc, IndexSet::new(alloc))?;
+        Ok(CameTopics {
             list: Vec::new(alloc),
-            numbers: IndexSet::new(alloc),
-        }
+            numbers,
+        })
     }
 
     /// The topic of that number came.

@@ -1,7 +1,11 @@
 // The parts of a transfer that are open between two lines.
+ghost use Rattle.std.specs.Prelude.{◌≡◌, IfOk};
+
 use super::gathered::{CameTables, CameTopics};
 use super::transfer::{Row, Stroke, Vertex};
 use itf_lines::Field;
+use ports::Memory;
+use std::alloc::Global;
 
 /// An open topic behind the topics that came.
 #[derive(Drop)]
@@ -20,10 +24,19 @@ pub struct OpenTable {
     pub rows: Vec<Row>,
 }
 
+impl OpenTable {
+    /// The table in a block of its own, so that what is open is small where a line is taken.
+    pub fn boxed(self, alloc: Global) -> Result<Box<OpenTable>, Memory>
+        ensures { IfOk result (λ table. table.value ≡ self) }
+    {
+        Ok(Box::new(alloc, self)?)
+    }
+}
+
 /// An open object.
 #[derive(Drop)]
 pub struct OpenRow {
-    pub inside: OpenTable,
+    pub inside: Box<OpenTable>,
     pub line: u32,
     pub fields: Vec<Field>,
     pub strokes: Vec<Stroke>,
@@ -38,7 +51,7 @@ pub enum Place {
     Model,
     Topics(CameTopics),
     Tables(OpenTopic),
-    Objects(OpenTable),
+    Objects(Box<OpenTable>),
     Strokes(OpenRow),
     Vertices(OpenRow, Vec<Vertex>),
     Arc(OpenRow, Vec<Vertex>),

@@ -52,8 +52,8 @@ pub fn start_stroke(alloc: Global, line: &Line) -> Result<Vec<Vertex>, Memory>
 
 /// Opens the object of a line. There is room for the strokes of its table and no more, which it has
 /// when it is closed, since a transfer has millions of objects with one stroke.
-pub fn open_row(alloc: Global, inside: OpenTable, line: &Line) -> Result<OpenRow, Memory>
-    ensures { IfOk result (λ row. in_row_of row ≡ opened_row (table_of inside) line.now.number line.now.fields.items) }
+pub fn open_row(alloc: Global, inside: Box<OpenTable>, line: &Line) -> Result<OpenRow, Memory>
+    ensures { IfOk result (λ row. in_row_of row ≡ opened_row (table_of inside.value) line.now.number line.now.fields.items) }
 {
     let strokes = Vec::with_capacity(alloc, inside.lines)?;
     Ok(OpenRow {
@@ -86,8 +86,8 @@ fn fill(alloc: Global, strokes: &mut Vec<Stroke>, lines: usize) -> Result<(), Me
 }
 
 /// Closes an object: strokes that did not come are undefined.
-pub fn close_row(alloc: Global, row: OpenRow) -> Result<OpenTable, Memory>
-    ensures { IfOk result (λ table. table_of table ≡ closed_row (in_row_of row)) }
+pub fn close_row(alloc: Global, row: OpenRow) -> Result<Box<OpenTable>, Memory>
+    ensures { IfOk result (λ table. table_of table.value ≡ closed_row (in_row_of row)) }
 {
     let mut strokes = row.strokes;
     fill(alloc, &mut strokes, row.inside.lines)?;
@@ -108,9 +108,10 @@ pub fn has_room(row: &OpenRow) -> bool
 }
 
 /// Closes a table.
-pub fn close_table(table: OpenTable) -> Result<OpenTopic, Memory>
-    ensures { IfOk result (λ topic. topic_of topic ≡ closed_table (table_of table)) }
+pub fn close_table(table: Box<OpenTable>) -> Result<OpenTopic, Memory>
+    ensures { IfOk result (λ topic. topic_of topic ≡ closed_table (table_of table.value)) }
 {
+    let table = Box::into_inner(table);
     let inside = table.inside;
     let tables = inside.tables.with(CameTable {
         table: table.number,

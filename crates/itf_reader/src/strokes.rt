@@ -77,8 +77,8 @@ pub fn behind_stroke(alloc: Global, row: OpenRow, line: &Line) -> Result<Place, 
 }
 
 /// Behind TABL, where no object has come.
-pub fn behind_table(alloc: Global, table: OpenTable, line: &Line) -> Result<Place, Stopped>
-    ensures { (form : Form) → Stands result (by_word form (objects (table_of table)) line.now.word line.now.number line.now.fields.items) }
+pub fn behind_table(alloc: Global, table: Box<OpenTable>, line: &Line) -> Result<Place, Stopped>
+    ensures { (form : Form) → Stands result (by_word form (objects (table_of table.value)) line.now.word line.now.number line.now.fields.items) }
 {
     match line.word {
         LineWord::Obje => Ok(Place::Strokes(open_row(alloc, table, line)?)),
