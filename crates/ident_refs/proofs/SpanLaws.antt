@@ -93,6 +93,12 @@ spans_step i columns c start w spans new all lt at v n inv =
     ∙ ap (λ (u : ℕ). spans ++ record { form = form_of c.form; start = start; end = start + u } ∷ spans_from (start + u) rest) v
     ∙ ap (λ (cs : List Column). spans ++ spans_from start cs) (sym s.0) ∙ inv
 
+pub widths_step : (i : ℕ) (columns : List CodeColumn) (c : CodeColumn) (start w all : ℕ) → i < length columns → c ≡ get_or columns i c → w ≡ width (form_of c.form)
+    → start + widths (drop i (columns_view columns)) ≡ all → (start + w) + widths (drop (i + 1) (columns_view columns)) ≡ all
+widths_step i columns c start w all lt at v inv =
+    let s = ap widths (split column_view i columns c lt at).0 in
+    omega (arith, s, v, inv)
+
 -- ---- values at places
 -- the span of the code at a place
 pub span_here : (codes : Codes) (columns : List Column) (spans : List CodeSpan) (p : ℕ) (s : CodeSpan) → map span_view spans ≡ spans_from 1 columns

@@ -1,5 +1,5 @@
 // The rows of a table by the values that tell them apart.
-ghost use Rattle.std.specs.Prelude.{◌≡◌, ◌≤◌, ◌<◌, ◌++◌, ◌∷◌, ◌-◌, List, None, [], IsTrue, drop, length, take, map, slice_index_or, IfOk, OnOk};
+ghost use Rattle.std.specs.Prelude.{◌≡◌, ◌+◌, ◌≤◌, ◌<◌, ◌++◌, ◌∷◌, ◌-◌, List, None, [], IsTrue, drop, length, take, map, slice_index_or, IfOk, OnOk};
 ghost use Rattle.std.specs.List.{All};
 ghost use Rattle.std.specs.Option.{option_map};
 ghost use Rattle.ili_grammar.specs.Values.{codes_of};
@@ -9,7 +9,7 @@ ghost use Rattle.itf_reader.specs.declared.findings.Code.TheVariants.{Ident};
 ghost use Rattle.itf_reader.specs.Findings.{findings_of};
 ghost use Rattle.itf_reader.specs.Forms.{Row as GivenRow};
 ghost use Rattle.itf_reader.specs.Views.{row_of, rows_of, strokes_of};
-ghost use Rattle.domain_rules.specs.ValueFindings.{is_counted};
+ghost use Rattle.domain_rules.specs.ValueFindings.{widths, is_counted};
 ghost use Rattle.ident_refs.specs.Compared.{value_view, demand_view};
 ghost use Rattle.ident_refs.specs.KeyFindings.{clash, column_of, ident_findings};
 ghost use Rattle.ident_refs.specs.ListValues.{demand, is_same_demand, lines_values, row_values};
@@ -21,7 +21,7 @@ use super::compared::{Demand, Value};
 use super::firsts::note_first;
 use super::found::add_clash;
 use super::values::{form_value, line_value};
-use domain_rules::{is_counted, width};
+use domain_rules::width;
 use ili_grammar::Codes;
 use indexmap::IndexMap;
 use itf_lines::Field;
@@ -50,20 +50,23 @@ impl<'a> Span<'a> {
     }
 }
 
-/// A table, and where the words of its columns stand.
+/// A table, where the words of its columns stand, and how many fields a row has with them.
 #[derive(Drop)]
 pub struct Sheet<'a> {
     alloc: Global,
     pub codes: &'a Codes,
     pub table: &'a Table,
     spans: Vec<Span<'a>>,
+    fields: usize,
     ghost spread: { map span_view spans.items ≡ spans_from 1 (columns_view table.now.columns.items) },
+    ghost wide: { fields ≡ 1 + widths (columns_view table.now.columns.items) },
 }
 
-// Where the words of some columns stand, behind the identification.
-fn spans_of<'a>(alloc: Global, columns: &'a [Column]) -> Result<Vec<Span<'a>>, Memory>
+// Where the words of some columns stand, behind the identification, and where they end.
+fn spans_of<'a>(alloc: Global, columns: &'a [Column]) -> Result<(Vec<Span<'a>>, usize), Memory>
     requires { length columns.now ≤ 4194306 }
-    ensures { IfOk result (λ spans. map span_view spans.items ≡ spans_from 1 (columns_view columns.now)) }
+    ensures spread { IfOk result (λ r. map span_view r.0.items ≡ spans_from 1 (columns_view columns.now)) }
+    ensures wide { IfOk result (λ r. r.1 ≡ 1 + widths (columns_view columns.now)) }
 {
     let mut spans = Vec::with_capacity(alloc, columns.len())?;
     let mut start = 1;
@@ -76,7 +79,7 @@ fn spans_of<'a>(alloc: Global, columns: &'a [Column]) -> Result<Vec<Span<'a>>, M
         })?;
         start = end;
     }
-    Ok(spans)
+    Ok((spans, start))
 }
 
 // The column of a finding of an IDENT list: that of its first place, counted from 1.
@@ -97,12 +100,13 @@ impl<'a> Sheet<'a> {
         ensures codes { IfOk result (λ sheet. sheet.codes.now ≡ codes.now) }
         ensures table { IfOk result (λ sheet. sheet.table.now ≡ table.now) }
     {
-        let spans = spans_of(alloc, &table.columns)?;
+        let (spans, fields) = spans_of(alloc, &table.columns)?;
         Ok(Sheet {
             alloc,
             codes,
             table,
             spans,
+            fields,
         })
     }
 
@@ -134,7 +138,7 @@ impl<'a> Sheet<'a> {
     fn demand<'b>(&self, places: &[u32], row: &'b Row) -> Result<Option<Demand<'b>>, Memory>
         ensures { IfOk result (λ demanded. option_map demand_view demanded ≡ demand (codes_of self.now.codes.now) (table_view self.now.table.now) places.now (row_of row.now)) }
     {
-        if !is_counted(self.table, row) {
+        if row.fields.len() != self.fields {
             return Ok(None);
         }
         let mut values = Vec::with_capacity(self.alloc, places.len())?;

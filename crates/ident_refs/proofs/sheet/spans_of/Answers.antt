@@ -3,7 +3,7 @@ use Rattle.std.proofs.lemmas.List.{map-append}
 use Rattle.resolver.specs.Values.{form_of}
 use Rattle.ident_refs.specs.declared.sheet.Span.{Span as CodeSpan}
 use Rattle.ident_refs.specs.Spans.{span_view}
-use Rattle.ident_refs.proofs.SpanLaws.{width_most, spans_step}
+use Rattle.ident_refs.proofs.SpanLaws.{width_most, widths_step, spans_step}
 use Rattle.ident_refs.proofs.sheet.spans_of.Goals as goal
 
 pub loop-column-preserved : goal.loop-column-preserved
@@ -12,6 +12,9 @@ loop-column-preserved c =
     let low = c.loop-column.invariant.low in
     record {
       low = omega (arith, wide, low, c.width.ensures);
+      wide =
+          widths_step c.loop-column.column-index c.args.columns.now c.column-item.result c.loop-column.start c.width.result _ c.loop-column-test.true c.column-item.is c.width.ensures
+          c.loop-column.invariant.wide;
       spread =
           spans_step c.loop-column.column-index c.args.columns.now c.column-item.result c.loop-column.start c.width.result _ _ _ c.loop-column-test.true c.column-item.is c.width.ensures
           (ap (λ (l : List CodeSpan). map span_view l) c.in_ok-push.ensures.items ∙ map-append span_view _ _) c.loop-column.invariant.spread;
