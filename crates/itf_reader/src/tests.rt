@@ -1,4 +1,4 @@
-ghost use Rattle.std.specs.Prelude.{◌≡◌, ◌<◌, [], ◌∷◌, List};
+ghost use Rattle.std.specs.Prelude.{◌≡◌, ◌<◌, ◌≤◌, [], ◌∷◌, List};
 ghost use Rattle.table_layout.specs.Layouts.{Table as LayoutTable};
 ghost use Rattle.table_layout.specs.Valid.{IsTable, IsValid};
 ghost use Rattle.table_layout.specs.Values.{layout_view, table_view};
@@ -42,7 +42,8 @@ fn line(rt: &impl Abort, alloc: Global) -> LineForm {
 
 // A table of so many lines.
 fn table(rt: &impl Abort, alloc: Global, topic: u32, text: &str, count: usize) -> Table
-    requires { topic < 2 }
+    requires topic { topic < 2 }
+    requires few { count ≤ 2 }
     ensures { (tables : List LayoutTable) → IsTable 2 tables (table_view result) }
 {
     let mut lines = Vec::new(alloc);
