@@ -23,7 +23,7 @@ cat > "$bench/src/main.rt" <<'END'
 // Reads `transfer.itf` into the rows of two tables, and tells what came of it.
 #![tactic(auto)]
 
-ghost use Rattle.std.specs.Prelude.{◌≡◌, ◌<◌, ◌∷◌, [], IfOk, List};
+ghost use Rattle.std.specs.Prelude.{◌≡◌, ◌<◌, ◌≤◌, ◌∷◌, [], length, IfOk, List};
 ghost use Rattle.table_layout.specs.Layouts.{Table as LayoutTable};
 ghost use Rattle.table_layout.specs.Valid.{IsTable, IsValid};
 ghost use Rattle.table_layout.specs.Values.{layout_view, table_view};
@@ -63,6 +63,7 @@ fn line(alloc: Global) -> Result<LineForm, Memory> {
 }
 
 fn table(alloc: Global, name: &[u8], lines: Vec<LineForm>) -> Result<Table, Memory>
+    requires { length lines.items ≤ 1 }
     ensures { IfOk result (λ t. (tables : List LayoutTable) → IsTable 1 tables (table_view t)) }
 {
     Ok(Table {
