@@ -1,23 +1,19 @@
--- What the outcome of the words and the files says of the answer, and of the files.
+-- What the outcome of the words and the files says of the answer.
 use Rattle.std.proofs.Common.{◌≡◌, ℕ, List, [], ◌∷◌, Option, refl, sym, ◌∙◌, subst, inl, inr}
-use Rattle.std.specs.Prelude.{◌≢◌, ◌⊎◌, ⊤}
-use Rattle.ports.specs.Files.{Files, Puts}
+use Rattle.std.specs.Prelude.{◌≢◌}
+use Rattle.ports.specs.Files.{Files}
 use Rattle.itf_reader.specs.Findings.{Finding}
 use Rattle.itf_reader.specs.Forms.{Row}
 use Rattle.table_layout.specs.Layouts.{AreaOf, Layout}
-use Rattle.delivery.specs.declared.outcome.File.{File}
 use Rattle.delivery.specs.declared.outcome.File.TheVariants.{Model as TheModel, Transfer as TheTransfer}
 use Rattle.delivery.specs.declared.status.Status.{Status}
 use Rattle.delivery.specs.declared.status.Status.TheVariants.{Accepted, Rejected, Undecided, ModelRefused, Usage, ReadFault, WriteFault, OverLimit, Memory, NotProved}
 use Rattle.delivery.specs.Answers.{ReadsModel, ReadsRows, long_model, long_transfer, Means}
-use Rattle.delivery.specs.Commands.{Check, Command, compile, check, IsCompile, IsCheck, IsCommand, IsUsage}
+use Rattle.delivery.specs.Commands.{Check, Command, compile, check, IsCheck, IsCommand}
 use Rattle.delivery.specs.Deciding.{model_limit, transfer_limit, model_name, HasText, at_fault, well_formed, HasTransfer, transfer_unread, transfer_long, transfer_read, HasBehind, Has, model_unread, model_long, model_refused, model_read, Decides, formless, formed}
 use Rattle.delivery.specs.Judging.{findings, objects, clean, judged}
 use Rattle.delivery.specs.Outcomes.{Outcome, usage, unread, too_long, refused, compiled, structure, rejected, areas_later, accepted, status_of}
-use Rattle.delivery.specs.Publishing.{Keeps, Stays}
-use Rattle.delivery.specs.Reading.{IsWhole, IsLonger}
-use Rattle.delivery.specs.Report.{no_certificates}
-use Rattle.delivery.proofs.CommandLemmas.{not_both}
+use Rattle.delivery.specs.Reading.{IsWhole}
 
 -- ---- the causes
 module _ (told : Option Files) (counted : List ℕ → Type 0) (words : List (List ℕ)) where
@@ -79,89 +75,3 @@ caused told counted words o s h e = by_status s refl
     by_status OverLimit w = subst (Means told counted words) (sym w) (of_outcome OverLimit w (λ v. cc))
     by_status Memory w = subst (Means told counted words) (sym w) tt
     by_status NotProved w = subst (Means told counted words) (sym w) (of_outcome NotProved w (λ v. cc))
-
--- ---- the files
--- the outcome lets every file stand as it is
-abbrev IsCompiled : Outcome → Type 0
-IsCompiled (compiled l) = ⊤
-IsCompiled _ = ⊥
-
-abbrev IsAccepted : Outcome → Type 0
-IsAccepted (accepted n) = ⊤
-IsAccepted _ = ⊥
-
-judged_compiles : (l : Layout) (n : ℕ) (areas : List AreaOf) (found : List Finding) → l.areas ≡ areas → IsCompiled (judged l n found) → ⊥
-judged_compiles l n areas (f ∷ fs) e h = absurd h
-judged_compiles l n areas [] e h = clean_compiles areas (subst (λ (as_ : List AreaOf). IsCompiled (clean l as_ n)) e h)
-  where
-    clean_compiles : (as_ : List AreaOf) → IsCompiled (clean l as_ n) → ⊥
-    clean_compiles [] h = absurd h
-    clean_compiles (a ∷ as_) h = absurd h
-
-module _ (told : Option Files) (counted : List ℕ → Type 0) where
-  text_compiles : (l : Layout) (text : List ℕ) (o : Outcome) → HasText l text o → IsCompiled o → ⊥
-  text_compiles l text o (at_fault n code h e) k = absurd (subst IsCompiled e k)
-  text_compiles l text o (well_formed rows h e) k = judged_compiles l (objects rows) l.areas (findings l rows) refl (subst IsCompiled e k)
-
-  transfer_compiles : (name : List ℕ) (l : Layout) (o : Outcome) → HasTransfer told counted name l o → IsCompiled o → ⊥
-  transfer_compiles name l o (transfer_unread h e) k = absurd (subst IsCompiled e k)
-  transfer_compiles name l o (transfer_long h e) k = absurd (subst IsCompiled e k)
-  transfer_compiles name l o (transfer_read text read h) k = text_compiles l text o h k
-
-  check_compiles : (c : Check) (o : Outcome) → Has told counted (check c) o → IsCompiled o → ⊥
-  check_compiles c o (model_unread h e) k = absurd (subst IsCompiled e k)
-  check_compiles c o (model_long h e) k = absurd (subst IsCompiled e k)
-  check_compiles c o (model_refused text read r h e) k = absurd (subst IsCompiled e k)
-  check_compiles c o (model_read text read l h b) k = transfer_compiles c.transfer l o b k
-
-  compile_accepts : (m : List ℕ) (o : Outcome) → Has told counted (compile m) o → IsAccepted o → ⊥
-  compile_accepts m o (model_unread h e) k = absurd (subst IsAccepted e k)
-  compile_accepts m o (model_long h e) k = absurd (subst IsAccepted e k)
-  compile_accepts m o (model_refused text read r h e) k = absurd (subst IsAccepted e k)
-  compile_accepts m o (model_read text read l h e) k = absurd (subst IsAccepted e k)
-
-  checks : (words : List (List ℕ)) (c : Check) → IsCheck words c → (o : Outcome) → Decides told counted words o → IsCompiled o → ⊥
-  checks words c i o (formless u e) k = absurd (subst IsCompiled e k)
-  checks words c i o (formed (compile m) j h) k = not_both words m c j i
-  checks words c i o (formed (check d) j h) k = check_compiles d o h k
-
-  compiles : (words : List (List ℕ)) (m : List ℕ) → IsCompile words m → (o : Outcome) → Decides told counted words o → IsAccepted o → ⊥
-  compiles words m i o (formless u e) k = absurd (subst IsAccepted e k)
-  compiles words m i o (formed (compile n) j h) k = compile_accepts n o h k
-  compiles words m i o (formed (check c) j h) k = not_both words m c i j
-
--- a check that is accepted leaves its certificates
-pub certified : (told : Option Files) (counted : List ℕ → Type 0) (words : List (List ℕ)) (c : Check) → IsCheck words c → (o : Outcome) → Decides told counted words o → (old : Option Files) (name : List ℕ) (new : Option Files) → Accepted ≡ status_of o → Stays o old name new → Puts old name (λ file. no_certificates) new
-certified told counted words c i usage d old name new e h = absurd (cc)
-certified told counted words c i (unread f) d old name new e h = absurd (cc)
-certified told counted words c i (too_long f) d old name new e h = absurd (cc)
-certified told counted words c i (refused r) d old name new e h = absurd (cc)
-certified told counted words c i (compiled l) d old name new e h = absurd (checks told counted words c i (compiled l) d tt)
-certified told counted words c i (structure n code) d old name new e h = absurd (cc)
-certified told counted words c i (rejected found) d old name new e h = absurd (cc)
-certified told counted words c i (areas_later l) d old name new e h = absurd (cc)
-certified told counted words c i (accepted n) d old name new e h = h
-
--- the outcome of a compilation keeps every file
-pub kept : (told : Option Files) (counted : List ℕ → Type 0) (words : List (List ℕ)) (m : List ℕ) → IsCompile words m → (o : Outcome) → Decides told counted words o → Keeps o
-kept told counted words m i usage d = tt
-kept told counted words m i (unread f) d = tt
-kept told counted words m i (too_long f) d = tt
-kept told counted words m i (refused r) d = tt
-kept told counted words m i (compiled l) d = tt
-kept told counted words m i (structure n code) d = tt
-kept told counted words m i (rejected found) d = tt
-kept told counted words m i (areas_later l) d = tt
-kept told counted words m i (accepted n) d = absurd (compiles told counted words m i (accepted n) d tt)
-
--- an outcome other than that a delivery is accepted keeps every file
-pub keeps_all : (o : Outcome) → (status_of o ≢ Accepted) → Keeps o
-keeps_all usage n = tt
-keeps_all (unread f) n = tt
-keeps_all (too_long f) n = tt
-keeps_all (refused r) n = tt
-keeps_all (compiled l) n = tt
-keeps_all (structure k code) n = tt
-keeps_all (rejected found) n = tt
-keeps_all (areas_later l) n = tt
-keeps_all (accepted k) n = absurd (n refl)
