@@ -2,7 +2,7 @@
 ghost use Rattle.std.specs.Prelude.{◌≡◌, ◌≤◌, ◌++◌, ◌∷◌, ◌<◌, [], ℕ, List, OnOk, OnErr, map, codes};
 ghost use Rattle.std.specs.Fmt.{decimal};
 ghost use Rattle.std.specs.List.{flat_map};
-ghost use Rattle.ports.specs.Faults.{Rose};
+ghost use Rattle.ports.specs.Faults.{NoReadFell, Rose};
 ghost use Rattle.certificate.specs.Spelling.{line};
 ghost use Rattle.certificate.specs.Appending.{Writes, word_text, next_word};
 
@@ -15,7 +15,7 @@ use ports::{Failed, Shelf};
 pub fn flush<S: Shelf>(shelf: &mut S, name: &str, page: &mut Page) -> Result<(), Failed>
     ensures written { Writes name.now [] (S.held shelf.old) page.old result (S.held shelf.new) page.new }
     ensures empty { OnOk result (page.new ≡ []) }
-    ensures reads { (q : List ℕ) → S.read_faults shelf.old q ≤ S.read_faults shelf.new q }
+    ensures reads { NoReadFell (S.read_faults shelf.old) (S.read_faults shelf.new) }
     ensures writes { S.write_faults shelf.old ≤ S.write_faults shelf.new }
     ensures cause { OnErr result (Rose (S.write_faults shelf.old) (S.write_faults shelf.new)) }
 {
@@ -27,7 +27,7 @@ pub fn flush<S: Shelf>(shelf: &mut S, name: &str, page: &mut Page) -> Result<(),
 // Adds some bytes; what has no room in a page is appended at once.
 fn put<S: Shelf>(shelf: &mut S, name: &str, page: &mut Page, bytes: &[u8]) -> Result<(), Failed>
     ensures written { Writes name.now bytes.now (S.held shelf.old) page.old result (S.held shelf.new) page.new }
-    ensures reads { (q : List ℕ) → S.read_faults shelf.old q ≤ S.read_faults shelf.new q }
+    ensures reads { NoReadFell (S.read_faults shelf.old) (S.read_faults shelf.new) }
     ensures writes { S.write_faults shelf.old ≤ S.write_faults shelf.new }
     ensures cause { OnErr result (Rose (S.write_faults shelf.old) (S.write_faults shelf.new)) }
 {
@@ -49,7 +49,7 @@ fn put_number<S: Shelf>(
     number: u64,
 ) -> Result<(), Failed>
     ensures written { Writes name.now (decimal number) (S.held shelf.old) page.old result (S.held shelf.new) page.new }
-    ensures reads { (q : List ℕ) → S.read_faults shelf.old q ≤ S.read_faults shelf.new q }
+    ensures reads { NoReadFell (S.read_faults shelf.old) (S.read_faults shelf.new) }
     ensures writes { S.write_faults shelf.old ≤ S.write_faults shelf.new }
     ensures cause { OnErr result (Rose (S.write_faults shelf.old) (S.write_faults shelf.new)) }
 {
@@ -60,7 +60,7 @@ fn put_number<S: Shelf>(
 // Adds `C` and the number of a half-edge.
 fn put_across<S: Shelf>(shelf: &mut S, name: &str, page: &mut Page, half: u64) -> Result<(), Failed>
     ensures written { Writes name.now (codes "C" ++ decimal half) (S.held shelf.old) page.old result (S.held shelf.new) page.new }
-    ensures reads { (q : List ℕ) → S.read_faults shelf.old q ≤ S.read_faults shelf.new q }
+    ensures reads { NoReadFell (S.read_faults shelf.old) (S.read_faults shelf.new) }
     ensures writes { S.write_faults shelf.old ≤ S.write_faults shelf.new }
     ensures cause { OnErr result (Rose (S.write_faults shelf.old) (S.write_faults shelf.new)) }
 {
@@ -76,7 +76,7 @@ fn put_word<S: Shelf>(
     word: &Word<'_>,
 ) -> Result<(), Failed>
     ensures written { Writes name.now (word_text word.now) (S.held shelf.old) page.old result (S.held shelf.new) page.new }
-    ensures reads { (q : List ℕ) → S.read_faults shelf.old q ≤ S.read_faults shelf.new q }
+    ensures reads { NoReadFell (S.read_faults shelf.old) (S.read_faults shelf.new) }
     ensures writes { S.write_faults shelf.old ≤ S.write_faults shelf.new }
     ensures cause { OnErr result (Rose (S.write_faults shelf.old) (S.write_faults shelf.new)) }
 {
@@ -95,7 +95,7 @@ fn put_next<S: Shelf>(
     word: &Word<'_>,
 ) -> Result<(), Failed>
     ensures written { Writes name.now (next_word word.now) (S.held shelf.old) page.old result (S.held shelf.new) page.new }
-    ensures reads { (q : List ℕ) → S.read_faults shelf.old q ≤ S.read_faults shelf.new q }
+    ensures reads { NoReadFell (S.read_faults shelf.old) (S.read_faults shelf.new) }
     ensures writes { S.write_faults shelf.old ≤ S.write_faults shelf.new }
     ensures cause { OnErr result (Rose (S.write_faults shelf.old) (S.write_faults shelf.new)) }
 {
@@ -111,7 +111,7 @@ fn put_words<S: Shelf>(
     words: &[Word<'_>],
 ) -> Result<(), Failed>
     ensures written { Writes name.now (flat_map next_word words.now) (S.held shelf.old) page.old result (S.held shelf.new) page.new }
-    ensures reads { (q : List ℕ) → S.read_faults shelf.old q ≤ S.read_faults shelf.new q }
+    ensures reads { NoReadFell (S.read_faults shelf.old) (S.read_faults shelf.new) }
     ensures writes { S.write_faults shelf.old ≤ S.write_faults shelf.new }
     ensures cause { OnErr result (Rose (S.write_faults shelf.old) (S.write_faults shelf.new)) }
 {
@@ -130,7 +130,7 @@ pub fn put_line<S: Shelf>(
     words: &[Word<'_>],
 ) -> Result<(), Failed>
     ensures written { Writes name.now (line (first.now ∷ map word_text words.now)) (S.held shelf.old) page.old result (S.held shelf.new) page.new }
-    ensures reads { (q : List ℕ) → S.read_faults shelf.old q ≤ S.read_faults shelf.new q }
+    ensures reads { NoReadFell (S.read_faults shelf.old) (S.read_faults shelf.new) }
     ensures writes { S.write_faults shelf.old ≤ S.write_faults shelf.new }
     ensures cause { OnErr result (Rose (S.write_faults shelf.old) (S.write_faults shelf.new)) }
 {

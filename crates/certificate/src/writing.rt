@@ -1,7 +1,7 @@
 // A certificate's text, written line by line.
 ghost use Rattle.std.specs.Prelude.{◌≡◌, ◌≤◌, ◌++◌, ◌∷◌, ◌<◌, [], ℕ, List, ◌^◌, OnOk, OnErr, IfSome, IfNone, length};
 ghost use Rattle.std.specs.List.{flat_map};
-ghost use Rattle.ports.specs.Faults.{Rose};
+ghost use Rattle.ports.specs.Faults.{NoReadFell, Rose};
 ghost use Rattle.ports.specs.Files.{Puts, Gained, OthersStay, bytes_of};
 ghost use Rattle.certificate.specs.Spelling.{event_line, edge_line, place_line, pairs, title_line, sizes_line, certificate_text, spelling, view, views};
 ghost use Rattle.certificate.specs.Appending.{Writes};
@@ -20,7 +20,7 @@ fn put_event<S: Shelf>(
     position: u32,
 ) -> Result<(), Failed>
     ensures written { Writes name.now (event_line position) (S.held shelf.old) page.old result (S.held shelf.new) page.new }
-    ensures reads { (q : List ℕ) → S.read_faults shelf.old q ≤ S.read_faults shelf.new q }
+    ensures reads { NoReadFell (S.read_faults shelf.old) (S.read_faults shelf.new) }
     ensures writes { S.write_faults shelf.old ≤ S.write_faults shelf.new }
     ensures cause { OnErr result (Rose (S.write_faults shelf.old) (S.write_faults shelf.new)) }
 {
@@ -42,7 +42,7 @@ fn put_edge<S: Shelf>(
     above: &HalfNote,
 ) -> Result<(), Failed>
     ensures written { Writes name.now (edge_line (below.now, above.now)) (S.held shelf.old) page.old result (S.held shelf.new) page.new }
-    ensures reads { (q : List ℕ) → S.read_faults shelf.old q ≤ S.read_faults shelf.new q }
+    ensures reads { NoReadFell (S.read_faults shelf.old) (S.read_faults shelf.new) }
     ensures writes { S.write_faults shelf.old ≤ S.write_faults shelf.new }
     ensures cause { OnErr result (Rose (S.write_faults shelf.old) (S.write_faults shelf.new)) }
 {
@@ -65,7 +65,7 @@ fn put_place<S: Shelf>(
     place: &PointPlace,
 ) -> Result<(), Failed>
     ensures written { Writes name.now (place_line place.now) (S.held shelf.old) page.old result (S.held shelf.new) page.new }
-    ensures reads { (q : List ℕ) → S.read_faults shelf.old q ≤ S.read_faults shelf.new q }
+    ensures reads { NoReadFell (S.read_faults shelf.old) (S.read_faults shelf.new) }
     ensures writes { S.write_faults shelf.old ≤ S.write_faults shelf.new }
     ensures cause { OnErr result (Rose (S.write_faults shelf.old) (S.write_faults shelf.new)) }
 {
@@ -98,7 +98,7 @@ fn put_title<S: Shelf>(
     certificate: &Certificate,
 ) -> Result<(), Failed>
     ensures written { Writes name.now (title_line (view certificate.now)) (S.held shelf.old) page.old result (S.held shelf.new) page.new }
-    ensures reads { (q : List ℕ) → S.read_faults shelf.old q ≤ S.read_faults shelf.new q }
+    ensures reads { NoReadFell (S.read_faults shelf.old) (S.read_faults shelf.new) }
     ensures writes { S.write_faults shelf.old ≤ S.write_faults shelf.new }
     ensures cause { OnErr result (Rose (S.write_faults shelf.old) (S.write_faults shelf.new)) }
 {
@@ -126,7 +126,7 @@ fn put_sizes<S: Shelf>(
     certificate: &Certificate,
 ) -> Result<(), Failed>
     ensures written { Writes name.now (sizes_line (view certificate.now)) (S.held shelf.old) page.old result (S.held shelf.new) page.new }
-    ensures reads { (q : List ℕ) → S.read_faults shelf.old q ≤ S.read_faults shelf.new q }
+    ensures reads { NoReadFell (S.read_faults shelf.old) (S.read_faults shelf.new) }
     ensures writes { S.write_faults shelf.old ≤ S.write_faults shelf.new }
     ensures cause { OnErr result (Rose (S.write_faults shelf.old) (S.write_faults shelf.new)) }
 {
@@ -147,7 +147,7 @@ fn put_events<S: Shelf>(
     positions: &[u32],
 ) -> Result<(), Failed>
     ensures written { Writes name.now (flat_map event_line positions.now) (S.held shelf.old) page.old result (S.held shelf.new) page.new }
-    ensures reads { (q : List ℕ) → S.read_faults shelf.old q ≤ S.read_faults shelf.new q }
+    ensures reads { NoReadFell (S.read_faults shelf.old) (S.read_faults shelf.new) }
     ensures writes { S.write_faults shelf.old ≤ S.write_faults shelf.new }
     ensures cause { OnErr result (Rose (S.write_faults shelf.old) (S.write_faults shelf.new)) }
 {
@@ -177,7 +177,7 @@ fn put_edges<S: Shelf>(
     notes: &[HalfNote],
 ) -> Result<(), Failed>
     ensures written { Writes name.now (flat_map edge_line (pairs notes.now)) (S.held shelf.old) page.old result (S.held shelf.new) page.new }
-    ensures reads { (q : List ℕ) → S.read_faults shelf.old q ≤ S.read_faults shelf.new q }
+    ensures reads { NoReadFell (S.read_faults shelf.old) (S.read_faults shelf.new) }
     ensures writes { S.write_faults shelf.old ≤ S.write_faults shelf.new }
     ensures cause { OnErr result (Rose (S.write_faults shelf.old) (S.write_faults shelf.new)) }
 {
@@ -197,7 +197,7 @@ fn put_places<S: Shelf>(
     places: &[PointPlace],
 ) -> Result<(), Failed>
     ensures written { Writes name.now (flat_map place_line places.now) (S.held shelf.old) page.old result (S.held shelf.new) page.new }
-    ensures reads { (q : List ℕ) → S.read_faults shelf.old q ≤ S.read_faults shelf.new q }
+    ensures reads { NoReadFell (S.read_faults shelf.old) (S.read_faults shelf.new) }
     ensures writes { S.write_faults shelf.old ≤ S.write_faults shelf.new }
     ensures cause { OnErr result (Rose (S.write_faults shelf.old) (S.write_faults shelf.new)) }
 {
@@ -215,7 +215,7 @@ fn put_certificate<S: Shelf>(
     certificate: &Certificate,
 ) -> Result<(), Failed>
     ensures written { Writes name.now (certificate_text (view certificate.now)) (S.held shelf.old) page.old result (S.held shelf.new) page.new }
-    ensures reads { (q : List ℕ) → S.read_faults shelf.old q ≤ S.read_faults shelf.new q }
+    ensures reads { NoReadFell (S.read_faults shelf.old) (S.read_faults shelf.new) }
     ensures writes { S.write_faults shelf.old ≤ S.write_faults shelf.new }
     ensures cause { OnErr result (Rose (S.write_faults shelf.old) (S.write_faults shelf.new)) }
 {
@@ -235,7 +235,7 @@ fn put_certificates<S: Shelf>(
     all: &[Certificate],
 ) -> Result<(), Failed>
     ensures written { Writes name.now (flat_map certificate_text (views all.now)) (S.held shelf.old) page.old result (S.held shelf.new) page.new }
-    ensures reads { (q : List ℕ) → S.read_faults shelf.old q ≤ S.read_faults shelf.new q }
+    ensures reads { NoReadFell (S.read_faults shelf.old) (S.read_faults shelf.new) }
     ensures writes { S.write_faults shelf.old ≤ S.write_faults shelf.new }
     ensures cause { OnErr result (Rose (S.write_faults shelf.old) (S.write_faults shelf.new)) }
 {
@@ -253,7 +253,7 @@ fn put_text<S: Shelf>(
     all: &[Certificate],
 ) -> Result<(), Failed>
     ensures written { Writes name.now (spelling (views all.now)) (S.held shelf.old) page.old result (S.held shelf.new) page.new }
-    ensures reads { (q : List ℕ) → S.read_faults shelf.old q ≤ S.read_faults shelf.new q }
+    ensures reads { NoReadFell (S.read_faults shelf.old) (S.read_faults shelf.new) }
     ensures writes { S.write_faults shelf.old ≤ S.write_faults shelf.new }
     ensures cause { OnErr result (Rose (S.write_faults shelf.old) (S.write_faults shelf.new)) }
 {
@@ -278,7 +278,7 @@ pub fn write<S: Shelf>(all: &[Certificate], shelf: &mut S, name: &str) -> Result
     // After a failure it gained at most a front of the text.
     ensures failed { OnErr result (Gained (S.held shelf.old) name.now (spelling (views all.now)) (S.held shelf.new)) }
     ensures others { OthersStay (S.held shelf.old) name.now (S.held shelf.new) }
-    ensures reads { (q : List ℕ) → S.read_faults shelf.old q ≤ S.read_faults shelf.new q }
+    ensures reads { NoReadFell (S.read_faults shelf.old) (S.read_faults shelf.new) }
     ensures writes { S.write_faults shelf.old ≤ S.write_faults shelf.new }
     // It fails only where a write failed.
     ensures cause { OnErr result (Rose (S.write_faults shelf.old) (S.write_faults shelf.new)) }

@@ -1,77 +1,107 @@
 -- What the outcome of the words and the files says of the answer.
 use Rattle.std.proofs.Common.{◌≡◌, ℕ, List, [], ◌∷◌, Option, refl, sym, ◌∙◌, subst, inl, inr}
-use Rattle.std.specs.Prelude.{◌≢◌}
+use Rattle.std.specs.Prelude.{◌≢◌, ⊤}
 use Rattle.ports.specs.Files.{Files}
-use Rattle.itf_reader.specs.Findings.{Finding}
 use Rattle.itf_reader.specs.Forms.{Row}
-use Rattle.table_layout.specs.Layouts.{AreaOf, Layout}
-use Rattle.delivery.specs.declared.outcome.File.TheVariants.{Model as TheModel, Transfer as TheTransfer}
+use Rattle.table_layout.specs.Layouts.{Layout}
 use Rattle.delivery.specs.declared.status.Status.{Status}
 use Rattle.delivery.specs.declared.status.Status.TheVariants.{Accepted, Rejected, Undecided, ModelRefused, Usage, ReadFault, WriteFault, OverLimit, Memory, NotProved}
-use Rattle.delivery.specs.Answers.{ReadsModel, ReadsRows, long_model, long_transfer, Means}
+use Rattle.delivery.specs.Answers.{Means}
 use Rattle.delivery.specs.Commands.{Check, Command, compile, check, IsCheck, IsCommand}
-use Rattle.delivery.specs.Deciding.{model_limit, transfer_limit, model_name, HasText, at_fault, well_formed, HasTransfer, transfer_unread, transfer_long, transfer_read, HasBehind, Has, model_unread, model_long, model_refused, model_read, Decides, formless, formed}
-use Rattle.delivery.specs.Judging.{findings, objects, clean, judged}
-use Rattle.delivery.specs.Outcomes.{Outcome, usage, unread, too_long, refused, compiled, structure, rejected, areas_later, accepted, status_of}
-use Rattle.delivery.specs.Reading.{IsWhole}
+use Rattle.delivery.specs.Deciding.{Decides, formless, formed}
+use Rattle.delivery.specs.Gathering as gathering
+use Rattle.delivery.specs.Gathering.{Gathered, Gathers}
+use Rattle.delivery.specs.Judging.{findings, objects, Tells, IsRowsChecked, faulty, left, clean, IsChecked, at_fault, well_formed, Amounts}
+use Rattle.delivery.specs.Outcomes.{Outcome, usage, unread, too_long, refused, compiled, misbuilt, rejected, areas_later, accepted}
 
 -- ---- the causes
 module _ (told : Option Files) (counted : List ℕ → Type 0) (words : List (List ℕ)) where
   -- what is said of an outcome is said of one that is equal
-  moved : (o p : Outcome) → o ≡ p → Means told counted words (status_of p) → Means told counted words (status_of o)
-  moved o p e h = subst (λ (x : Outcome). Means told counted words (status_of x)) (sym e) h
+  moved : (o p : Outcome) → o ≡ p → Means told counted words p.status → Means told counted words o.status
+  moved o p e h = subst (λ (x : Outcome). Means told counted words x.status) (sym e) h
 
-  module _ (c : Check) (i : IsCheck words c) (l : Layout) (model : ReadsModel told c.model l) where
-    module _ (rows : List (List Row)) (r : ReadsRows told c l rows) (n : ℕ) where
-      clean_means : findings l rows ≡ [] → (areas : List AreaOf) → l.areas ≡ areas → Means told counted words (status_of (clean l areas n))
-      clean_means e [] h = inr (c, l, rows, i, r, (e, h))
-      clean_means e (a ∷ as_) h = (c, l, rows, i, r, (e, λ k. cc))
+  module _ (c : Check) (i : IsCheck words c) (l : Layout) (text : List ℕ) (g : Gathers told counted (check c) (gathering.texts l (text ∷ []))) where
+    rows_mean : (rows : List (List Row)) → Tells l text rows → (o : Outcome) → IsRowsChecked c.certificate l rows o → Means told counted words o.status
+    rows_mean rows t o (faulty n e) = moved o (rejected (findings l rows)) e (check c, l, text ∷ [], i, g, inr (rows, t, n))
+    rows_mean rows t o (left k a e) = moved o (areas_later l) e (check c, l, text ∷ [], i, g, (rows, t, k, a))
+    rows_mean rows t o (clean k a e) = moved o (accepted (objects rows) c.certificate []) e (check c, l, text ∷ [], i, g, (rows, t, k, a))
 
-      judged_means : (found : List Finding) → findings l rows ≡ found → Means told counted words (status_of (judged l n found))
-      judged_means [] e = clean_means e l.areas refl
-      judged_means (f ∷ fs) e = inr (c, l, rows, i, r, λ k. cc)
+    check_means : (o : Outcome) → IsChecked c.certificate l text o → Means told counted words o.status
+    check_means o (at_fault n code h e) = moved o (misbuilt n code) e (check c, l, text ∷ [], i, g, inl (n, code, h))
+    check_means o (well_formed rows t h) = rows_mean rows t o h
 
-    text_means : (text : List ℕ) → IsWhole told c.transfer transfer_limit text → (o : Outcome) → HasText l text o → Means told counted words (status_of o)
-    text_means text read o (at_fault n code h e) = moved o (structure n code) e (inl (c, n, code, i, record { l = l; model = model; text = text; read = read; at_fault = h }))
-    text_means text read o (well_formed rows h e) =
-        moved o (judged l (objects rows) (findings l rows)) e
-        (judged_means rows (record { model = model; text = text; read = read; rows = h }) (objects rows) (findings l rows) refl)
-
-    transfer_means : (o : Outcome) → HasTransfer told counted c.transfer l o → Means told counted words (status_of o)
-    transfer_means o (transfer_unread h e) = moved o (unread TheTransfer) e (inr (c, i, h))
-    transfer_means o (transfer_long h e) = moved o (too_long TheTransfer) e (long_transfer c i l model h)
-    transfer_means o (transfer_read text read h) = text_means text read o h
-
-  behind_means : (c : Command) → IsCommand words c → (l : Layout) → ReadsModel told (model_name c) l → (o : Outcome) → HasBehind told counted c l o → Means told counted words (status_of o)
-  behind_means (compile m) i l model o e = moved o (compiled l) e (inl (m, l, i, model))
-  behind_means (check c) i l model o h = transfer_means c i l model o h
-
-  files_mean : (c : Command) → IsCommand words c → (o : Outcome) → Has told counted c o → Means told counted words (status_of o)
-  files_mean c i o (model_unread h e) = moved o (unread TheModel) e (inl (c, i, h))
-  files_mean c i o (model_long h e) = moved o (too_long TheModel) e (long_model c i h)
-  files_mean c i o (model_refused text read r h e) = moved o (refused r) e (c, r, i, record { text = text; read = read; is_refused = h })
-  files_mean c i o (model_read text read l h b) = behind_means c i l (record { text = text; read = read; is_model = h }) o b
+  files_mean : (c : Command) (g : Gathered) → IsCommand words c → Gathers told counted c g → (o : Outcome) → Amounts c g o → Means told counted words o.status
+  files_mean c (gathering.unread f) i h o e = moved o (unread f) e (f, (c, i, h))
+  files_mean c (gathering.too_long f) i h o e = moved o (too_long f) e (f, (c, i, h))
+  files_mean c (gathering.refused r) i h o e = moved o (refused r) e (r, (c, i, h))
+  files_mean (compile m) (gathering.texts l ts) i h o e = moved o (compiled l) e (compile m, l, ts, i, h, tt)
+  files_mean (check c) (gathering.texts l []) i h o k = absurd k
+  files_mean (check c) (gathering.texts l (text ∷ [])) i h o k = check_means c i l text h o k
+  files_mean (check c) (gathering.texts l (t ∷ u ∷ ts)) i h o k = absurd k
 
   -- the status of the outcome has its cause
-  pub means : (o : Outcome) → Decides told counted words o → Means told counted words (status_of o)
+  pub means : (o : Outcome) → Decides told counted words o → Means told counted words o.status
   means o (formless u e) = moved o usage e u
-  means o (formed c i h) = files_mean c i o h
+  means o (formed c g i h a) = files_mean c g i h o a
 
--- the same of an answer that is that status, or that a write failed, or want of memory
-pub caused : (told : Option Files) (counted : List ℕ → Type 0) (words : List (List ℕ)) (o : Outcome) (s : Status) → Decides told counted words o → (s ≢ WriteFault → s ≡ status_of o) → Means told counted words s
-caused told counted words o s h e = by_status s refl
-  where
-    of_outcome : (x : Status) → s ≡ x → (x ≢ WriteFault) → Means told counted words x
-    of_outcome x w n = subst (Means told counted words) (sym (e (λ v. n (sym w ∙ v))) ∙ w) (means told counted words o h)
+-- ---- no outcome is that a write failed, or that memory ran out
+abbrev pub IsFixed : Status → Type 0
+IsFixed WriteFault = ⊥
+IsFixed Memory = ⊥
+IsFixed _ = ⊤
 
-    by_status : (x : Status) → s ≡ x → Means told counted words s
-    by_status WriteFault w = subst (Means told counted words) (sym w) tt
-    by_status Accepted w = subst (Means told counted words) (sym w) (of_outcome Accepted w (λ v. cc))
-    by_status Rejected w = subst (Means told counted words) (sym w) (of_outcome Rejected w (λ v. cc))
-    by_status Undecided w = subst (Means told counted words) (sym w) (of_outcome Undecided w (λ v. cc))
-    by_status ModelRefused w = subst (Means told counted words) (sym w) (of_outcome ModelRefused w (λ v. cc))
-    by_status Usage w = subst (Means told counted words) (sym w) (of_outcome Usage w (λ v. cc))
-    by_status ReadFault w = subst (Means told counted words) (sym w) (of_outcome ReadFault w (λ v. cc))
-    by_status OverLimit w = subst (Means told counted words) (sym w) (of_outcome OverLimit w (λ v. cc))
-    by_status Memory w = subst (Means told counted words) (sym w) tt
-    by_status NotProved w = subst (Means told counted words) (sym w) (of_outcome NotProved w (λ v. cc))
+fixed_as : (o p : Outcome) → o ≡ p → IsFixed p.status → IsFixed o.status
+fixed_as o p e h = subst (λ (x : Outcome). IsFixed x.status) (sym e) h
+
+rows_fixed : (name : List ℕ) (l : Layout) (rows : List (List Row)) (o : Outcome) → IsRowsChecked name l rows o → IsFixed o.status
+rows_fixed name l rows o (faulty n e) = fixed_as o (rejected (findings l rows)) e tt
+rows_fixed name l rows o (left k a e) = fixed_as o (areas_later l) e tt
+rows_fixed name l rows o (clean k a e) = fixed_as o (accepted (objects rows) name []) e tt
+
+check_fixed : (name : List ℕ) (l : Layout) (text : List ℕ) (o : Outcome) → IsChecked name l text o → IsFixed o.status
+check_fixed name l text o (at_fault n code h e) = fixed_as o (misbuilt n code) e tt
+check_fixed name l text o (well_formed rows t h) = rows_fixed name l rows o h
+
+files_fixed : (c : Command) (g : Gathered) (o : Outcome) → Amounts c g o → IsFixed o.status
+files_fixed c (gathering.unread f) o e = fixed_as o (unread f) e tt
+files_fixed c (gathering.too_long f) o e = fixed_as o (too_long f) e tt
+files_fixed c (gathering.refused r) o e = fixed_as o (refused r) e tt
+files_fixed (compile m) (gathering.texts l ts) o e = fixed_as o (compiled l) e tt
+files_fixed (check c) (gathering.texts l []) o k = absurd k
+files_fixed (check c) (gathering.texts l (text ∷ [])) o k = check_fixed c.certificate l text o k
+files_fixed (check c) (gathering.texts l (t ∷ u ∷ ts)) o k = absurd k
+
+fixed : (told : Option Files) (counted : List ℕ → Type 0) (words : List (List ℕ)) (o : Outcome) → Decides told counted words o → IsFixed o.status
+fixed told counted words o (formless u e) = fixed_as o usage e tt
+fixed told counted words o (formed c g i h a) = files_fixed c g o a
+
+pub not_write_fault : (told : Option Files) (counted : List ℕ → Type 0) (words : List (List ℕ)) (o : Outcome) → Decides told counted words o → o.status ≢ WriteFault
+not_write_fault told counted words o h e = subst IsFixed e (fixed told counted words o h)
+
+pub not_memory : (told : Option Files) (counted : List ℕ → Type 0) (words : List (List ℕ)) (o : Outcome) → Decides told counted words o → o.status ≢ Memory
+not_memory told counted words o h e = subst IsFixed e (fixed told counted words o h)
+
+-- ---- an answer that is that of an outcome, unless a write failed
+-- a status is that a write failed, or it is not
+pub by_write : (A : Type 0) (s : Status) → (s ≡ WriteFault → A) → (s ≢ WriteFault → A) → A
+by_write A WriteFault f n = f refl
+by_write A Accepted f n = n (λ e. cc)
+by_write A Rejected f n = n (λ e. cc)
+by_write A Undecided f n = n (λ e. cc)
+by_write A ModelRefused f n = n (λ e. cc)
+by_write A Usage f n = n (λ e. cc)
+by_write A ReadFault f n = n (λ e. cc)
+by_write A OverLimit f n = n (λ e. cc)
+by_write A Memory f n = n (λ e. cc)
+by_write A NotProved f n = n (λ e. cc)
+
+pub caused : (told : Option Files) (counted : List ℕ → Type 0) (words : List (List ℕ)) (o : Outcome) (s : Status) → Decides told counted words o → (s ≢ WriteFault → s ≡ o.status) → Means told counted words s
+caused told counted words o s h e =
+    by_write (Means told counted words s) s
+    (λ w. subst (Means told counted words) (sym w) tt)
+    (λ n. subst (Means told counted words) (sym (e n)) (means told counted words o h))
+
+-- such an answer is not out of memory
+pub never_memory : (told : Option Files) (counted : List ℕ → Type 0) (words : List (List ℕ)) (o : Outcome) (s : Status) → Decides told counted words o → (s ≢ WriteFault → s ≡ o.status) → s ≢ Memory
+never_memory told counted words o s h e m =
+    by_write ⊥ s (λ w. let k : WriteFault ≡ Memory = sym w ∙ m in cc) (λ n. not_memory told counted words o h (sym (e n) ∙ m))

@@ -1,8 +1,8 @@
-pub mod Appending
+pub mod Agreement
 pub mod Causes
 pub mod CommandLemmas
 pub mod ModelTextLemmas
-pub mod OneOutcome
 pub mod Pieces
 pub mod PutLemmas
+pub mod ReportLemmas
 pub mod Steps

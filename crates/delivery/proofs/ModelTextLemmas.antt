@@ -19,10 +19,10 @@ use Rattle.ili_grammar.proofs.FirstFault.{same_fault as same_first_fault, no_mod
 use Rattle.ili_grammar.specs.Values.{model_of}
 use Rattle.ili_grammar.specs.declared.syntax.ModelSyntax as syntax
 use Rattle.delivery.specs.declared.refusals.Refusal as stored
-use Rattle.delivery.specs.declared.model_text.Reading.{Reading}
-use Rattle.delivery.specs.declared.model_text.Reading.TheVariants as readings
-use Rattle.delivery.specs.declared.model_text.ModelReading.{ModelReading}
-use Rattle.delivery.specs.declared.model_text.ModelReading.TheVariants as models
+use Rattle.delivery.specs.declared.model.Reading.{Reading}
+use Rattle.delivery.specs.declared.model.Reading.TheVariants as readings
+use Rattle.delivery.specs.declared.model.ModelReading.{ModelReading}
+use Rattle.delivery.specs.declared.model.ModelReading.TheVariants as models
 use Rattle.delivery.specs.RefusalViews.{refusal_of, IsReading, IsLaidOut, IsModelReading}
 use Rattle.resolver.specs.Faults.{Fault}
 use Rattle.resolver.specs.Models.{resolved_model}

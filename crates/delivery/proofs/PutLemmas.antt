@@ -1,8 +1,9 @@
 -- A file that is started and then appended to holds what was appended.
-use Rattle.std.proofs.Common.{◌≡◌, ℕ, List, [], ◌++◌, Option, Some, None, Bool, true, false, cond, nat_eq, refl, sym, ap, ◌∙◌, length}
+use Rattle.std.proofs.Common.{◌≡◌, ℕ, List, [], ◌++◌, Option, Some, None, Bool, true, false, cond, nat_eq, refl, sym, ap, ◌∙◌, length, take, inl, inr}
 use Rattle.std.specs.Cmp.Lexicographic.{pointwise, nat_list_cmp_total}
 use Rattle.std.specs.FinMap as map
-use Rattle.ports.specs.Files.{Files, Puts, bytes_of}
+use Rattle.ports.specs.Files.{Files, Puts, Emptied, Gained, bytes_of}
+use Rattle.delivery.specs.Effects.{HoldsFront}
 use Rattle.ports.specs.Output.{Adds, AddsPrefix}
 use Rattle.std.proofs.Math.Seq.{take-length}
 use Rattle.ports.proofs.Maps.{got_inserted, got_same}
@@ -25,6 +26,31 @@ started (Some files) (Some held) new name bytes h k =
     k ∙ ap (λ (m : Files). Some (map.insert m name (bytes_of (map.get m name) ++ bytes))) e
     ∙ ap (λ (o : Option (List ℕ)). Some (map.insert (map.insert files name []) name (bytes_of o ++ bytes))) (got_same files name [])
     ∙ ap (λ (m : Files). Some m) (insert_twice files name [] bytes)
+
+-- a file that was emptied, or that holds a front of a text or all of it, holds a front of the text
+pub emptied_front : (old new : Option Files) (name text : List ℕ) → Emptied old name new → HoldsFront old name text new
+emptied_front None new name text h = tt
+emptied_front (Some files) new name text h = elim h as (λ z. HoldsFront (Some files) name text new) [
+  | inl e ↦ inl e
+  | inr e ↦ inr (0, e)
+]
+
+pub filed_front : (old new : Option Files) (name text : List ℕ) → Puts old name (λ file. text) new → HoldsFront old name text new
+filed_front None new name text h = tt
+filed_front (Some files) new name text h = inr (length text, h ∙ ap (λ (s : List ℕ). Some (map.insert files name s)) (sym (take-length text)))
+
+pub gained_front : (old mid new : Option Files) (name text : List ℕ) → Puts old name (λ file. []) mid → Gained mid name text new → HoldsFront old name text new
+gained_front None mid new name text h k = tt
+gained_front (Some files) None new name text h k = absurd (cc)
+gained_front (Some files) (Some held) new name text h k =
+    let e : held ≡ map.insert files name [] = cc in
+    elim k as (λ z. HoldsFront (Some files) name text new) [
+      | inl n ↦ inr (0, n ∙ ap (λ (m : Files). Some m) e)
+      | inr n ↦ inr (n.0, n.1
+          ∙ ap (λ (m : Files). Some (map.insert m name (bytes_of (map.get m name) ++ take n.0 text))) e
+          ∙ ap (λ (o : Option (List ℕ)). Some (map.insert (map.insert files name []) name (bytes_of o ++ take n.0 text))) (got_same files name [])
+          ∙ ap (λ (m : Files). Some m) (insert_twice files name [] (take n.0 text)))
+    ]
 
 -- all of some bytes is a prefix of them
 pub all_is_prefix : (old : Option (List ℕ)) (bytes : List ℕ) (new : Option (List ℕ)) → Adds old bytes new → AddsPrefix old bytes new

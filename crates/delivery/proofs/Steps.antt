@@ -1,6 +1,6 @@
 -- One step of a call after another.
-use Rattle.std.proofs.Common.{◌≡◌, ℕ, ◌≤◌, List, Option, Result, Ok, Err, subst, sym, arith}
-use Rattle.std.specs.Prelude.{IfOk}
+use Rattle.std.proofs.Common.{◌≡◌, ℕ, ◌≤◌, List, [], ◌∷◌, ◌++◌, Option, Result, Ok, Err, subst, sym, arith, inl, inr}
+use Rattle.std.specs.Prelude.{IfOk, ◌⊎◌}
 use Rattle.ports.specs.Faults.{Rose}
 use Rattle.ports.specs.Files.{Files}
 use Rattle.itf_reader.specs.Layouts.{form_of}
@@ -8,9 +8,11 @@ use Rattle.itf_reader.specs.Refusals.{fault_of, Refuses}
 use Rattle.itf_reader.specs.declared.refusal.ReadRefusal.{ReadRefusal}
 use Rattle.itf_reader.specs.declared.refusal.ReadRefusal.TheVariants as refusals
 use Rattle.table_layout.specs.Layouts.{Layout}
-use Rattle.delivery.specs.Commands.{Command, compile, check}
-use Rattle.delivery.specs.Deciding.{HasText, at_fault, HasTransfer, transfer_unread, transfer_long, transfer_read, HasBehind, Has, model_unread, model_long, model_refused, model_read, Decides, formless, formed}
-use Rattle.delivery.specs.Judging.{lines_of}
+use Rattle.delivery.specs.Commands.{Command, Source, model_of, further_files}
+use Rattle.delivery.specs.Deciding.{Decides, formless, formed}
+use Rattle.delivery.specs.Ending.{Ends, EndsCommand}
+use Rattle.delivery.specs.Gathering.{Gathered, Reads, ReadsAll, Compiles, Gathers}
+use Rattle.delivery.specs.Judging.{lines_of, IsChecked, at_fault}
 use Rattle.delivery.specs.Outcomes.{Outcome}
 use Rattle.delivery.specs.RowsRead.{IsStructure}
 
@@ -20,9 +22,9 @@ if_ok P Q (Ok x) f h = f x h
 if_ok P Q (Err e) f h = h
 
 -- a text that is refused is at fault
-pub refused_text : (l : Layout) (text : List ℕ) (r : ReadRefusal) (o : Outcome) → Refuses (form_of l) (lines_of l text) r → IsStructure r o → HasText l text o
-refused_text l text (refusals.At line code) o h e = at_fault line (fault_of code) h e
-refused_text l text refusals.Memory o h e = absurd e
+pub refused_text : (name : List ℕ) (l : Layout) (text : List ℕ) (r : ReadRefusal) (o : Outcome) → Refuses (form_of l) (lines_of l text) r → IsStructure r o → IsChecked name l text o
+refused_text name l text (refusals.At line code) o h e = at_fault line (fault_of code) h e
+refused_text name l text refusals.Memory o h e = absurd e
 
 -- counts that rise in one part of a call rise in the whole of it
 pub rose_after : (a b c : ℕ) → a ≤ b → Rose b c → Rose a c
@@ -31,22 +33,35 @@ rose_after a b c h k = omega arith
 pub rose_before : (a b c : ℕ) → b ≤ c → Rose a b → Rose a c
 rose_before a b c h k = omega arith
 
+-- what is read is read still where more counts have risen
 module _ (told : Option Files) (near far : List ℕ → Type 0) (counted : (name : List ℕ) → near name → far name) where
-  transfer_on : (name : List ℕ) (l : Layout) (o : Outcome) → HasTransfer told near name l o → HasTransfer told far name l o
-  transfer_on name l o (transfer_unread h e) = transfer_unread (counted name h) e
-  transfer_on name l o (transfer_long h e) = transfer_long h e
-  transfer_on name l o (transfer_read text read h) = transfer_read text read h
+  reads_on : (s : Source) (g : Gathered) (P Q : List ℕ → Type 0) → ((text : List ℕ) → P text → Q text) → Reads told near s g P → Reads told far s g Q
+  reads_on s g P Q f h = elim h as (λ z. Reads told far s g Q) [
+    | inl k ↦ inl (counted s.name k.0, k.1)
+    | inr k ↦ elim k as (λ z. Reads told far s g Q) [
+      | inl n ↦ inr (inl n)
+      | inr n ↦ inr (inr (n.0, n.1, f n.0 n.2))
+    ]
+  ]
 
-  pub behind_on : (c : Command) (l : Layout) (o : Outcome) → HasBehind told near c l o → HasBehind told far c l o
-  behind_on (compile m) l o e = e
-  behind_on (check c) l o h = transfer_on c.transfer l o h
+  all_on : (l : Layout) (before : List (List ℕ)) (ss : List Source) (g : Gathered) → ReadsAll told near l before ss g → ReadsAll told far l before ss g
+  all_on l before [] g h = h
+  all_on l before (s ∷ ss) g h =
+      reads_on s g (λ text. ReadsAll told near l (before ++ (text ∷ [])) ss g) (λ text. ReadsAll told far l (before ++ (text ∷ [])) ss g)
+      (λ text k. all_on l (before ++ (text ∷ [])) ss g k) h
 
-  files_on : (c : Command) (o : Outcome) → Has told near c o → Has told far c o
-  files_on c o (model_unread h e) = model_unread (counted _ h) e
-  files_on c o (model_long h e) = model_long h e
-  files_on c o (model_refused text read r h e) = model_refused text read r h e
-  files_on c o (model_read text read l h b) = model_read text read l h (behind_on c l o b)
+  compiles_on : (c : Command) (text : List ℕ) (g : Gathered) → Compiles told near c text g → Compiles told far c text g
+  compiles_on c text g h = elim h as (λ z. Compiles told far c text g) [
+    | inl k ↦ inl k
+    | inr k ↦ inr (k.0, k.1, all_on k.0 [] (further_files c) g k.2)
+  ]
+
+  gathers_on : (c : Command) (g : Gathered) → Gathers told near c g → Gathers told far c g
+  gathers_on c g h = reads_on (model_of c) g (λ text. Compiles told near c text g) (λ text. Compiles told far c text g) (λ text k. compiles_on c text g k) h
+
+  pub ends_on : (c : Command) (l : Layout) (o : Outcome) → Ends told near c l o → Ends told far c l o
+  ends_on c l o h = record { gathered = h.gathered; reads = all_on l [] (further_files c) h.gathered h.reads; amounts = h.amounts }
 
   pub decides_on : (words : List (List ℕ)) (o : Outcome) → Decides told near words o → Decides told far words o
   decides_on words o (formless u e) = formless u e
-  decides_on words o (formed c i h) = formed c i (files_on c o h)
+  decides_on words o (formed c g i h a) = formed c g i (gathers_on c g h) a

@@ -1,5 +1,4 @@
 -- The command of the code, without where it lies in memory.
-use Rattle.std.specs.Prelude.{ℕ, List, []}
 use Rattle.delivery.specs.Commands.{Check, Command, compile, check}
 use Rattle.delivery.specs.declared.command.Check.{Check as CodeCheck}
 use Rattle.delivery.specs.declared.command.Command.{Command as CodeCommand}
@@ -11,8 +10,3 @@ check_of c = record { model = c.model.now; transfer = c.transfer.now; certificat
 abbrev pub command_of : CodeCommand → Command
 command_of (commands.Compile model) = compile model.now
 command_of (commands.Check c) = check (check_of c)
-
--- the name of the file for the certificates, nothing where there is none
-abbrev pub certificate_name : Command → List ℕ
-certificate_name (compile model) = []
-certificate_name (check c) = c.certificate

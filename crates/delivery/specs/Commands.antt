@@ -1,5 +1,7 @@
--- The words of the command line.
-use Rattle.std.specs.Prelude.{◌≡◌, ℕ, Bool, true, false, not, ◌==◌, List, [], ◌∷◌, codes}
+-- The words of the command line, and the files that a command reads and writes.
+use Rattle.std.specs.Prelude.{◌≡◌, ℕ, Bool, true, false, not, ◌==◌, List, [], ◌∷◌, codes, Option, Some, None}
+use Rattle.delivery.specs.declared.files.File.{File}
+use Rattle.delivery.specs.declared.files.File.TheVariants.{Model, Transfer}
 
 -- check M T C: the model, the transfer, and the file for the certificates
 pub record Check : Type 0 where
@@ -18,7 +20,7 @@ abbrev pub is_file_name : List ℕ → Bool
 is_file_name [] = false
 is_file_name (c ∷ name) = not (c == 45)
 
--- the words have the right form, that of this command
+-- the words spell this command
 pub record IsCompile (words : List (List ℕ)) (model : List ℕ) : Type 0 where
   pub spelled : words ≡ codes "compile" ∷ model ∷ []
   pub is_name : is_file_name model ≡ true
@@ -33,6 +35,32 @@ abbrev pub IsCommand : List (List ℕ) → Command → Type 0
 IsCommand words (compile model) = IsCompile words model
 IsCommand words (check c) = IsCheck words c
 
--- the words have no right form
+-- the words are no command
 abbrev pub IsUsage : List (List ℕ) → Type 0
 IsUsage words = (c : Command) → IsCommand words c → ⊥
+
+-- ---- the files of a command
+-- a file that is read: what the report calls it, and its name
+pub record Source : Type 0 where
+  pub file : File
+  pub name : List ℕ
+
+-- the greatest lengths of files, in bytes
+abbrev pub limit_of : File → ℕ
+limit_of Model = 4194304
+limit_of Transfer = 268435456
+
+-- the model, which is read and compiled first
+abbrev pub model_of : Command → Source
+model_of (compile model) = record { file = Model; name = model }
+model_of (check c) = record { file = Model; name = c.model }
+
+-- the files that are read once the model is compiled, in order
+abbrev pub further_files : Command → List Source
+further_files (compile model) = []
+further_files (check c) = record { file = Transfer; name = c.transfer } ∷ []
+
+-- the file that certificates go to
+abbrev pub certificate_file : Command → Option (List ℕ)
+certificate_file (compile model) = None
+certificate_file (check c) = Some c.certificate

@@ -1,12 +1,17 @@
--- What a transfer is by a layout: its findings, and what becomes of a transfer without any.
-use Rattle.std.specs.Prelude.{ℕ, ◌+◌, List, [], ◌∷◌, ◌++◌, length}
+-- What the texts of a command amount to.
+use Rattle.std.specs.Prelude.{◌≡◌, ◌≢◌, ℕ, ◌+◌, List, [], ◌∷◌, ◌++◌, length, ◌⊎◌, ⊤}
 use Rattle.itf_lines.specs.LogicalLines.{LogicalLines, logical}
 use Rattle.itf_reader.specs.Findings.{Finding, in_order}
 use Rattle.itf_reader.specs.Forms.{Row}
-use Rattle.table_layout.specs.Layouts.{AreaOf, Layout}
+use Rattle.itf_reader.specs.Layouts.{form_of}
+use Rattle.itf_reader.specs.Readings.{Structure, IsRead, IsRefused as IsAtFault}
+use Rattle.table_layout.specs.Layouts.{Layout}
 use Rattle.domain_rules.specs.ValueFindings.{value_findings}
 use Rattle.ident_refs.specs.KeyFindings.{key_findings}
-use Rattle.delivery.specs.Outcomes.{Outcome, rejected, areas_later, accepted}
+use Rattle.delivery.specs.Commands.{Check, Command, compile, check}
+use Rattle.delivery.specs.Gathering as gathering
+use Rattle.delivery.specs.Gathering.{Gathered}
+use Rattle.delivery.specs.Outcomes.{Outcome, unread, too_long, refused, compiled, misbuilt, rejected, areas_later, accepted}
 
 -- the logical lines of a transfer, by the codes of its layout
 abbrev pub lines_of : Layout → List ℕ → LogicalLines
@@ -14,19 +19,64 @@ lines_of l text = logical l.codes.continued text
 
 -- all findings, in the order of the report: those of the values, and those of keys and references
 abbrev pub findings : Layout → List (List Row) → List Finding
-findings l transfer = in_order (value_findings l transfer ++ key_findings l transfer)
+findings l rows = in_order (value_findings l rows ++ key_findings l rows)
 
 -- how many objects there are, those of helper tables included
 abbrev pub objects : List (List Row) → ℕ
 objects [] = 0
 objects (rows ∷ tables) = length rows + objects tables
 
--- a clean transfer is accepted where there is no AREA; the areas of any other are left for later
-abbrev pub clean : Layout → List AreaOf → ℕ → Outcome
-clean l [] count = accepted count
-clean l (a ∷ as_) count = areas_later l
+-- ---- a transfer by its layout
+-- the first line at fault, and its code
+abbrev pub IsMisbuilt : Layout → List ℕ → ℕ → Structure → Type 0
+IsMisbuilt l text n code = IsAtFault (form_of l) (lines_of l text) n code
 
--- a transfer with findings is rejected
-abbrev pub judged : Layout → ℕ → List Finding → Outcome
-judged l count [] = clean l l.areas count
-judged l count (f ∷ fs) = rejected (f ∷ fs)
+-- the text tells these rows
+abbrev pub Tells : Layout → List ℕ → List (List Row) → Type 0
+Tells l text rows = IsRead (form_of l) (lines_of l text) rows
+
+-- the rows meet the declarations of their tables
+abbrev pub IsClean : Layout → List (List Row) → Type 0
+IsClean l rows = findings l rows ≡ []
+
+-- the outcome of rows, whose certificates go to the file of that name
+pub data IsRowsChecked (name : List ℕ) (l : Layout) (rows : List (List Row)) (o : Outcome) : Type 0 where
+  -- they break a rule
+  faulty : findings l rows ≢ [] → o ≡ rejected (findings l rows) → IsRowsChecked name l rows o
+  -- they meet the declarations, and the model has an AREA
+  left : IsClean l rows → l.areas ≢ [] → o ≡ areas_later l → IsRowsChecked name l rows o
+  -- they meet the declarations, and the model has no AREA
+  clean : IsClean l rows → l.areas ≡ [] → o ≡ accepted (objects rows) name [] → IsRowsChecked name l rows o
+
+-- the outcome of a transfer's text: a line is at fault, or it tells rows
+pub data IsChecked (name : List ℕ) (l : Layout) (text : List ℕ) (o : Outcome) : Type 0 where
+  at_fault : (n : ℕ) (code : Structure) → IsMisbuilt l text n code → o ≡ misbuilt n code → IsChecked name l text o
+  well_formed : (rows : List (List Row)) → Tells l text rows → IsRowsChecked name l rows o → IsChecked name l text o
+
+-- the outcome of what was read for a command
+abbrev pub Amounts : Command → Gathered → Outcome → Type 0
+Amounts c (gathering.unread f) o = o ≡ unread f
+Amounts c (gathering.too_long f) o = o ≡ too_long f
+Amounts c (gathering.refused r) o = o ≡ refused r
+Amounts (compile model) (gathering.texts l ts) o = o ≡ compiled l
+Amounts (check c) (gathering.texts l (text ∷ [])) o = IsChecked c.certificate l text o
+Amounts (check c) (gathering.texts l ts) o = ⊥
+
+-- ---- the tests that the causes of the answers are made of
+-- `check`: the transfer tells rows that meet the declarations, and the model has no AREA; `compile`: the model has no fault
+abbrev pub Accepts : Command → Layout → List (List ℕ) → Type 0
+Accepts (compile model) l ts = ⊤
+Accepts (check c) l (text ∷ []) = (rows : List (List Row)) × Tells l text rows × IsClean l rows × (l.areas ≡ [])
+Accepts (check c) l ts = ⊥
+
+-- a line of the transfer is at fault, or the rows have findings
+abbrev pub Rejects : Command → Layout → List (List ℕ) → Type 0
+Rejects (compile model) l ts = ⊥
+Rejects (check c) l (text ∷ []) = ((n : ℕ) × (code : Structure) × IsMisbuilt l text n code) ⊎ ((rows : List (List Row)) × Tells l text rows × (findings l rows ≢ []))
+Rejects (check c) l ts = ⊥
+
+-- the rows meet the declarations, and the model has an AREA
+abbrev pub LeavesAreas : Command → Layout → List (List ℕ) → Type 0
+LeavesAreas (compile model) l ts = ⊥
+LeavesAreas (check c) l (text ∷ []) = (rows : List (List Row)) × Tells l text rows × IsClean l rows × (l.areas ≢ [])
+LeavesAreas (check c) l ts = ⊥

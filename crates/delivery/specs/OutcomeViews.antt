@@ -1,28 +1,23 @@
 -- The outcome of the code, without where its parts lie in memory.
-use Rattle.std.specs.Prelude.{Option}
+use Rattle.std.specs.Prelude.{◌++◌, Option}
 use Rattle.std.specs.Borrow.{Bor}
 use Rattle.std.specs.Option.{option_map}
-use Rattle.itf_reader.specs.Findings.{findings_of}
-use Rattle.itf_reader.specs.Refusals.{fault_of}
+use Rattle.certificate.specs.Views.{views}
 use Rattle.table_layout.specs.Layouts.{Table}
-use Rattle.table_layout.specs.Values.{table_view, layout_view}
-use Rattle.table_layout.specs.declared.layouts.Table as code
-use Rattle.delivery.specs.Outcomes.{Outcome, usage, unread, too_long, refused, compiled, structure, rejected, areas_later, accepted}
-use Rattle.delivery.specs.RefusalViews.{refusal_of}
-use Rattle.delivery.specs.declared.outcome.Outcome.{Outcome as CodeOutcome}
-use Rattle.delivery.specs.declared.outcome.Outcome.TheVariants.{Usage, Unread, TooLong, Refused, Compiled, Structure, Rejected, AreasLater, Accepted}
+use Rattle.table_layout.specs.Values.{table_view}
+use Rattle.table_layout.specs.declared.layouts.Table as table
+use Rattle.delivery.specs.LineViews.{findings_seen, lines_of}
+use Rattle.delivery.specs.Outcomes.{Filing, Outcome}
+use Rattle.delivery.specs.declared.outcome.Filing as filing
+use Rattle.delivery.specs.declared.outcome.Outcome as outcome
 
-abbrev pub outcome_of : CodeOutcome → Outcome
-outcome_of Usage = usage
-outcome_of (Unread file) = unread file
-outcome_of (TooLong file) = too_long file
-outcome_of (Refused r) = refused (refusal_of r)
-outcome_of (Compiled layout) = compiled (layout_view layout)
-outcome_of (Structure line code) = structure line (fault_of code)
-outcome_of (Rejected findings) = rejected (findings_of findings.items)
-outcome_of (AreasLater layout) = areas_later (layout_view layout)
-outcome_of (Accepted objects) = accepted objects
+abbrev pub filing_of : filing.Filing → Filing
+filing_of f = record { name = f.name.now; certificates = views f.certificates.items }
+
+-- the lines for the findings come first
+abbrev pub outcome_of : outcome.Outcome → Outcome
+outcome_of o = record { status = o.status; lines = findings_seen o.findings.items ++ lines_of o.lines.items; filing = option_map filing_of o.filing }
 
 -- a table that was found
-abbrev pub table_there : Option (Bor code.Table) → Option Table
+abbrev pub table_there : Option (Bor table.Table) → Option Table
 table_there t = option_map (λ found. table_view found.now) t

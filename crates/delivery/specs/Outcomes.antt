@@ -1,41 +1,88 @@
--- Outcomes: what the report can say.
-use Rattle.std.specs.Prelude.{ℕ, List}
+-- Outcomes: what a call answers, reports and writes.
+use Rattle.std.specs.Prelude.{ℕ, List, [], ◌∷◌, ◌++◌, map, length, Option, Some, None, slice_get, slice_index_or}
+use Rattle.std.specs.List.{flat_map}
+use Rattle.certificate.specs.Spelling.{Plain}
 use Rattle.itf_reader.specs.Findings.{Finding}
 use Rattle.itf_reader.specs.Readings.{Structure}
-use Rattle.table_layout.specs.Layouts.{Layout}
+use Rattle.table_layout.specs.Layouts.{Table, AreaOf, Layout}
+use Rattle.delivery.specs.Lines as lines
+use Rattle.delivery.specs.Lines.{TableLine, AreaLine, Line, line_text}
 use Rattle.delivery.specs.ModelTexts.{Refusal}
-use Rattle.delivery.specs.declared.outcome.File.{File}
+use Rattle.delivery.specs.declared.files.File.{File}
+use Rattle.delivery.specs.declared.report.lines.AreaAnswer.TheVariants as answer
+use Rattle.delivery.specs.declared.report.lines.Verdict.TheVariants as verdict
 use Rattle.delivery.specs.declared.status.Status.{Status}
 use Rattle.delivery.specs.declared.status.Status.TheVariants as status
 
--- an outcome, with what the report says of it
-pub data Outcome : Type 0 where
-  -- the words have no right form
-  usage : Outcome
-  -- a file could not be read
-  unread : File → Outcome
-  -- a file is longer than its limit
-  too_long : File → Outcome
-  -- the model is refused
-  refused : Refusal → Outcome
-  -- the model is compiled to this layout
-  compiled : Layout → Outcome
-  -- the transfer is no text of the layout: the first line at fault, and its code
-  structure : ℕ → Structure → Outcome
-  -- the transfer has these findings
-  rejected : List Finding → Outcome
-  -- the transfer has no finding, and the areas of this layout are not looked at yet
-  areas_later : Layout → Outcome
-  -- so many objects without a finding, and no area
-  accepted : ℕ → Outcome
+-- certificates, and the name of the file that they go to
+pub record Filing : Type 0 where
+  pub name : List ℕ
+  pub certificates : List Plain
 
-abbrev pub status_of : Outcome → Status
-status_of usage = status.Usage
-status_of (unread file) = status.ReadFault
-status_of (too_long file) = status.OverLimit
-status_of (refused r) = status.ModelRefused
-status_of (compiled l) = status.Accepted
-status_of (structure n code) = status.Rejected
-status_of (rejected found) = status.Rejected
-status_of (areas_later l) = status.Undecided
-status_of (accepted objects) = status.Accepted
+-- a status, the lines of the report, and the certificates where there are any to write
+pub record Outcome : Type 0 where
+  pub status : Status
+  pub lines : List Line
+  pub filing : Option Filing
+
+-- the report: the text of its lines
+abbrev pub report_of : Outcome → List ℕ
+report_of o = flat_map line_text o.lines
+
+-- an outcome that writes no certificates
+abbrev pub reported : Status → List Line → Outcome
+reported s ls = record { status = s; lines = ls; filing = None }
+
+-- ---- each outcome
+-- the words are no command
+abbrev pub usage : Outcome
+usage = reported status.Usage (lines.usage_fault ∷ lines.usage_words ∷ [])
+
+-- a file could not be read
+abbrev pub unread : File → Outcome
+unread f = reported status.ReadFault (lines.unread f ∷ [])
+
+-- a file is longer than its limit
+abbrev pub too_long : File → Outcome
+too_long f = reported status.OverLimit (lines.too_long f ∷ [])
+
+-- the model is refused
+abbrev pub refused : Refusal → Outcome
+refused r = reported status.ModelRefused (lines.model_fault r ∷ [])
+
+-- a table of a layout whose topics have these names
+abbrev pub table_line : List (List ℕ) → Table → Line
+table_line topics t = lines.table (record { topic = slice_index_or topics t.topic []; name = t.name; role = t.role; columns = length t.columns; lines = length t.lines })
+
+-- the model is compiled to this layout
+abbrev pub compiled : Layout → Outcome
+compiled l = reported status.Accepted (lines.model l.model ∷ (map (table_line l.topics) l.tables ++ (lines.verdict (verdict.Compiled (length l.tables)) ∷ [])))
+
+-- the transfer is no text of the layout: the first line at fault, and its code
+abbrev pub misbuilt : ℕ → Structure → Outcome
+misbuilt n code = reported status.Rejected (lines.structure n code ∷ lines.verdict verdict.Rejected ∷ [])
+
+-- the transfer has these findings
+abbrev pub rejected : List Finding → Outcome
+rejected found = reported status.Rejected (map lines.finding found ++ (lines.verdict verdict.Rejected ∷ []))
+
+-- the names of a topic and a table, empty where there is no such table
+abbrev pub topic_at : Layout → Option Table → List ℕ
+topic_at l (Some t) = slice_index_or l.topics t.topic []
+topic_at l None = []
+
+abbrev pub name_at : Option Table → List ℕ
+name_at (Some t) = t.name
+name_at None = []
+
+-- an area of the layout, whose lines are not checked yet
+abbrev pub later_line : Layout → AreaOf → Line
+later_line l a = lines.area (record { topic = topic_at l (slice_get l.tables a.main); table = name_at (slice_get l.tables a.main); attribute = a.name; answer = answer.Later })
+
+-- the transfer has no finding, and the areas of the layout are not checked yet
+abbrev pub areas_later : Layout → Outcome
+areas_later l = reported status.Undecided (map (later_line l) l.areas ++ (lines.verdict verdict.Undecided ∷ []))
+
+-- so many objects without a finding: the certificates go to the file of that name
+abbrev pub accepted : ℕ → List ℕ → List Plain → Outcome
+accepted objects name cs = record { status = status.Accepted; lines = lines.verdict (verdict.Accepted objects) ∷ []; filing = Some (record { name = name; certificates = cs }) }

@@ -13,10 +13,10 @@ use Rattle.table_layout.specs.Tables.{layout_of}
 use Rattle.table_layout.specs.Valid.{IsValid}
 use Rattle.table_layout.specs.Values.{layout_view}
 use Rattle.delivery.specs.declared.refusals.Refusal.{Refusal as CodeRefusal}
-use Rattle.delivery.specs.declared.model_text.Reading.{Reading}
-use Rattle.delivery.specs.declared.model_text.Reading.TheVariants as readings
-use Rattle.delivery.specs.declared.model_text.ModelReading.{ModelReading}
-use Rattle.delivery.specs.declared.model_text.ModelReading.TheVariants as models
+use Rattle.delivery.specs.declared.model.Reading.{Reading}
+use Rattle.delivery.specs.declared.model.Reading.TheVariants as readings
+use Rattle.delivery.specs.declared.model.ModelReading.{ModelReading}
+use Rattle.delivery.specs.declared.model.ModelReading.TheVariants as models
 use Rattle.delivery.specs.ModelTexts.{Refusal, name_refusal, IsSpelt, IsFaulty, IsRefused, HasLayout}
 
 abbrev pub refusal_of : CodeRefusal → Refusal

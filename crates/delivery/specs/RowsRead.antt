@@ -9,7 +9,7 @@ use Rattle.itf_reader.specs.declared.refusal.ReadRefusal.TheVariants as refusals
 use Rattle.itf_reader.specs.declared.transfer.Transfer.{Transfer}
 use Rattle.table_layout.specs.Layouts.{Layout}
 use Rattle.delivery.specs.Judging.{lines_of}
-use Rattle.delivery.specs.Outcomes.{Outcome, structure}
+use Rattle.delivery.specs.Outcomes.{Outcome, misbuilt}
 
 -- the text of these rows, or the line at which it is at fault
 abbrev pub IsRows : Layout → List ℕ → Result Transfer ReadRefusal → Type 0
@@ -18,5 +18,5 @@ IsRows l text (Err refusal) = Refuses (form_of l) (lines_of l text) refusal
 
 -- the outcome tells the line at fault and its code; want of memory has none
 abbrev pub IsStructure : ReadRefusal → Outcome → Type 0
-IsStructure (refusals.At line code) o = o ≡ structure line (fault_of code)
+IsStructure (refusals.At line code) o = o ≡ misbuilt line (fault_of code)
 IsStructure refusals.Memory o = ⊥

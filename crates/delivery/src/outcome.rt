@@ -1,59 +1,217 @@
-// Outcomes of a call, before anything is written.
-ghost use Rattle.std.specs.Prelude.{◌≡◌};
-ghost use Rattle.delivery.specs.Outcomes.{status_of};
-ghost use Rattle.delivery.specs.OutcomeViews.{outcome_of};
+// Outcomes of a call, fixed before anything is written.
+ghost use Rattle.std.specs.Prelude.{◌≡◌, ◌++◌, [], length, map, slice_get, slice_index_or, IfOk, OnOk, Some, None};
+ghost use Rattle.certificate.specs.Views.{views};
+ghost use Rattle.itf_reader.specs.Findings.{findings_of};
+ghost use Rattle.itf_reader.specs.Refusals.{fault_of};
+ghost use Rattle.table_layout.specs.Values.{area_view, areas_view, layout_view, table_view, tables_view};
+ghost use Rattle.delivery.specs.Outcomes.{reported, usage, unread, too_long, refused, compiled, misbuilt, rejected, areas_later, accepted, later_line, table_line, topic_at, name_at};
+ghost use Rattle.delivery.specs.LineViews.{line_of, lines_of};
+ghost use Rattle.delivery.specs.OutcomeViews.{outcome_of, table_there};
+ghost use Rattle.delivery.specs.ReadRefusals.{IsReadRefusal};
+ghost use Rattle.delivery.specs.RefusalViews.{refusal_of};
 
+use crate::files::{File, FileRefusal};
 use crate::refusals::Refusal;
+use crate::report::{AreaAnswer, AreaLine, Line, TableLine, Verdict};
 use crate::status::Status;
-use itf_reader::{Finding, Structure as Code};
-use table_layout::Layout;
+use certificate::Certificate;
+use itf_reader::{Finding, Structure};
+use ports::{Memory, Name};
+use std::alloc::Global;
+use table_layout::{AreaOf, Layout, Table, TableId};
 
-/// A file that is read.
-#[derive(Clone, Copy, Debug, PartialEq, Eq)]
-pub enum File {
-    Model,
-    Transfer,
-}
-
-/// What is found out about the words and the files.
+/// Certificates, and the name of the file that they go to.
 #[derive(Drop)]
-pub enum Outcome {
-    /// The words have no right form.
-    Usage,
-    /// A file could not be read.
-    Unread(File),
-    /// A file is longer than its limit.
-    TooLong(File),
-    /// The model is refused.
-    Refused(Refusal),
-    /// The model is compiled.
-    Compiled(Layout),
-    /// The first line at fault of a transfer that is no text of its model.
-    Structure { line: u32, code: Code },
-    /// The transfer has findings.
-    Rejected(Vec<Finding>),
-    /// The transfer has no finding, and the areas of the layout are not looked at yet.
-    AreasLater(Layout),
-    /// So many objects, no finding and no area.
-    Accepted(u128),
+pub struct Filing<'a> {
+    pub name: &'a str,
+    pub certificates: Vec<Certificate>,
 }
 
-impl Outcome {
-    ghost use Rattle.delivery.specs.OutcomeViews.{outcome_of};
+/// What a call answers, reports and writes. The lines for the findings come first; they are kept
+/// as findings, since there may be millions.
+#[derive(Drop)]
+pub struct Outcome<'a> {
+    pub status: Status,
+    pub findings: Vec<Finding>,
+    pub lines: Vec<Line>,
+    pub filing: Option<Filing<'a>>,
+}
 
-    pub fn status(&self) -> Status
-        ensures { result ≡ status_of (outcome_of self.now) }
-    {
-        match self {
-            Outcome::Usage => Status::Usage,
-            Outcome::Unread(_) => Status::ReadFault,
-            Outcome::TooLong(_) => Status::OverLimit,
-            Outcome::Refused(_) => Status::ModelRefused,
-            Outcome::Compiled(_) => Status::Accepted,
-            Outcome::Structure { .. } => Status::Rejected,
-            Outcome::Rejected(_) => Status::Rejected,
-            Outcome::AreasLater(_) => Status::Undecided,
-            Outcome::Accepted(_) => Status::Accepted,
-        }
+// An outcome without findings that writes no certificates.
+fn reported<'a>(alloc: Global, status: Status, lines: Vec<Line>) -> Outcome<'a>
+    ensures { outcome_of result ≡ reported status (lines_of lines.items) }
+{
+    Outcome {
+        status,
+        findings: Vec::new(alloc),
+        lines,
+        filing: None,
     }
+}
+
+/// The words are no command.
+pub fn usage<'a>(alloc: Global) -> Result<Outcome<'a>, Memory>
+    ensures { IfOk result (λ o. outcome_of o ≡ usage) }
+{
+    let lines = vec![in alloc; Line::UsageFault, Line::UsageWords]?;
+    Ok(reported(alloc, Status::Usage, lines))
+}
+
+/// A file was not read.
+pub fn not_read<'a>(alloc: Global, file: File, refusal: FileRefusal) -> Result<Outcome<'a>, Memory>
+    ensures { IfOk result (λ o. IsReadRefusal file refusal (outcome_of o)) }
+{
+    match refusal {
+        FileRefusal::Failed => {
+            let lines = vec![in alloc; Line::Unread(file)]?;
+            Ok(reported(alloc, Status::ReadFault, lines))
+        }
+        FileRefusal::TooLong => {
+            let lines = vec![in alloc; Line::TooLong(file)]?;
+            Ok(reported(alloc, Status::OverLimit, lines))
+        }
+        FileRefusal::Memory => Err(Memory),
+    }
+}
+
+/// The model is refused.
+pub fn refused<'a>(alloc: Global, refusal: Refusal) -> Result<Outcome<'a>, Memory>
+    ensures { IfOk result (λ o. outcome_of o ≡ refused (refusal_of refusal)) }
+{
+    let lines = vec![in alloc; Line::ModelFault(refusal)]?;
+    Ok(reported(alloc, Status::ModelRefused, lines))
+}
+
+// The name of the topic of that number, empty where there is none.
+fn topic_name(topics: &[Name], topic: u32) -> &[u8]
+    ensures { result.now ≡ slice_index_or topics.now topic [] }
+{
+    match topics.get(topic as usize) {
+        Some(name) => name.bytes(),
+        None => b"",
+    }
+}
+
+// The line for a table.
+fn table_line(alloc: Global, topics: &[Name], table: &Table) -> Result<Line, Memory>
+    ensures { IfOk result (λ line. line_of line ≡ table_line topics.now (table_view table.now)) }
+{
+    Ok(Line::Table(TableLine {
+        topic: Name::new(alloc, topic_name(topics, table.topic))?,
+        name: Name::new(alloc, table.name.bytes())?,
+        role: table.role,
+        columns: table.columns.len() as u64,
+        lines: table.lines.len() as u64,
+    }))
+}
+
+// Adds the lines for tables.
+fn add_tables(
+    alloc: Global,
+    lines: &mut Vec<Line>,
+    topics: &[Name],
+    tables: &[Table],
+) -> Result<(), Memory>
+    ensures { OnOk result (lines_of lines.new.items ≡ lines_of lines.old.items ++ map (table_line topics.now) (tables_view tables.now)) }
+{
+    for table in tables {
+        lines.push(table_line(alloc, topics, table)?)?;
+    }
+    Ok(())
+}
+
+/// The model is compiled to that layout.
+pub fn compiled<'a>(alloc: Global, layout: &Layout) -> Result<Outcome<'a>, Memory>
+    ensures { IfOk result (λ o. outcome_of o ≡ compiled (layout_view layout.now)) }
+{
+    let name = Name::new(alloc, layout.model.bytes())?;
+    let mut lines = vec![in alloc; Line::Model(name)]?;
+    add_tables(alloc, &mut lines, &layout.topics, &layout.tables)?;
+    lines.push(Line::Verdict(Verdict::Compiled(layout.tables.len() as u128)))?;
+    Ok(reported(alloc, Status::Accepted, lines))
+}
+
+/// The transfer is at fault at a line.
+pub fn misbuilt<'a>(alloc: Global, line: u32, code: Structure) -> Result<Outcome<'a>, Memory>
+    ensures { IfOk result (λ o. outcome_of o ≡ misbuilt line (fault_of code)) }
+{
+    let lines = vec![in alloc; Line::Structure { line, code }, Line::Verdict(Verdict::Rejected)]?;
+    Ok(reported(alloc, Status::Rejected, lines))
+}
+
+/// The transfer has findings.
+pub fn rejected<'a>(alloc: Global, findings: Vec<Finding>) -> Result<Outcome<'a>, Memory>
+    ensures { IfOk result (λ o. outcome_of o ≡ rejected (findings_of findings.items)) }
+{
+    let lines = vec![in alloc; Line::Verdict(Verdict::Rejected)]?;
+    Ok(Outcome {
+        status: Status::Rejected,
+        findings,
+        lines,
+        filing: None,
+    })
+}
+
+// The table of that number, if there is one.
+fn table_at(tables: &[Table], id: TableId) -> Option<&Table>
+    ensures { table_there result ≡ slice_get (tables_view tables.now) id.0 }
+{
+    tables.get(id.0 as usize)
+}
+
+// The names of a table's topic and of the table, empty where there is none.
+fn title<'a>(layout: &'a Layout, table: Option<&'a Table>) -> (&'a [u8], &'a [u8])
+    ensures topic { result.0.now ≡ topic_at (layout_view layout.now) (table_there table.entry) }
+    ensures table { result.1.now ≡ name_at (table_there table.entry) }
+{
+    match table {
+        Some(table) => (topic_name(&layout.topics, table.topic), table.name.bytes()),
+        None => (b"", b""),
+    }
+}
+
+// The line for an area that is not checked yet.
+fn later_line(alloc: Global, layout: &Layout, area: &AreaOf) -> Result<Line, Memory>
+    ensures { IfOk result (λ line. line_of line ≡ later_line (layout_view layout.now) (area_view area.now)) }
+{
+    let (topic, table) = title(layout, table_at(&layout.tables, area.main));
+    Ok(Line::Area(AreaLine {
+        topic: Name::new(alloc, topic)?,
+        table: Name::new(alloc, table)?,
+        attribute: Name::new(alloc, area.name.bytes())?,
+        answer: AreaAnswer::Later,
+    }))
+}
+
+// The lines for areas that are not checked yet.
+fn later_lines(alloc: Global, layout: &Layout) -> Result<Vec<Line>, Memory>
+    ensures { IfOk result (λ lines. lines_of lines.items ≡ map (later_line (layout_view layout.now)) (areas_view layout.now.areas.items)) }
+{
+    let mut lines = Vec::new(alloc);
+    for area in &layout.areas {
+        lines.push(later_line(alloc, layout, area)?)?;
+    }
+    Ok(lines)
+}
+
+/// The transfer has no finding, and the areas of the layout are not checked yet.
+pub fn areas_later<'a>(alloc: Global, layout: &Layout) -> Result<Outcome<'a>, Memory>
+    ensures { IfOk result (λ o. outcome_of o ≡ areas_later (layout_view layout.now)) }
+{
+    let mut lines = later_lines(alloc, layout)?;
+    lines.push(Line::Verdict(Verdict::Undecided))?;
+    Ok(reported(alloc, Status::Undecided, lines))
+}
+
+/// So many objects without a finding, and the certificates for that file.
+pub fn accepted(alloc: Global, objects: u128, filing: Filing<'_>) -> Result<Outcome<'_>, Memory>
+    ensures { IfOk result (λ o. outcome_of o ≡ accepted objects filing.name.now (views filing.certificates.items)) }
+{
+    let lines = vec![in alloc; Line::Verdict(Verdict::Accepted(objects))]?;
+    Ok(Outcome {
+        status: Status::Accepted,
+        findings: Vec::new(alloc),
+        lines,
+        filing: Some(filing),
+    })
 }

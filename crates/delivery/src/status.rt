@@ -1,26 +1,48 @@
 // The answers of the top call.
+ghost use Rattle.std.specs.Prelude.{◌≡◌};
+ghost use Rattle.delivery.specs.Statuses.{number};
 
-/// What the call answers. The exit status of the program is the variant's number.
+/// What the call answers.
 #[derive(Clone, Copy, Debug, PartialEq, Eq)]
 pub enum Status {
-    /// 0: every object meets its table's declarations, and the certificates are written.
+    /// The files keep the rules; after `check` the certificates are written.
     Accepted,
-    /// 1: the report names what is at fault.
+    /// The report names what is at fault.
     Rejected,
-    /// 2: the report names what could not be decided.
+    /// The report names what could not be decided.
     Undecided,
-    /// 3: the model has a fault, or is of a form that is not read yet.
+    /// The model has a fault.
     ModelRefused,
-    /// 4: the words are no command.
+    /// The words are no command.
     Usage,
-    /// 5: a file could not be read.
+    /// A file could not be read.
     ReadFault,
-    /// 6: a file or the report could not be written.
+    /// A file or the report could not be written.
     WriteFault,
-    /// 7: a file is longer than its limit.
+    /// A file is longer than its limit.
     OverLimit,
-    /// 8: want of memory. Nothing was written.
+    /// Out of memory. Nothing was written.
     Memory,
-    /// 9: the certificates do not prove the areas.
+    /// The certificates do not prove the areas.
     NotProved,
+}
+
+impl Status {
+    /// The exit status of the program, from 0 to 9 in the order of the variants.
+    pub fn number(self) -> u8
+        ensures { result ≡ number self }
+    {
+        match self {
+            Status::Accepted => 0,
+            Status::Rejected => 1,
+            Status::Undecided => 2,
+            Status::ModelRefused => 3,
+            Status::Usage => 4,
+            Status::ReadFault => 5,
+            Status::WriteFault => 6,
+            Status::OverLimit => 7,
+            Status::Memory => 8,
+            Status::NotProved => 9,
+        }
+    }
 }

@@ -2,7 +2,7 @@
 //!
 //! It hands the words to `delivery::run`, whose contract says what the answer means, and ends
 //! with the number of the answer. Nothing goes to standard error. A word that is not UTF-8 is
-//! handed over as the empty word, which no command takes. Where memory is wanting for the words
+//! handed over as the empty word, which no command takes. Where the words do not fit into memory
 //! the program ends with 8, as `run` does.
 #![tactic(auto)]
 
@@ -58,5 +58,5 @@ fn main(rt: HostRuntime) -> ExitCode {
         ),
         Err(Memory) => Status::Memory,
     };
-    ExitCode::from(status as u8)
+    ExitCode::from(status.number())
 }

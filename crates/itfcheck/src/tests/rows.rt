@@ -44,7 +44,7 @@ const USAGE: &str =
 
 const EMPTY_LIST: &str = "ITFCERT 1\nAREAS 0\n";
 
-const ROWS: [Row; 13] = [
+const ROWS: [Row; 15] = [
     Row {
         name: "a number within its bounds",
         words: CHECK,
@@ -188,6 +188,42 @@ const ROWS: [Row; 13] = [
         status: Status::WriteFault,
         certificate: None,
     },
+    Row {
+        name: "the report on words that are no command is not taken",
+        words: &["start", "M", "T", "C"],
+        model: MODEL,
+        transfer: SEVEN,
+        failing_shelf_calls: &[],
+        failing_puts: &[1],
+        report: "",
+        status: Status::WriteFault,
+        certificate: None,
+    },
+    Row {
+        name: "the report on findings is not taken, and the transfer is the file of the certificates",
+        words: &["check", "M", "T", "T"],
+        model: MODEL,
+        transfer: ELEVEN,
+        failing_shelf_calls: &[],
+        failing_puts: &[1],
+        report: "",
+        status: Status::WriteFault,
+        certificate: None,
+    },
+];
+
+// Each answer and its exit status.
+const NUMBERS: [(Status, u8); 10] = [
+    (Status::Accepted, 0),
+    (Status::Rejected, 1),
+    (Status::Undecided, 2),
+    (Status::ModelRefused, 3),
+    (Status::Usage, 4),
+    (Status::ReadFault, 5),
+    (Status::WriteFault, 6),
+    (Status::OverLimit, 7),
+    (Status::Memory, 8),
+    (Status::NotProved, 9),
 ];
 
 pub fn words_of(alloc: Global, texts: &[&str]) -> Result<Vec<Word>, Fail> {
@@ -207,6 +243,15 @@ fn certificate(alloc: Global, shelf: &mut MemoryShelf) -> Result<Option<String>,
             Ok(Some(String::from_str(alloc, text)?))
         }
         Err(_) => Ok(None),
+    }
+}
+
+// The file begins as the text does.
+fn begins(shelf: &mut MemoryShelf, name: &str, text: &str) -> bool {
+    let mut buffer = [0u8; 512];
+    match shelf.read(name, 0, &mut buffer) {
+        Ok(length) => text.as_bytes().starts_with(&buffer[..length]) && (0 < length || text.is_empty()),
+        Err(_) => false,
     }
 }
 
@@ -230,6 +275,8 @@ pub fn holds(rt: &impl Abort, alloc: Global, row: &Row) -> Result<(), Fail> {
         "the report where {}",
         row.name
     );
+    let kept = begins(&mut shelf, "M", row.model) && begins(&mut shelf, "T", row.transfer);
+    assert!(rt; kept, "the files that were read, where {}", row.name);
     let written = certificate(alloc, &mut shelf)?;
     let written = written.as_ref().map(|text| text.as_str());
     assert_eq!(rt;
@@ -247,6 +294,13 @@ fn the_first_rows_hold(rt: HostRuntime) -> Result<(), Fail> {
         holds(&rt, rt.alloc(), row)?;
     }
     Ok(())
+}
+
+#[test]
+fn each_answer_has_its_exit_status(rt: HostRuntime) {
+    for (status, number) in &NUMBERS {
+        assert_eq!(rt; status.number(), *number);
+    }
 }
 
 // Where a growth is refused, the answer is the defined one, or want of memory with nothing done.

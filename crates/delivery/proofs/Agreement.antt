@@ -1,0 +1,195 @@
+-- Two outcomes of the words and the files agree, unless a file could not be read.
+use Rattle.std.proofs.Common.{◌≡◌, ℕ, List, [], ◌∷◌, ◌++◌, length, Option, Some, None, refl, ap, sym, ◌∙◌, subst, inl, inr, arith}
+use Rattle.std.specs.Prelude.{◌≢◌, ◌⊎◌, ⊤}
+use Rattle.ports.specs.Files.{Files}
+use Rattle.ports.specs.Output.{Adds}
+use Rattle.itf_reader.proofs.Readings.{one_transfer, one_refusal as one_fault, never_both}
+use Rattle.itf_reader.specs.Forms.{Row}
+use Rattle.itf_reader.specs.Layouts.{form_of}
+use Rattle.itf_reader.specs.Readings.{Structure}
+use Rattle.table_layout.specs.Layouts.{Layout}
+use Rattle.delivery.specs.declared.files.File.{File}
+use Rattle.delivery.specs.declared.status.Status.{Status}
+use Rattle.delivery.specs.declared.status.Status.TheVariants.{ReadFault, WriteFault}
+use Rattle.delivery.specs.Answers.{AgreeLines, AgreeFilings, Agree, Answers, IsStopped, IsAnswer}
+use Rattle.delivery.specs.Commands.{Command, Source, compile, check, limit_of, model_of, further_files, IsCommand}
+use Rattle.delivery.specs.Deciding.{Decides, formless, formed}
+use Rattle.delivery.specs.Gathering as gathering
+use Rattle.delivery.specs.Gathering.{Gathered, Reads, ReadsAll, Compiles, Gathers}
+use Rattle.delivery.specs.Judging.{lines_of, findings, objects, IsRowsChecked, faulty, left, clean, IsChecked, at_fault, well_formed, Amounts}
+use Rattle.delivery.specs.Lines.{Line}
+use Rattle.delivery.specs.ModelTexts.{Refusal, IsRefused, HasLayout}
+use Rattle.delivery.specs.Outcomes.{Filing, Outcome, unread, misbuilt, rejected, accepted, report_of}
+use Rattle.delivery.specs.Reading.{IsWhole, IsLonger}
+use Rattle.delivery.proofs.Causes.{by_write}
+use Rattle.delivery.proofs.CommandLemmas.{one_command}
+use Rattle.delivery.proofs.ModelTextLemmas.{one_layout, one_refusal, not_refused}
+
+-- ---- an outcome agrees with itself
+same_lines : (ls : List Line) → AgreeLines ls ls
+same_lines [] = tt
+same_lines (l ∷ ls) = (refl, same_lines ls)
+
+same_filings : (f : Option Filing) → AgreeFilings f f
+same_filings None = tt
+same_filings (Some f) = refl
+
+agrees_itself : (o : Outcome) → Agree o o
+agrees_itself o = record { status = refl; lines = same_lines o.lines; filings = same_filings o.filing }
+
+agree_same : (o p : Outcome) → o ≡ p → Agree o p
+agree_same o p e = subst (Agree o) e (agrees_itself o)
+
+-- ---- a file has one text, and this is within its limit or not
+one_text : (files : Files) (name : List ℕ) (limit : ℕ) (a b : List ℕ) → IsWhole (Some files) name limit a → IsWhole (Some files) name limit b → a ≡ b
+one_text files name limit a b h k = let e = sym h.0 ∙ k.0 in cc
+
+not_longer : (files : Files) (name : List ℕ) (limit : ℕ) (a : List ℕ) → IsWhole (Some files) name limit a → IsLonger (Some files) name limit → ⊥
+not_longer files name limit a h k =
+    let q = sym h.0 ∙ k.1 in
+    let e : a ≡ k.0 = cc in
+    absurd (omega (arith, ap length e, h.1, k.2))
+
+-- ---- one thing is read of the files, unless one of them could not be
+abbrev IsUnread : Gathered → Type 0
+IsUnread (gathering.unread f) = ⊤
+IsUnread _ = ⊥
+
+is_unread : (g : Gathered) (f : File) → g ≡ gathering.unread f → IsUnread g
+is_unread g f e = subst IsUnread (sym e) tt
+
+abbrev Same : Gathered → Gathered → Type 0
+Same g h = IsUnread g ⊎ (IsUnread h ⊎ (g ≡ h))
+
+module _ (files : Files) (far near : List ℕ → Type 0) where
+  module _ (s : Source) (g h : Gathered) (P Q : List ℕ → Type 0) (one : (text : List ℕ) → P text → Q text → Same g h) where
+    text_after : (text : List ℕ) → IsWhole (Some files) s.name (limit_of s.file) text → P text → Reads (Some files) near s h Q → Same g h
+    text_after text w p k = elim k as (λ z. Same g h) [
+      | inl n ↦ inr (inl (is_unread h s.file n.1))
+      | inr n ↦ elim n as (λ z. Same g h) [
+        | inl m ↦ absurd (not_longer files s.name (limit_of s.file) text w m.0)
+        | inr m ↦ one text p (subst Q (one_text files s.name (limit_of s.file) m.0 text m.1 w) m.2)
+      ]
+    ]
+
+    long_after : IsLonger (Some files) s.name (limit_of s.file) → g ≡ gathering.too_long s.file → Reads (Some files) near s h Q → Same g h
+    long_after l e k = elim k as (λ z. Same g h) [
+      | inl n ↦ inr (inl (is_unread h s.file n.1))
+      | inr n ↦ elim n as (λ z. Same g h) [
+        | inl m ↦ inr (inr (e ∙ sym m.1))
+        | inr m ↦ absurd (not_longer files s.name (limit_of s.file) m.0 m.1 l)
+      ]
+    ]
+
+    same_read : Reads (Some files) far s g P → Reads (Some files) near s h Q → Same g h
+    same_read r k = elim r as (λ z. Same g h) [
+      | inl n ↦ inl (is_unread g s.file n.1)
+      | inr n ↦ elim n as (λ z. Same g h) [
+        | inl m ↦ long_after m.0 m.1 k
+        | inr m ↦ text_after m.0 m.1 m.2 k
+      ]
+    ]
+
+  same_all : (l : Layout) (before : List (List ℕ)) (ss : List Source) (g h : Gathered) → ReadsAll (Some files) far l before ss g → ReadsAll (Some files) near l before ss h → Same g h
+  same_all l before [] g h r k = inr (inr (r ∙ sym k))
+  same_all l before (s ∷ ss) g h r k =
+      same_read s g h (λ text. ReadsAll (Some files) far l (before ++ (text ∷ [])) ss g) (λ text. ReadsAll (Some files) near l (before ++ (text ∷ [])) ss h)
+      (λ text p q. same_all l (before ++ (text ∷ [])) ss g h p q) r k
+
+  module _ (c : Command) (text : List ℕ) (g h : Gathered) where
+    refused_after : (r : Refusal) → IsRefused text r → g ≡ gathering.refused r → Compiles (Some files) near c text h → Same g h
+    refused_after r i e k = elim k as (λ z. Same g h) [
+      | inl n ↦ inr (inr (e ∙ ap gathering.refused (one_refusal text r n.0 i n.1) ∙ sym n.2))
+      | inr n ↦ absurd (not_refused text n.0 r n.1 i)
+    ]
+
+    laid_after : (l : Layout) → HasLayout text l → ReadsAll (Some files) far l [] (further_files c) g → Compiles (Some files) near c text h → Same g h
+    laid_after l i r k = elim k as (λ z. Same g h) [
+      | inl n ↦ absurd (not_refused text l n.0 i n.1)
+      | inr n ↦ same_all n.0 [] (further_files c) g h (subst (λ (x : Layout). ReadsAll (Some files) far x [] (further_files c) g) (one_layout text l n.0 i n.1) r) n.2
+    ]
+
+    same_compiled : Compiles (Some files) far c text g → Compiles (Some files) near c text h → Same g h
+    same_compiled r k = elim r as (λ z. Same g h) [
+      | inl n ↦ refused_after n.0 n.1 n.2 k
+      | inr n ↦ laid_after n.0 n.1 n.2 k
+    ]
+
+  same_gathered : (c : Command) (g h : Gathered) → Gathers (Some files) far c g → Gathers (Some files) near c h → Same g h
+  same_gathered c g h r k =
+      same_read (model_of c) g h (λ text. Compiles (Some files) far c text g) (λ text. Compiles (Some files) near c text h)
+      (λ text p q. same_compiled c text g h p q) r k
+
+-- ---- what is read has one outcome
+same_rows : (name : List ℕ) (l : Layout) (rows : List (List Row)) (o p : Outcome) → IsRowsChecked name l rows o → IsRowsChecked name l rows p → o ≡ p
+same_rows name l rows o p (faulty n e) (faulty m f) = e ∙ sym f
+same_rows name l rows o p (faulty n e) (left k a f) = absurd (n k)
+same_rows name l rows o p (faulty n e) (clean k a f) = absurd (n k)
+same_rows name l rows o p (left k a e) (faulty m f) = absurd (m k)
+same_rows name l rows o p (left k a e) (left m b f) = e ∙ sym f
+same_rows name l rows o p (left k a e) (clean m b f) = absurd (a b)
+same_rows name l rows o p (clean k a e) (faulty m f) = absurd (m k)
+same_rows name l rows o p (clean k a e) (left m b f) = absurd (b a)
+same_rows name l rows o p (clean k a e) (clean m b f) = e ∙ sym f
+
+same_text : (name : List ℕ) (l : Layout) (text : List ℕ) (o p : Outcome) → IsChecked name l text o → IsChecked name l text p → o ≡ p
+same_text name l text o p (at_fault n c h e) (at_fault m d k f) =
+    let q = one_fault (form_of l) (lines_of l text) n m c d h k in
+    e ∙ ap (λ (x : ℕ). misbuilt x c) q.0 ∙ ap (misbuilt m) q.1 ∙ sym f
+same_text name l text o p (at_fault n c h e) (well_formed t k f) = absurd (never_both (form_of l) (lines_of l text) t n c k h)
+same_text name l text o p (well_formed t h e) (at_fault m d k f) = absurd (never_both (form_of l) (lines_of l text) t m d h k)
+same_text name l text o p (well_formed t h e) (well_formed u k f) =
+    let q = one_transfer (form_of l) (lines_of l text).lines t u h.1 k.1 in
+    same_rows name l u o p (subst (λ (x : List (List Row)). IsRowsChecked name l x o) q e) f
+
+same_amount : (c : Command) (g : Gathered) (o p : Outcome) → Amounts c g o → Amounts c g p → o ≡ p
+same_amount c (gathering.unread f) o p h k = h ∙ sym k
+same_amount c (gathering.too_long f) o p h k = h ∙ sym k
+same_amount c (gathering.refused r) o p h k = h ∙ sym k
+same_amount (compile m) (gathering.texts l ts) o p h k = h ∙ sym k
+same_amount (check c) (gathering.texts l []) o p h k = absurd h
+same_amount (check c) (gathering.texts l (text ∷ [])) o p h k = same_text c.certificate l text o p h k
+same_amount (check c) (gathering.texts l (t ∷ u ∷ ts)) o p h k = absurd h
+
+unread_status : (c : Command) (g : Gathered) (o : Outcome) → IsUnread g → Amounts c g o → o.status ≡ ReadFault
+unread_status c (gathering.unread f) o u e = ap (λ (x : Outcome). x.status) e
+unread_status c (gathering.too_long f) o u e = absurd u
+unread_status c (gathering.refused r) o u e = absurd u
+unread_status c (gathering.texts l ts) o u e = absurd u
+
+-- either of two outcomes is that a file could not be read, or they agree
+abbrev AgreeUnlessUnread : Outcome → Outcome → Type 0
+AgreeUnlessUnread o p = (o.status ≡ ReadFault) ⊎ ((p.status ≡ ReadFault) ⊎ Agree o p)
+
+files_agree : (c : Command) (g h : Gathered) (o p : Outcome) → Same g h → Amounts c g o → Amounts c h p → AgreeUnlessUnread o p
+files_agree c g h o p s a b = elim s as (λ z. AgreeUnlessUnread o p) [
+  | inl u ↦ inl (unread_status c g o u a)
+  | inr n ↦ elim n as (λ z. AgreeUnlessUnread o p) [
+    | inl u ↦ inr (inl (unread_status c h p u b))
+    | inr e ↦ inr (inr (agree_same o p (same_amount c h o p (subst (λ (x : Gathered). Amounts c x o) e a) b)))
+  ]
+]
+
+pub outcomes_agree : (files : Files) (far near : List ℕ → Type 0) (words : List (List ℕ)) (o p : Outcome) → Decides (Some files) far words o → Decides (Some files) near words p → AgreeUnlessUnread o p
+outcomes_agree files far near words o p (formless u a) (formless v b) = inr (inr (agree_same o p (a ∙ sym b)))
+outcomes_agree files far near words o p (formless u a) (formed d h j y b) = absurd (u d j)
+outcomes_agree files far near words o p (formed c g i x a) (formless v b) = absurd (v c i)
+outcomes_agree files far near words o p (formed c g i x a) (formed d h j y b) =
+    let e = one_command words c d i j in
+    files_agree d g h o p
+    (same_gathered files far near d g h (subst (λ (z : Command). Gathers (Some files) far z g) e x) y)
+    (subst (λ (z : Command). Amounts z g o) e a) b
+
+-- an answer that is that of an outcome unless a write failed is that of each outcome, as far as they agree
+pub exactly : (told : Option Files) (far near : List ℕ → Type 0) (words : List (List ℕ)) (p : Outcome) (s : Status) (before after : Option (List ℕ)) → Decides told near words p
+    → (s ≢ WriteFault → s ≡ p.status) → (s ≢ WriteFault → Adds before (report_of p) after)
+    → (files : Files) → told ≡ Some files → (o : Outcome) → Decides (Some files) far words o → IsAnswer o s before after
+exactly told far near words p s before after k e r files t o h read =
+    by_write (Answers o s before after ⊎ IsStopped s) s (λ w. inr (inr (inl w)))
+    (λ n. elim (outcomes_agree files far near words o p h (subst (λ (x : Option Files). Decides x near words p) t k)) as (λ z. Answers o s before after ⊎ IsStopped s) [
+      | inl u ↦ absurd (read u)
+      | inr m ↦ elim m as (λ z. Answers o s before after ⊎ IsStopped s) [
+        | inl u ↦ inr (inl (e n ∙ u))
+        | inr a ↦ inl (record { outcome = p; agrees = a; answered = e n; reported = r n })
+      ]
+    ])

@@ -1,0 +1,8 @@
+use Rattle.std.proofs.Common.{◌≡◌, ◌++◌, drop}
+use Rattle.std.specs.List.{flat_map}
+use Rattle.delivery.specs.Lines.{line_text}
+use Rattle.delivery.specs.LineViews.{findings_seen}
+use Rattle.delivery.proofs.report.text.Text.add_findings.Given as goal
+
+abbrev pub invariant-loop-finding : goal.invariant-loop-finding
+invariant-loop-finding l = l.self.bytes.items ++ flat_map line_text (findings_seen (drop l.finding-index l.findings)) ≡ l.fn.self.bytes.items ++ flat_map line_text (findings_seen l.findings)

@@ -1,0 +1,35 @@
+-- What is read of the files of a command: their texts, or what the call ends with before.
+use Rattle.std.specs.Prelude.{◌≡◌, ℕ, List, [], ◌∷◌, ◌++◌, Option, ◌⊎◌}
+use Rattle.ports.specs.Files.{Files}
+use Rattle.table_layout.specs.Layouts.{Layout}
+use Rattle.delivery.specs.Commands.{Command, Source, limit_of, model_of, further_files}
+use Rattle.delivery.specs.ModelTexts.{Refusal, IsRefused, HasLayout}
+use Rattle.delivery.specs.Reading.{IsWhole, IsLonger}
+use Rattle.delivery.specs.declared.files.File.{File}
+
+pub data Gathered : Type 0 where
+  -- this file could not be read
+  unread : File → Gathered
+  -- this file is longer than its limit
+  too_long : File → Gathered
+  -- the model is refused
+  refused : Refusal → Gathered
+  -- the layout of the model, and the texts of the further files in order
+  texts : Layout → List (List ℕ) → Gathered
+
+-- a file is read: it could not be, with a fault of it counted; or it is too long; or its text goes on
+abbrev pub Reads : Option Files → (List ℕ → Type 0) → Source → Gathered → (List ℕ → Type 0) → Type 0
+Reads told counted s g goes_on = (counted s.name × (g ≡ unread s.file)) ⊎ ((IsLonger told s.name (limit_of s.file) × (g ≡ too_long s.file)) ⊎ ((text : List ℕ) × IsWhole told s.name (limit_of s.file) text × goes_on text))
+
+-- files are read in order, behind those whose texts these are
+abbrev pub ReadsAll : Option Files → (List ℕ → Type 0) → Layout → List (List ℕ) → List Source → Gathered → Type 0
+ReadsAll told counted l before [] g = g ≡ texts l before
+ReadsAll told counted l before (s ∷ ss) g = Reads told counted s g (λ text. ReadsAll told counted l (before ++ (text ∷ [])) ss g)
+
+-- a model's text is refused, or has a layout, and then the further files are read
+abbrev pub Compiles : Option Files → (List ℕ → Type 0) → Command → List ℕ → Gathered → Type 0
+Compiles told counted c text g = ((r : Refusal) × IsRefused text r × (g ≡ refused r)) ⊎ ((l : Layout) × HasLayout text l × ReadsAll told counted l [] (further_files c) g)
+
+-- this is read of the files of a command
+abbrev pub Gathers : Option Files → (List ℕ → Type 0) → Command → Gathered → Type 0
+Gathers told counted c g = Reads told counted (model_of c) g (λ text. Compiles told counted c text g)

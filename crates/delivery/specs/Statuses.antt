@@ -1,0 +1,16 @@
+-- The exit status of the program.
+use Rattle.std.specs.Prelude.{ℕ}
+use Rattle.delivery.specs.declared.status.Status.{Status}
+use Rattle.delivery.specs.declared.status.Status.TheVariants.{Accepted, Rejected, Undecided, ModelRefused, Usage, ReadFault, WriteFault, OverLimit, Memory, NotProved}
+
+abbrev pub number : Status → ℕ
+number Accepted = 0
+number Rejected = 1
+number Undecided = 2
+number ModelRefused = 3
+number Usage = 4
+number ReadFault = 5
+number WriteFault = 6
+number OverLimit = 7
+number Memory = 8
+number NotProved = 9

@@ -1,0 +1,269 @@
+// The text of a report.
+ghost use Rattle.std.specs.Prelude.{◌≡◌, ◌++◌, decimal, IfOk, OnOk};
+ghost use Rattle.std.specs.List.{flat_map};
+ghost use Rattle.table_layout.specs.Values.{role_view};
+ghost use Rattle.itf_reader.specs.Findings.{finding_of, findings_of, other_of};
+ghost use Rattle.itf_reader.specs.Refusals.{fault_of};
+ghost use Rattle.delivery.specs.Lines.{finding as finding_line, file_text, place_text, role_text, other_text, finding_words, table_words, area_text, area_words, structure_words, refusal_words, verdict_text, words_of, line_text, report_of};
+ghost use Rattle.delivery.specs.LineViews.{findings_seen, line_of, lines_of, table_of, area_of};
+ghost use Rattle.delivery.specs.OutcomeViews.{outcome_of};
+ghost use Rattle.delivery.specs.RefusalViews.{refusal_of};
+
+use super::codes::{code_text, refusal_text, structure_text};
+use super::lines::{AreaAnswer, AreaLine, Line, TableLine, Verdict};
+use crate::files::File;
+use crate::outcome::Outcome;
+use crate::refusals::Refusal;
+use itf_reader::{Finding, Other, Structure};
+use itoa::Buffer;
+use ports::Memory;
+use std::alloc::Global;
+use std::marker::Model;
+use table_layout::Role;
+
+fn file_text(file: File) -> &'static [u8]
+    ensures { result.now ≡ file_text file }
+{
+    match file {
+        File::Model => b"model",
+        File::Transfer => b"transfer",
+    }
+}
+
+fn role_text(role: Role) -> &'static [u8]
+    ensures { result.now ≡ role_text (role_view role) }
+{
+    match role {
+        Role::Main => b"MAIN",
+        Role::AreaLines { .. } => b"AREA",
+        Role::SurfaceLines { .. } => b"SURFACE",
+    }
+}
+
+fn area_text(answer: AreaAnswer) -> &'static [u8]
+    ensures { result.now ≡ area_text answer }
+{
+    match answer {
+        AreaAnswer::Later => b"LATER",
+    }
+}
+
+// The text of a report as far as it is made.
+#[derive(Drop)]
+struct Text {
+    bytes: Vec<u8>,
+}
+
+impl Model for Text {
+    ghost use Rattle.std.specs.Prelude.{List, ℕ};
+
+    ghost Value = { List ℕ };
+
+    ghost view = { λ text. text.bytes.items };
+}
+
+impl Text {
+    fn add(&mut self, bytes: &[u8]) -> Result<(), Memory>
+        ensures { OnOk result (self.new ≡ self.old ++ bytes.now) }
+    {
+        self.bytes.extend_from_slice(bytes)?;
+        Ok(())
+    }
+
+    fn add_count(&mut self, count: u128) -> Result<(), Memory>
+        ensures { OnOk result (self.new ≡ self.old ++ decimal count) }
+    {
+        let mut buffer = Buffer::new();
+        self.add(buffer.format(count).as_bytes())
+    }
+
+    fn add_number(&mut self, number: u32) -> Result<(), Memory>
+        ensures { OnOk result (self.new ≡ self.old ++ decimal number) }
+    {
+        let mut buffer = Buffer::new();
+        self.add(buffer.format(number).as_bytes())
+    }
+
+    // What a finding names besides its place, with a blank before it.
+    fn add_other(&mut self, other: &Other) -> Result<(), Memory>
+        ensures { OnOk result (self.new ≡ self.old ++ other_text (other_of other.now)) }
+    {
+        match other {
+            Other::Nothing => Ok(()),
+            Other::Line(line) => {
+                self.add(b" ")?;
+                self.add_number(*line)
+            }
+            Other::Word(word) => {
+                self.add(b" ")?;
+                self.add(word.bytes())
+            }
+        }
+    }
+
+    // FINDING line code column, and the other value where there is one
+    fn add_finding_words(&mut self, finding: &Finding) -> Result<(), Memory>
+        ensures { OnOk result (self.new ≡ self.old ++ finding_words (finding_of finding.now)) }
+    {
+        self.add(b"FINDING ")?;
+        self.add_number(finding.line)?;
+        self.add(b" ")?;
+        self.add(code_text(finding.code))?;
+        self.add(b" ")?;
+        self.add_number(finding.column)?;
+        self.add_other(&finding.other)
+    }
+
+    fn add_finding(&mut self, finding: &Finding) -> Result<(), Memory>
+        ensures { OnOk result (self.new ≡ self.old ++ line_text (finding_line (finding_of finding.now))) }
+    {
+        self.add_finding_words(finding)?;
+        self.add(b"\n")
+    }
+
+    fn add_findings(&mut self, findings: &[Finding]) -> Result<(), Memory>
+        ensures { OnOk result (self.new ≡ self.old ++ flat_map line_text (findings_seen findings.now)) }
+    {
+        for finding in findings {
+            self.add_finding(finding)?;
+        }
+        Ok(())
+    }
+
+    // TABLE topic name role columns lines
+    fn add_table(&mut self, table: &TableLine) -> Result<(), Memory>
+        ensures { OnOk result (self.new ≡ self.old ++ table_words (table_of table.now)) }
+    {
+        self.add(b"TABLE ")?;
+        self.add(table.topic.bytes())?;
+        self.add(b" ")?;
+        self.add(table.name.bytes())?;
+        self.add(b" ")?;
+        self.add(role_text(table.role))?;
+        self.add(b" ")?;
+        self.add_count(u128::from(table.columns))?;
+        self.add(b" ")?;
+        self.add_count(u128::from(table.lines))
+    }
+
+    // AREA topic table attribute, and the answer
+    fn add_area(&mut self, area: &AreaLine) -> Result<(), Memory>
+        ensures { OnOk result (self.new ≡ self.old ++ area_words (area_of area.now)) }
+    {
+        self.add(b"AREA ")?;
+        self.add(area.topic.bytes())?;
+        self.add(b" ")?;
+        self.add(area.table.bytes())?;
+        self.add(b" ")?;
+        self.add(area.attribute.bytes())?;
+        self.add(b" ")?;
+        self.add(area_text(area.answer))
+    }
+
+    // STRUCTURE line code
+    fn add_structure(&mut self, line: u32, code: Structure) -> Result<(), Memory>
+        ensures { OnOk result (self.new ≡ self.old ++ structure_words line (fault_of code)) }
+    {
+        self.add(b"STRUCTURE ")?;
+        self.add_number(line)?;
+        self.add(b" ")?;
+        self.add(structure_text(code))
+    }
+
+    // A line and a column, each with a blank before it, and a blank.
+    fn add_place(&mut self, line: u32, column: u32) -> Result<(), Memory>
+        ensures { OnOk result (self.new ≡ self.old ++ place_text line column) }
+    {
+        self.add(b" ")?;
+        self.add_number(line)?;
+        self.add(b" ")?;
+        self.add_number(column)?;
+        self.add(b" ")
+    }
+
+    // FAULT MODEL code line column word
+    fn add_refusal(&mut self, refusal: &Refusal) -> Result<(), Memory>
+        ensures { OnOk result (self.new ≡ self.old ++ refusal_words (refusal_of refusal.now)) }
+    {
+        self.add(b"FAULT MODEL ")?;
+        self.add(refusal_text(refusal.code))?;
+        self.add_place(refusal.line, refusal.column)?;
+        self.add(&refusal.word)
+    }
+
+    fn add_verdict(&mut self, verdict: Verdict) -> Result<(), Memory>
+        ensures { OnOk result (self.new ≡ self.old ++ verdict_text verdict) }
+    {
+        match verdict {
+            Verdict::Accepted(objects) => {
+                self.add(b"VERDICT ACCEPTED ")?;
+                self.add_count(objects)
+            }
+            Verdict::Rejected => self.add(b"VERDICT REJECTED"),
+            Verdict::Undecided => self.add(b"VERDICT UNDECIDED"),
+            Verdict::Compiled(tables) => {
+                self.add(b"VERDICT COMPILED ")?;
+                self.add_count(tables)
+            }
+        }
+    }
+
+    // FAULT READ file, FAULT LIMIT file
+    fn add_file(&mut self, fault: &[u8], file: File) -> Result<(), Memory>
+        ensures { OnOk result (self.new ≡ self.old ++ (fault.now ++ file_text file)) }
+    {
+        self.add(fault)?;
+        self.add(file_text(file))
+    }
+
+    // The words of a line, without its end.
+    fn add_words(&mut self, line: &Line) -> Result<(), Memory>
+        ensures { OnOk result (self.new ≡ self.old ++ words_of (line_of line.now)) }
+    {
+        match line {
+            Line::UsageFault => self.add(b"FAULT USAGE"),
+            Line::UsageWords => self.add(
+                b"usage: itfcheck compile M, check M T C, verify M T C, trial N C",
+            ),
+            Line::Unread(file) => self.add_file(b"FAULT READ ", *file),
+            Line::TooLong(file) => self.add_file(b"FAULT LIMIT ", *file),
+            Line::ModelFault(refusal) => self.add_refusal(refusal),
+            Line::Model(name) => {
+                self.add(b"MODEL ")?;
+                self.add(name.bytes())
+            }
+            Line::Table(table) => self.add_table(table),
+            Line::Structure { line, code } => self.add_structure(*line, *code),
+            Line::Area(area) => self.add_area(area),
+            Line::Verdict(verdict) => self.add_verdict(*verdict),
+        }
+    }
+
+    fn add_line(&mut self, line: &Line) -> Result<(), Memory>
+        ensures { OnOk result (self.new ≡ self.old ++ line_text (line_of line.now)) }
+    {
+        self.add_words(line)?;
+        self.add(b"\n")
+    }
+
+    fn add_lines(&mut self, lines: &[Line]) -> Result<(), Memory>
+        ensures { OnOk result (self.new ≡ self.old ++ flat_map line_text (lines_of lines.now)) }
+    {
+        for line in lines {
+            self.add_line(line)?;
+        }
+        Ok(())
+    }
+}
+
+/// The report on an outcome, line by line.
+pub fn report(alloc: Global, outcome: &Outcome<'_>) -> Result<Vec<u8>, Memory>
+    ensures { IfOk result (λ text. text.items ≡ report_of (outcome_of outcome.now)) }
+{
+    let mut text = Text {
+        bytes: Vec::new(alloc),
+    };
+    text.add_findings(&outcome.findings)?;
+    text.add_lines(&outcome.lines)?;
+    Ok(text.bytes)
+}
