@@ -6,20 +6,19 @@ use Rattle.ports.specs.Output.{Adds}
 use Rattle.itf_reader.proofs.Readings.{one_transfer, one_refusal as one_fault, never_both}
 use Rattle.itf_reader.specs.Forms.{Row}
 use Rattle.itf_reader.specs.Layouts.{form_of}
-use Rattle.itf_reader.specs.Readings.{Structure}
 use Rattle.table_layout.specs.Layouts.{Layout}
 use Rattle.delivery.specs.declared.files.File.{File}
 use Rattle.delivery.specs.declared.status.Status.{Status}
 use Rattle.delivery.specs.declared.status.Status.TheVariants.{ReadFault, WriteFault}
 use Rattle.delivery.specs.Answers.{AgreeLines, AgreeFilings, Agree, Answers, IsStopped, IsAnswer}
-use Rattle.delivery.specs.Commands.{Command, Source, compile, check, limit_of, model_of, further_files, IsCommand}
+use Rattle.delivery.specs.Commands.{Command, Source, compile, check, limit_of, model_of, further_files}
 use Rattle.delivery.specs.Deciding.{Decides, formless, formed}
 use Rattle.delivery.specs.Gathering as gathering
 use Rattle.delivery.specs.Gathering.{Gathered, Reads, ReadsAll, Compiles, Gathers}
-use Rattle.delivery.specs.Judging.{lines_of, findings, objects, IsRowsChecked, faulty, left, clean, IsChecked, at_fault, well_formed, Amounts}
+use Rattle.delivery.specs.Judging.{lines_of, IsRowsChecked, faulty, left, clean, IsChecked, at_fault, well_formed, Amounts}
 use Rattle.delivery.specs.Lines.{Line}
 use Rattle.delivery.specs.ModelTexts.{Refusal, IsRefused, HasLayout}
-use Rattle.delivery.specs.Outcomes.{Filing, Outcome, unread, misbuilt, rejected, accepted, report_of}
+use Rattle.delivery.specs.Outcomes.{Filing, Outcome, misbuilt, report_of}
 use Rattle.delivery.specs.Reading.{IsWhole, IsLonger}
 use Rattle.delivery.proofs.Causes.{by_write}
 use Rattle.delivery.proofs.CommandLemmas.{one_command}

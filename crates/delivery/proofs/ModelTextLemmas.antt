@@ -24,7 +24,6 @@ use Rattle.delivery.specs.declared.model.Reading.TheVariants as readings
 use Rattle.delivery.specs.declared.model.ModelReading.{ModelReading}
 use Rattle.delivery.specs.declared.model.ModelReading.TheVariants as models
 use Rattle.delivery.specs.RefusalViews.{refusal_of, IsReading, IsLaidOut, IsModelReading}
-use Rattle.resolver.specs.Faults.{Fault}
 use Rattle.resolver.specs.Models.{resolved_model}
 use Rattle.resolver.specs.Rules.{first_fault}
 use Rattle.table_layout.specs.Layouts.{Layout}

@@ -1,5 +1,6 @@
 -- A file that is started and then appended to holds what was appended.
-use Rattle.std.proofs.Common.{◌≡◌, ℕ, List, [], ◌++◌, Option, Some, None, Bool, true, false, cond, nat_eq, refl, sym, ap, ◌∙◌, length, take, inl, inr}
+use Rattle.std.proofs.Common.{◌≡◌, ℕ, List, [], ◌++◌, Option, Some, None, Bool, true, false, cond, nat_eq, refl, sym, ap, ◌∙◌, length, take, inl, inr, Result, Ok, Err}
+use Rattle.std.specs.Prelude.{OnOk, OnErr}
 use Rattle.std.specs.Cmp.Lexicographic.{pointwise, nat_list_cmp_total}
 use Rattle.std.specs.FinMap as map
 use Rattle.ports.specs.Files.{Files, Puts, Emptied, Gained, bytes_of}
@@ -46,11 +47,23 @@ gained_front (Some files) (Some held) new name text h k =
     let e : held ≡ map.insert files name [] = cc in
     elim k as (λ z. HoldsFront (Some files) name text new) [
       | inl n ↦ inr (0, n ∙ ap (λ (m : Files). Some m) e)
-      | inr n ↦ inr (n.0, n.1
-          ∙ ap (λ (m : Files). Some (map.insert m name (bytes_of (map.get m name) ++ take n.0 text))) e
-          ∙ ap (λ (o : Option (List ℕ)). Some (map.insert (map.insert files name []) name (bytes_of o ++ take n.0 text))) (got_same files name [])
-          ∙ ap (λ (m : Files). Some m) (insert_twice files name [] (take n.0 text)))
+      | inr n ↦ inr (
+        n.0,
+        n.1
+            ∙ ap (λ (m : Files). Some (map.insert m name (bytes_of (map.get m name) ++ take n.0 text))) e
+            ∙ ap (λ (o : Option (List ℕ)). Some (map.insert (map.insert files name []) name (bytes_of o ++ take n.0 text))) (got_same files name [])
+            ∙ ap (λ (m : Files). Some m) (insert_twice files name [] (take n.0 text)),
+      )
     ]
+
+-- the same of a call that appends the text to the file that was started
+pub filed_after : {A E : Type 0} (r : Result A E) (old mid new : Option Files) (name text : List ℕ) → Puts old name (λ file. []) mid → OnOk r (Puts mid name (λ file. bytes_of file ++ text) new) → OnOk r (Puts old name (λ file. text) new)
+filed_after (Ok x) old mid new name text h k = started old mid new name text h k
+filed_after (Err e) old mid new name text h k = k
+
+pub begun_after : {A E : Type 0} (r : Result A E) (old mid new : Option Files) (name text : List ℕ) → Puts old name (λ file. []) mid → OnOk r (Puts mid name (λ file. bytes_of file ++ text) new) → OnErr r (Gained mid name text new) → HoldsFront old name text new
+begun_after (Ok x) old mid new name text h k g = filed_front old new name text (started old mid new name text h k)
+begun_after (Err e) old mid new name text h k g = gained_front old mid new name text h g
 
 -- all of some bytes is a prefix of them
 pub all_is_prefix : (old : Option (List ℕ)) (bytes : List ℕ) (new : Option (List ℕ)) → Adds old bytes new → AddsPrefix old bytes new

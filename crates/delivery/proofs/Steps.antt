@@ -1,6 +1,6 @@
 -- One step of a call after another.
-use Rattle.std.proofs.Common.{◌≡◌, ℕ, ◌≤◌, List, [], ◌∷◌, ◌++◌, Option, Result, Ok, Err, subst, sym, arith, inl, inr}
-use Rattle.std.specs.Prelude.{IfOk, ◌⊎◌}
+use Rattle.std.proofs.Common.{◌≡◌, ℕ, ◌≤◌, List, [], ◌∷◌, ◌++◌, Option, Result, Ok, Err, refl, subst, sym, arith, inl, inr}
+use Rattle.std.specs.Prelude.{IfOk, IsErrOf}
 use Rattle.ports.specs.Faults.{Rose}
 use Rattle.ports.specs.Files.{Files}
 use Rattle.itf_reader.specs.Layouts.{form_of}
@@ -8,13 +8,19 @@ use Rattle.itf_reader.specs.Refusals.{fault_of, Refuses}
 use Rattle.itf_reader.specs.declared.refusal.ReadRefusal.{ReadRefusal}
 use Rattle.itf_reader.specs.declared.refusal.ReadRefusal.TheVariants as refusals
 use Rattle.table_layout.specs.Layouts.{Layout}
-use Rattle.delivery.specs.Commands.{Command, Source, model_of, further_files}
+use Rattle.delivery.specs.Commands.{Command, compile, Source, limit_of, model_of, further_files}
 use Rattle.delivery.specs.Deciding.{Decides, formless, formed}
-use Rattle.delivery.specs.Ending.{Ends, EndsCommand}
+use Rattle.delivery.specs.Ending.{Ends}
+use Rattle.delivery.specs.Gathering as gathering
 use Rattle.delivery.specs.Gathering.{Gathered, Reads, ReadsAll, Compiles, Gathers}
-use Rattle.delivery.specs.Judging.{lines_of, IsChecked, at_fault}
-use Rattle.delivery.specs.Outcomes.{Outcome}
+use Rattle.delivery.specs.Judging.{lines_of, IsChecked, at_fault, Amounts}
+use Rattle.delivery.specs.Outcomes.{Outcome, compiled}
+use Rattle.delivery.specs.Reading.{IsLonger}
+use Rattle.delivery.specs.ReadRefusals.{IsReadRefusal}
 use Rattle.delivery.specs.RowsRead.{IsStructure}
+use Rattle.delivery.specs.declared.files.File.{File}
+use Rattle.delivery.specs.declared.files.FileRefusal.{FileRefusal}
+use Rattle.delivery.specs.declared.files.FileRefusal.TheVariants.{Failed, TooLong, Memory}
 
 -- what is said of a value that a call gave
 pub if_ok : {A E : Type 0} (P Q : A → Type 0) (r : Result A E) → ((x : A) → P x → Q x) → IfOk r P → IfOk r Q
@@ -65,3 +71,15 @@ module _ (told : Option Files) (near far : List ℕ → Type 0) (counted : (name
   pub decides_on : (words : List (List ℕ)) (o : Outcome) → Decides told near words o → Decides told far words o
   decides_on words o (formless u e) = formless u e
   decides_on words o (formed c g i h a) = formed c g i (gathers_on c g h) a
+
+-- a file that was not read ends the call
+pub not_read_ends : (T : Type 0) (told : Option Files) (counted : List ℕ → Type 0) (f : File) (name : List ℕ) (r : FileRefusal) (o : Outcome) (P : Gathered → List ℕ → Type 0) → (IsErrOf {T = T} (Err r) Failed → counted name) → (IsErrOf {T = T} (Err r) TooLong → IsLonger told name (limit_of f)) → IsReadRefusal f r o
+    → (g : Gathered) × Reads told counted (record { file = f; name = name }) g (P g) × ((c : Command) → Amounts c g o)
+not_read_ends T told counted f name Failed o P a b e = (gathering.unread f, inl (a refl, refl), λ c. e)
+not_read_ends T told counted f name TooLong o P a b e = (gathering.too_long f, inr (inl (b refl, refl)), λ c. e)
+not_read_ends T told counted f name Memory o P a b e = absurd e
+
+-- a compiled model
+pub compile_ends : (told : Option Files) (counted : List ℕ → Type 0) (c : Command) (model : List ℕ) (l : Layout) (o : Outcome) → c ≡ compile model → o ≡ compiled l → Ends told counted c l o
+compile_ends told counted c model l o e h =
+    subst (λ (x : Command). Ends told counted x l o) (sym e) (record { gathered = gathering.texts l []; reads = refl; amounts = h })

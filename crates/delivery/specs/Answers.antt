@@ -1,5 +1,5 @@
 -- What the top call's answer says.
-use Rattle.std.specs.Prelude.{◌≡◌, ◌≢◌, ℕ, List, [], ◌∷◌, Bool, Option, Some, None, is_some, ◌⊎◌, ⊤}
+use Rattle.std.specs.Prelude.{◌≡◌, ◌≢◌, ℕ, List, [], ◌∷◌, Option, Some, None, ◌⊎◌, ⊤}
 use Rattle.ports.specs.Files.{Files}
 use Rattle.ports.specs.Output.{Adds}
 use Rattle.table_layout.specs.Layouts.{Layout}

@@ -51,9 +51,12 @@ limit_of Model = 4194304
 limit_of Transfer = 268435456
 
 -- the model, which is read and compiled first
+abbrev pub model_name : Command → List ℕ
+model_name (compile model) = model
+model_name (check c) = c.model
+
 abbrev pub model_of : Command → Source
-model_of (compile model) = record { file = Model; name = model }
-model_of (check c) = record { file = Model; name = c.model }
+model_of c = record { file = Model; name = model_name c }
 
 -- the files that are read once the model is compiled, in order
 abbrev pub further_files : Command → List Source

@@ -8,7 +8,7 @@ use Rattle.itf_reader.specs.Readings.{Structure, IsRead, IsRefused as IsAtFault}
 use Rattle.table_layout.specs.Layouts.{Layout}
 use Rattle.domain_rules.specs.ValueFindings.{value_findings}
 use Rattle.ident_refs.specs.KeyFindings.{key_findings}
-use Rattle.delivery.specs.Commands.{Check, Command, compile, check}
+use Rattle.delivery.specs.Commands.{Command, compile, check}
 use Rattle.delivery.specs.Gathering as gathering
 use Rattle.delivery.specs.Gathering.{Gathered}
 use Rattle.delivery.specs.Outcomes.{Outcome, unread, too_long, refused, compiled, misbuilt, rejected, areas_later, accepted}

@@ -1,6 +1,6 @@
 -- Report lines of the code, without where they lie in memory.
 use Rattle.std.specs.Prelude.{List, map}
-use Rattle.itf_reader.specs.Findings.{finding_of}
+use Rattle.itf_reader.specs.Findings.{findings_of}
 use Rattle.itf_reader.specs.Refusals.{fault_of}
 use Rattle.itf_reader.specs.declared.findings.Finding as found
 use Rattle.table_layout.specs.Values.{role_view}
@@ -35,4 +35,4 @@ lines_of ls = map line_of ls
 
 -- the lines for findings
 abbrev pub findings_seen : List found.Finding → List Line
-findings_seen fs = map (λ f. lines.finding (finding_of f)) fs
+findings_seen fs = map lines.finding (findings_of fs)

@@ -1,6 +1,5 @@
 -- The lines of a report, and their text.
-use Rattle.std.specs.Prelude.{ℕ, List, [], ◌∷◌, ◌++◌, length, codes, decimal}
-use Rattle.std.specs.List.{flat_map}
+use Rattle.std.specs.Prelude.{ℕ, List, [], ◌++◌, codes, decimal}
 use Rattle.table_layout.specs.Layouts.{Role, Main, AreaLines, SurfaceLines}
 use Rattle.itf_reader.specs.Findings.{Finding, Other, Nothing, Line as ALine, Word as AWord}
 use Rattle.itf_reader.specs.Readings.{Structure}

@@ -2,7 +2,7 @@
 use Rattle.std.specs.Prelude.{◌++◌, Option}
 use Rattle.std.specs.Borrow.{Bor}
 use Rattle.std.specs.Option.{option_map}
-use Rattle.certificate.specs.Views.{views}
+use Rattle.certificate.specs.Spelling.{views}
 use Rattle.table_layout.specs.Layouts.{Table}
 use Rattle.table_layout.specs.Values.{table_view}
 use Rattle.table_layout.specs.declared.layouts.Table as table

@@ -3,7 +3,7 @@ ghost use Rattle.std.specs.Prelude.{◌≡◌, ◌≤◌, IfOk};
 ghost use Rattle.ports.specs.Faults.{NoReadFell, ReadRose};
 ghost use Rattle.table_layout.specs.Valid.{IsValid};
 ghost use Rattle.table_layout.specs.Values.{layout_view};
-ghost use Rattle.delivery.specs.Commands.{check as check_command, model_of};
+ghost use Rattle.delivery.specs.Commands.{check as check_command, model_name};
 ghost use Rattle.delivery.specs.CommandViews.{check_of, command_of as command_seen};
 ghost use Rattle.delivery.specs.Deciding.{Decides};
 ghost use Rattle.delivery.specs.Ending.{Ends, EndsCommand};
@@ -59,7 +59,7 @@ fn decide_compiled<'a, S: Shelf>(
 
 // The name of the model.
 fn model_name<'a>(command: &Command<'a>) -> &'a str
-    ensures { result.now ≡ (model_of (command_seen command.now)).name }
+    ensures { result.now ≡ model_name (command_seen command.now) }
 {
     match command {
         Command::Compile(model) => model,

@@ -1,6 +1,6 @@
 // Outcomes of a call, fixed before anything is written.
 ghost use Rattle.std.specs.Prelude.{◌≡◌, ◌++◌, [], length, map, slice_get, slice_index_or, IfOk, OnOk, Some, None};
-ghost use Rattle.certificate.specs.Views.{views};
+ghost use Rattle.certificate.specs.Spelling.{views};
 ghost use Rattle.itf_reader.specs.Findings.{findings_of};
 ghost use Rattle.itf_reader.specs.Refusals.{fault_of};
 ghost use Rattle.table_layout.specs.Values.{area_view, areas_view, layout_view, table_view, tables_view};
@@ -135,7 +135,10 @@ pub fn compiled<'a>(alloc: Global, layout: &Layout) -> Result<Outcome<'a>, Memor
 pub fn misbuilt<'a>(alloc: Global, line: u32, code: Structure) -> Result<Outcome<'a>, Memory>
     ensures { IfOk result (λ o. outcome_of o ≡ misbuilt line (fault_of code)) }
 {
-    let lines = vec![in alloc; Line::Structure { line, code }, Line::Verdict(Verdict::Rejected)]?;
+    let lines = vec![in alloc;
+        Line::Structure { line, code },
+        Line::Verdict(Verdict::Rejected),
+    ]?;
     Ok(reported(alloc, Status::Rejected, lines))
 }
 
@@ -205,7 +208,7 @@ pub fn areas_later<'a>(alloc: Global, layout: &Layout) -> Result<Outcome<'a>, Me
 
 /// So many objects without a finding, and the certificates for that file.
 pub fn accepted(alloc: Global, objects: u128, filing: Filing<'_>) -> Result<Outcome<'_>, Memory>
-    ensures { IfOk result (λ o. outcome_of o ≡ accepted objects filing.name.now (views filing.certificates.items)) }
+    ensures { IfOk result (λ o. outcome_of o ≡ accepted objects filing.entry.name.now (views filing.entry.certificates.items)) }
 {
     let lines = vec![in alloc; Line::Verdict(Verdict::Accepted(objects))]?;
     Ok(Outcome {

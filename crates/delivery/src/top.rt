@@ -24,49 +24,37 @@ use std::alloc::Global;
 /// memory is the one answer without a cause. It never comes after the first write.
 pub fn run<S: Shelf, K: Sink>(alloc: Global, words: &[Word], shelf: &mut S, out: &mut K) -> Status
     // The cause of the answer: the headline.
-    ensures means {
-        Means (S.held shelf.old) (ReadRose (S.read_faults shelf.old) (S.read_faults shelf.new))
-        words.now result
-    }
+    ensures means { Means (S.held shelf.old) (ReadRose (S.read_faults shelf.old) (S.read_faults shelf.new))
+        words.now result }
 
     // The answer, the output and every file are those of an outcome of the words and the files.
-    ensures does {
-        result ≢ Status.Memory
+    ensures does { result ≢ Status.Memory
         → Does (S.held shelf.old) (ReadRose (S.read_faults shelf.old) (S.read_faults shelf.new))
         words.now result (S.held shelf.new)
         (Rose (S.write_faults shelf.old) (S.write_faults shelf.new))
-        (K.written out.old) (K.written out.new)
-    }
+        (K.written out.old) (K.written out.new) }
 
     // Whatever outcome the words and the files have, the answer and the report are those of an
     // outcome that agrees with it, unless a read or a write failed or the call ran out of memory.
-    ensures exact {
-        (files : Files) → S.held shelf.old ≡ Some files → (outcome : AnyOutcome)
+    ensures exact { (files : Files) → S.held shelf.old ≡ Some files → (outcome : AnyOutcome)
         → Decides (Some files) (ReadRose (S.read_faults shelf.old) (S.read_faults shelf.new))
         words.now outcome
-        → IsAnswer outcome result (K.written out.old) (K.written out.new)
-    }
+        → IsAnswer outcome result (K.written out.old) (K.written out.new) }
 
     // A write fails only where a fault of it was counted.
-    ensures write {
-        result ≡ Status.WriteFault
+    ensures write { result ≡ Status.WriteFault
         → Rose (S.write_faults shelf.old) (S.write_faults shelf.new)
-        ⊎ Rose (K.faults out.old) (K.faults out.new)
-    }
+        ⊎ Rose (K.faults out.old) (K.faults out.new) }
 
     // Out of memory, nothing was written.
-    ensures memory {
-        result ≡ Status.Memory
-        → (S.held shelf.new ≡ S.held shelf.old) × (K.written out.new ≡ K.written out.old)
-    }
+    ensures memory { result ≡ Status.Memory
+        → (S.held shelf.new ≡ S.held shelf.old) × (K.written out.new ≡ K.written out.old) }
 
     // Where no count of faults rose, the answer is that of an outcome, or out of memory.
-    ensures complete {
-        IsFaultless (ReadRose (S.read_faults shelf.old) (S.read_faults shelf.new))
+    ensures complete { IsFaultless (ReadRose (S.read_faults shelf.old) (S.read_faults shelf.new))
         (Rose (S.write_faults shelf.old) (S.write_faults shelf.new))
         (Rose (K.faults out.old) (K.faults out.new))
-        → IsComplete (S.held shelf.old) words.now result
-    }
+        → IsComplete (S.held shelf.old) words.now result }
 
     // No count falls.
     ensures reads { NoReadFell (S.read_faults shelf.old) (S.read_faults shelf.new) }

@@ -4,8 +4,9 @@ ghost use Rattle.std.specs.List.{flat_map};
 ghost use Rattle.table_layout.specs.Values.{role_view};
 ghost use Rattle.itf_reader.specs.Findings.{finding_of, findings_of, other_of};
 ghost use Rattle.itf_reader.specs.Refusals.{fault_of};
-ghost use Rattle.delivery.specs.Lines.{finding as finding_line, file_text, place_text, role_text, other_text, finding_words, table_words, area_text, area_words, structure_words, refusal_words, verdict_text, words_of, line_text, report_of};
+ghost use Rattle.delivery.specs.Lines.{finding as finding_line, file_text, place_text, role_text, other_text, finding_words, table_words, area_text, area_words, structure_words, refusal_words, verdict_text, words_of, line_text};
 ghost use Rattle.delivery.specs.LineViews.{findings_seen, line_of, lines_of, table_of, area_of};
+ghost use Rattle.delivery.specs.Outcomes.{report_of};
 ghost use Rattle.delivery.specs.OutcomeViews.{outcome_of};
 ghost use Rattle.delivery.specs.RefusalViews.{refusal_of};
 
@@ -191,20 +192,21 @@ impl Text {
         self.add(&refusal.word)
     }
 
+    fn add_words_and_count(&mut self, words: &[u8], count: u128) -> Result<(), Memory>
+        ensures { OnOk result (self.new ≡ self.old ++ (words.now ++ decimal count)) }
+    {
+        self.add(words)?;
+        self.add_count(count)
+    }
+
     fn add_verdict(&mut self, verdict: Verdict) -> Result<(), Memory>
         ensures { OnOk result (self.new ≡ self.old ++ verdict_text verdict) }
     {
         match verdict {
-            Verdict::Accepted(objects) => {
-                self.add(b"VERDICT ACCEPTED ")?;
-                self.add_count(objects)
-            }
+            Verdict::Accepted(objects) => self.add_words_and_count(b"VERDICT ACCEPTED ", objects),
             Verdict::Rejected => self.add(b"VERDICT REJECTED"),
             Verdict::Undecided => self.add(b"VERDICT UNDECIDED"),
-            Verdict::Compiled(tables) => {
-                self.add(b"VERDICT COMPILED ")?;
-                self.add_count(tables)
-            }
+            Verdict::Compiled(tables) => self.add_words_and_count(b"VERDICT COMPILED ", tables),
         }
     }
 

@@ -250,7 +250,8 @@ fn certificate(alloc: Global, shelf: &mut MemoryShelf) -> Result<Option<String>,
 fn begins(shelf: &mut MemoryShelf, name: &str, text: &str) -> bool {
     let mut buffer = [0u8; 512];
     match shelf.read(name, 0, &mut buffer) {
-        Ok(length) => text.as_bytes().starts_with(&buffer[..length]) && (0 < length || text.is_empty()),
+        Ok(length) => text.as_bytes().starts_with(&buffer[..length])
+            && (0 < length || text.is_empty()),
         Err(_) => false,
     }
 }

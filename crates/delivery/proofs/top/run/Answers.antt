@@ -1,6 +1,8 @@
-use Rattle.std.proofs.Common.{ℕ, List, inl, inr, ◌∙◌, subst}
+use Rattle.std.proofs.Common.{ℕ, List, Option, inl, inr, ◌∙◌, subst}
 use Rattle.ports.specs.Faults.{ReadRose}
+use Rattle.ports.specs.Files.{Files}
 use Rattle.ports.specs.Output.{Adds, AddsPrefix}
+use Rattle.delivery.specs.Effects.{Begun, Filed}
 use Rattle.delivery.specs.OutcomeViews.{outcome_of}
 use Rattle.delivery.proofs.Causes.{caused, never_memory, not_write_fault}
 use Rattle.delivery.proofs.Steps.{rose_after, rose_before, decides_on}
@@ -14,3 +16,66 @@ returns-clause-exact g c = exactly (g.S.Shelf.held c.args.shelf.now)
     c.args.words.now (outcome_of c.in-Ok.outcome) c.publish.result (g.K.Sink.written c.args.out.now) (g.K.Sink.written c.publish.new.out) c.in-Ok.ensures.outcome
     c.publish.ensures.status
     (λ n. subst (λ (text : List ℕ). Adds (g.K.Sink.written c.args.out.now) text (g.K.Sink.written c.publish.new.out)) (c.deref.ensures.value ∙ c.in-Ok-report.ensures) (c.publish.ensures.text n))
+
+pub returns-clause-means : goal.returns-clause-means
+returns-clause-means g c =
+    caused (g.S.Shelf.held c.args.shelf.now)
+    (ReadRose (g.S.Shelf.read_faults c.args.shelf.now) (g.S.Shelf.read_faults c.publish.new.shelf))
+    c.args.words.now (outcome_of c.in-Ok.outcome) c.publish.result
+    (decides_on (g.S.Shelf.held c.args.shelf.now)
+    (ReadRose (g.S.Shelf.read_faults c.args.shelf.now) (g.S.Shelf.read_faults c.decide.new.shelf))
+    (ReadRose (g.S.Shelf.read_faults c.args.shelf.now) (g.S.Shelf.read_faults c.publish.new.shelf))
+    (λ name r. rose_before (g.S.Shelf.read_faults c.args.shelf.now name) (g.S.Shelf.read_faults c.decide.new.shelf name) (g.S.Shelf.read_faults c.publish.new.shelf name) (c.publish.ensures.reads name) r)
+    c.args.words.now (outcome_of c.in-Ok.outcome) c.in-Ok.ensures.outcome)
+    c.publish.ensures.status
+
+pub returns-clause-does : goal.returns-clause-does
+returns-clause-does g c =
+    let outcome = outcome_of c.in-Ok.outcome in
+    let before = g.K.Sink.written c.args.out.now in
+    let after = g.K.Sink.written c.publish.new.out in
+    let new = g.S.Shelf.held c.publish.new.shelf in
+    let text = c.deref.ensures.value ∙ c.in-Ok-report.ensures in
+    λ m. record {
+      outcome = outcome;
+      decided = decides_on (g.S.Shelf.held c.args.shelf.now)
+          (ReadRose (g.S.Shelf.read_faults c.args.shelf.now) (g.S.Shelf.read_faults c.decide.new.shelf))
+          (ReadRose (g.S.Shelf.read_faults c.args.shelf.now) (g.S.Shelf.read_faults c.publish.new.shelf))
+          (λ name r. rose_before (g.S.Shelf.read_faults c.args.shelf.now name) (g.S.Shelf.read_faults c.decide.new.shelf name) (g.S.Shelf.read_faults c.publish.new.shelf name) (c.publish.ensures.reads name) r)
+          c.args.words.now outcome c.in-Ok.ensures.outcome;
+      answered = c.publish.ensures.status;
+      reported = λ n. subst (λ (bytes : List ℕ). Adds before bytes after) text (c.publish.ensures.text n);
+      begun = subst (λ (bytes : List ℕ). AddsPrefix before bytes after) text c.publish.ensures.prefix;
+      files = subst (λ (told : Option Files). Begun outcome.filing told new) c.in-Ok.ensures.held c.publish.ensures.begun;
+      filed = λ h. subst (λ (told : Option Files). Filed outcome.filing told new) c.in-Ok.ensures.held (elim h as (λ z. Filed outcome.filing (g.S.Shelf.held c.decide.new.shelf) new) [
+        | inl n ↦ c.publish.ensures.filed n
+        | inr k ↦ c.publish.ensures.whole (elim k [
+          | inl f ↦ inl (λ r. f (rose_after (g.S.Shelf.write_faults c.args.shelf.now) (g.S.Shelf.write_faults c.decide.new.shelf) (g.S.Shelf.write_faults c.publish.new.shelf) c.in-Ok.ensures.writes r))
+          | inr e ↦ inr e
+        ])
+      ]);
+    }
+
+pub returns-clause-write : goal.returns-clause-write
+returns-clause-write g c = λ w.
+    elim (c.publish.ensures.cause w (not_write_fault (g.S.Shelf.held c.args.shelf.now) (ReadRose (g.S.Shelf.read_faults c.args.shelf.now) (g.S.Shelf.read_faults c.decide.new.shelf)) c.args.words.now (outcome_of c.in-Ok.outcome) c.in-Ok.ensures.outcome)) [
+      | inl r ↦ inl (rose_after (g.S.Shelf.write_faults c.args.shelf.now) (g.S.Shelf.write_faults c.decide.new.shelf) (g.S.Shelf.write_faults c.publish.new.shelf) c.in-Ok.ensures.writes r)
+      | inr r ↦ inr r
+    ]
+
+pub returns-clause-memory : goal.returns-clause-memory
+returns-clause-memory g c = λ m. absurd (never_memory (g.S.Shelf.held c.args.shelf.now) (ReadRose (g.S.Shelf.read_faults c.args.shelf.now) (g.S.Shelf.read_faults c.decide.new.shelf)) c.args.words.now (outcome_of c.in-Ok.outcome) c.publish.result c.in-Ok.ensures.outcome c.publish.ensures.status m)
+
+pub returns-clause-complete : goal.returns-clause-complete
+returns-clause-complete g c = λ f. inr (
+  outcome_of c.in-Ok.outcome,
+  decides_on (g.S.Shelf.held c.args.shelf.now)
+      (ReadRose (g.S.Shelf.read_faults c.args.shelf.now) (g.S.Shelf.read_faults c.decide.new.shelf))
+      (λ name. ⊥)
+      (λ name r. f.no_read name (rose_before (g.S.Shelf.read_faults c.args.shelf.now name) (g.S.Shelf.read_faults c.decide.new.shelf name) (g.S.Shelf.read_faults c.publish.new.shelf name) (c.publish.ensures.reads name) r))
+      c.args.words.now (outcome_of c.in-Ok.outcome) c.in-Ok.ensures.outcome,
+  c.publish.ensures.status (λ w. elim (c.publish.ensures.cause w (not_write_fault (g.S.Shelf.held c.args.shelf.now) (ReadRose (g.S.Shelf.read_faults c.args.shelf.now) (g.S.Shelf.read_faults c.decide.new.shelf)) c.args.words.now (outcome_of c.in-Ok.outcome) c.in-Ok.ensures.outcome)) [
+    | inl r ↦ f.no_write (rose_after (g.S.Shelf.write_faults c.args.shelf.now) (g.S.Shelf.write_faults c.decide.new.shelf) (g.S.Shelf.write_faults c.publish.new.shelf) c.in-Ok.ensures.writes r)
+    | inr r ↦ f.no_put r
+  ]),
+)

@@ -5,4 +5,4 @@ use Rattle.delivery.specs.LineViews.{findings_seen}
 use Rattle.delivery.proofs.report.text.Text.add_findings.Given as goal
 
 abbrev pub invariant-loop-finding : goal.invariant-loop-finding
-invariant-loop-finding l = l.self.bytes.items ++ flat_map line_text (findings_seen (drop l.finding-index l.findings)) ≡ l.fn.self.bytes.items ++ flat_map line_text (findings_seen l.findings)
+invariant-loop-finding l = l.self ++ flat_map line_text (findings_seen (drop l.finding-index l.findings)) ≡ l.fn.self ++ flat_map line_text (findings_seen l.findings)

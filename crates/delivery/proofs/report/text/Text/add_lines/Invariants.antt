@@ -5,4 +5,4 @@ use Rattle.delivery.specs.LineViews.{lines_of}
 use Rattle.delivery.proofs.report.text.Text.add_lines.Given as goal
 
 abbrev pub invariant-loop-line : goal.invariant-loop-line
-invariant-loop-line l = l.self.bytes.items ++ flat_map line_text (lines_of (drop l.line-index l.lines)) ≡ l.fn.self.bytes.items ++ flat_map line_text (lines_of l.lines)
+invariant-loop-line l = l.self ++ flat_map line_text (lines_of (drop l.line-index l.lines)) ≡ l.fn.self ++ flat_map line_text (lines_of l.lines)
