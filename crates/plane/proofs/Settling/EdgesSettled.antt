@@ -1,0 +1,41 @@
+-- When the edges of a drawing with half arcs settle it: they meet in their ends alone, and nothing enters a tube.
+use Rattle.std.specs.Prelude.{◌≡◌, ◌⊎◌, ℕ, ◌<◌, ◌≤◌, ◌∷◌, length, pos, ◌<ℤ◌}
+use Rattle.plane.specs.declared.kinds.Point.{Point}
+use Rattle.plane.specs.Lists.{Has}
+use Rattle.plane.specs.Forms.Vectors.{point}
+use Rattle.plane.specs.Rule.HalfArcs.{bow}
+use Rattle.plane.specs.Rule.Curves.{arc}
+use Rattle.plane.specs.Rule.Plans.{Plan, curve}
+use Rattle.plane.specs.Forms.Meets.{IsEnd, Disjoint, Touch}
+use Rattle.plane.specs.Rule.BadPairs.{IsEndOf, HaveSameEnds}
+use Rattle.plane.specs.Faces.Halves.{Half, edge_of, twin}
+use Rattle.plane.specs.Tubes.Bays.{Bay}
+use Rattle.plane.specs.Tubes.Windings.{Triangle, InTriangle, IsCornerOf}
+use Rattle.plane.proofs.Settling.EdgesAndTubes.{EdgeList, IsStraight, IsHalfArc, tiles_of}
+use Rattle.plane.proofs.Settling.TubeRules.{inner_halves, outer_halves}
+use Rattle.plane.specs.CurveRuns.TubedRuns.{tube_label}
+
+-- That all half arcs have tubes is part of what makes them the edges of the drawing.
+pub record IsSettled (d : Plan) (l : EdgeList) : Type 0 where
+  -- Every two edges share no place, or one end and nothing else.
+  pub meet : (e f : ℕ) → e < l.edges → f < l.edges → (e ≡ f → ⊥) → Disjoint (l.edge e) (l.edge f) ⊎ Touch (l.edge e) (l.edge f)
+  -- No end of an edge lies in a triangle of a tube except as a corner of it.
+  pub enter : (e : ℕ) → e < l.edges → (p : Point) → IsEnd (l.edge e) p → (i : ℕ) → IsHalfArc d i → (t : Triangle) → Has t (tiles_of (l.tube i)) → InTriangle t (point p) → IsCornerOf t p
+  -- A corner of a tube other than the ends of its half arc is an end of that tube's edges alone.
+  pub own : (i : ℕ) → IsHalfArc d i → (h : Half) → Has h (l.tube i).halves → (p : Point) → IsEnd (l.edge (edge_of h)) p → IsEndOf (curve d i) p ⊎ ((e : ℕ) → e < l.edges → IsEnd (l.edge e) p → l.owner e ≡ i)
+  -- Where a straight joins the ends of a half arc, the inner corners of the tube but the half arc's ends stand strictly over the chord.
+  pub chord : (i j : ℕ) → IsStraight d i → IsHalfArc d j → HaveSameEnds (curve d i) (curve d j) → (b : Bay) → Has b ((l.tube j).bay ∷ (l.tube j).bays) → IsEndOf (curve d j) b.inner ⊎ (pos 0 <ℤ bow (arc (curve d j)) (point b.inner))
+
+-- What face numbers say of the tube of half arc i: the half-edges that face it from within have one number, which no others have and
+-- which is not that of the outer face; on their other side those of the inner chain have one number, and those of the outer chain too.
+pub record AreTubeFaces (l : EdgeList) (face : Half → ℕ) (i : ℕ) : Type 0 where
+  pub one : (g f : Half) → Has g (l.tube i).halves → Has f (l.tube i).halves → face g ≡ face f
+  pub own : (g f : Half) → Has g (l.tube i).halves → edge_of f < l.edges → face g ≡ face f → Has f (l.tube i).halves
+  pub bounded : (g : Half) → Has g (l.tube i).halves → face g ≡ 0 → ⊥
+  pub inner : (g f : Half) → Has g (inner_halves (l.tube i).halves) → Has f (inner_halves (l.tube i).halves) → face (twin g) ≡ face (twin f)
+  pub outer : (g f : Half) → Has g (outer_halves (l.tube i).halves) → Has f (outer_halves (l.tube i).halves) → face (twin g) ≡ face (twin f)
+
+-- The face numbers are those of a certificate: those of the inside of a tube are its label, all others at most the number of points.
+pub record AreNamed (d : Plan) (l : EdgeList) (face : Half → ℕ) : Type 0 where
+  pub tubes : (i : ℕ) → IsHalfArc d i → (g : Half) → Has g (l.tube i).halves → face g ≡ tube_label d i
+  pub rest : (f : Half) → edge_of f < l.edges → (face f ≤ length d.points) ⊎ ((i : ℕ) × IsHalfArc d i × (face f ≡ tube_label d i))

@@ -1,0 +1,112 @@
+-- Parity: counts of edges over a place, along the vertical and along the sweep line.
+-- Chosen edges are told by their numbers.
+use Rattle.std.specs.Prelude.{◌≡◌, ℕ, zero, suc, ◌+◌, Bool, true, false, cond, List, [], ◌∷◌, ℤ, pos, ◌*ℤ◌, ◌-ℤ◌}
+use Rattle.plane.specs.declared.kinds.Point.{Point}
+use Rattle.plane.specs.Faces.Labels.{Labels}
+use Rattle.plane.specs.Faces.Cells.{is_positive}
+use Rattle.plane.specs.Forms.Vectors.{Vector, point, Edge, side, sweep}
+
+abbrev pub flip : Bool → Bool
+flip true = false
+flip false = true
+
+abbrev pub both : Bool → Bool → Bool
+both true b = b
+both false b = false
+
+abbrev pub differ : Bool → Bool → Bool
+differ true b = flip b
+differ false b = b
+
+-- whether an odd number of elements pass the test
+abbrev pub parity : {X : Type 0} → (X → Bool) → List X → Bool
+parity p [] = false
+parity p (x ∷ xs) = differ (p x) (parity p xs)
+
+-- p is right of the vertical of z
+unfoldable pub is_right : Point → Vector → Bool
+is_right p z = is_positive ((p.x *ℤ z.n) -ℤ z.x)
+
+-- p comes after z on the sweep
+unfoldable pub is_after : ℤ → Point → Vector → Bool
+is_after w p z = is_positive ((sweep w (point p) *ℤ z.n) -ℤ sweep w z)
+
+-- z is strictly below the line of e
+unfoldable pub is_under : Edge → Vector → Bool
+is_under e z = is_positive (pos 0 -ℤ side e z)
+
+-- low.x <= x < high.x, and z strictly below e
+abbrev pub crosses_vertical : Vector → Edge → Bool
+crosses_vertical z e = both (flip (is_right e.low z)) (both (is_right e.high z) (is_under e z))
+
+-- the same along the sweep line
+abbrev pub crosses_sweep : ℤ → Vector → Edge → Bool
+crosses_sweep w z e = both (flip (is_after w e.low z)) (both (is_after w e.high z) (is_under e z))
+
+-- between the vertical upwards from z and its sweep line upwards
+abbrev pub in_wedge : ℤ → Vector → Point → Bool
+in_wedge w z p = both (flip (is_right p z)) (is_after w p z)
+
+-- the ends of the edges, each as often as it is one
+abbrev pub ends_of : List Edge → List Point
+ends_of [] = []
+ends_of (e ∷ es) = e.low ∷ (e.high ∷ ends_of es)
+
+abbrev pub same_whole : ℤ → ℤ → Bool
+same_whole a b = both (flip (is_positive (a -ℤ b))) (flip (is_positive (b -ℤ a)))
+
+unfoldable pub same_point : Point → Point → Bool
+same_point p q = both (same_whole p.x q.x) (same_whole p.y q.y)
+
+-- each point is the end of an even number of the edges
+abbrev pub EvenEnds : List Edge → Type 0
+EvenEnds es = (p : Point) → parity (same_point p) (ends_of es) ≡ false
+
+-- so many elements pass the test
+abbrev pub one_if : Bool → ℕ
+one_if true = 1
+one_if false = 0
+
+abbrev pub tally : {X : Type 0} → (X → Bool) → List X → ℕ
+tally p [] = 0
+tally p (x ∷ xs) = one_if (p x) + tally p xs
+
+abbrev pub Even : ℕ → Type 0
+Even n = (k : ℕ) × (n ≡ k + k)
+
+abbrev pub Odd : ℕ → Type 0
+Odd n = (k : ℕ) × (n ≡ suc (k + k))
+
+-- ---- numbers, and edges chosen by number
+abbrev pub numbers_below : ℕ → List ℕ
+numbers_below zero = []
+numbers_below (suc m) = m ∷ numbers_below m
+
+abbrev pub same_number : ℕ → ℕ → Bool
+same_number zero zero = true
+same_number zero (suc b) = false
+same_number (suc a) zero = false
+same_number (suc a) (suc b) = same_number a b
+
+abbrev pub either : Bool → Bool → Bool
+either true b = true
+either false b = b
+
+abbrev pub among : List ℕ → ℕ → Bool
+among [] e = false
+among (x ∷ xs) e = either (same_number x e) (among xs e)
+
+-- the edges with numbers below m that are chosen
+abbrev pub chosen : (ℕ → Bool) → ℕ → (ℕ → Edge) → List Edge
+chosen c zero E = []
+chosen c (suc m) E = cond (c m) (E m ∷ chosen c m E) (chosen c m E)
+
+-- whether an odd number of the edges after the first i are chosen
+abbrev pub parity_over : (ℕ → Bool) → ℕ → List ℕ → Bool
+parity_over c zero es = parity c es
+parity_over c (suc i) [] = false
+parity_over c (suc i) (e ∷ es) = parity_over c i es
+
+-- the two sides of an edge have different labels, one of which is f
+abbrev pub one_side : Labels → ℕ → ℕ → Bool
+one_side a f e = differ (same_number f (a.below e)) (same_number f (a.above e))
