@@ -1,5 +1,5 @@
 -- Places on curves of both kinds: equal places, segments of one place, and control points.
-use Rattle.std.proofs.Common.{◌↔◌, inl, inr, arith}
+use Rattle.std.proofs.Common.{◌≡◌, ◌↔◌, inl, inr, arith, sym, ◌∙◌, subst}
 use Rattle.std.proofs.lemmas.Int.{ints}
 use Rattle.plane.specs.declared.kinds.Curve.{Curve}
 use Rattle.plane.specs.declared.kinds.CurveKind.{CurveKind}
@@ -10,6 +10,14 @@ use Rattle.plane.specs.Rule.Curves.{arc, IsOnKind, HitsKind, IsOn, Hits, IsContr
 use Rattle.plane.proofs.Linear.EdgePlaces.{place_point}
 use Rattle.plane.proofs.Covers.SamePlace.{same_refl, same_sym, on_straight_same, first_on, last_on, segment_same}
 use Rattle.plane.proofs.Covers.HalfArcPlaces.{not_inside_same, not_outside_same, away_same, on_half_arc_same, level, from_on, to_on}
+
+-- no curve is of both kinds
+pub no_kind : (k : CurveKind) → k ≡ kind.Straight → k ≡ kind.HalfArc → ⊥
+no_kind k e f = subst IsBent (sym f ∙ e) tt
+  where
+    IsBent : CurveKind → Type 0
+    IsBent kind.Straight = ⊥
+    IsBent kind.HalfArc = Unit {0}
 
 on_kind_same : (k : CurveKind) (c : Curve) (z m : Vector) → Place z → Place m → Same z m → IsOnKind k c z → IsOnKind k c m
 on_kind_same kind.Straight c z m Z M h on = on_straight_same (point c.from) (point c.to) z m (place_point c.from) (place_point c.to) Z M (same_sym z m h) on

@@ -30,7 +30,7 @@ use Rattle.plane.proofs.OneTube.TubeStrips.{tube_cap}
 use Rattle.plane.proofs.TubedRuns.OwnedEdges.{owner_is}
 use Rattle.plane.proofs.TubedRuns.ArcEdges.{at_ends}
 use Rattle.plane.proofs.TubedRuns.RunTubes.{are_tubes, arc_fits, arc_bent, edge_in_tube, tube_owner, tube_places}
-use Rattle.plane.proofs.TubedRuns.TubedCurves.{way_between, part_hits, two_kinds, tube_of, hits_bent}
+use Rattle.plane.proofs.TubedRuns.TubedCurves.{way_between, part_hits, tube_of, hits_bent}
 use Rattle.plane.proofs.TubedRuns.TubedOff.{in_its_tube}
 use Rattle.plane.proofs.TubedRuns.TubedLabels.{off_label}
 use Rattle.plane.proofs.TubePaths.Extended.{label_kept}
@@ -38,6 +38,7 @@ use Rattle.plane.proofs.HalfArcs.AfterArcs.{after_misses}
 use Rattle.plane.proofs.HalfArcs.ArcEntries.{IsInnerEntry, IsOuterEntry, IsThroughEnd, inner_entry, outer_entry}
 use Rattle.plane.proofs.TubePaths.LoneTubeEnds.{lone_end}
 use Rattle.plane.proofs.TubePaths.ThroughEnds.{IsFreeBut, one_tube, label_there}
+use Rattle.plane.proofs.Covers.CurvePlaces.{no_kind}
 
 -- a part of a segment
 pub part_way : (p q a b z : Vector) → IsOnWay p q a → IsOnWay p q b → IsOnWay a b z → IsOnWay p q z
@@ -92,7 +93,7 @@ module _ (w : ℤ) (d : Plan) (bays : ℕ → List Bay) (m : ℕ) (E : ℕ → E
   free_but : IsFreeBut r T (MeetsArc d) c p q
   free_but = record {
     straights = λ z a e k on. elim (owner_is d bays m E steps is e k) [
-      | inl s ↦ absurd (x.clear s.index s.fits (λ j. two_kinds (curve d i).kind (subst (λ (n : ℕ). (curve d n).kind ≡ kind.Straight) j s.straight) bent)
+      | inl s ↦ absurd (x.clear s.index s.fits (λ j. no_kind (curve d i).kind (subst (λ (n : ℕ). (curve d n).kind ≡ kind.Straight) j s.straight) bent)
           (hits_curve w (E e) (curve d s.index) p q s.edge s.straight (swept.rises e k) P Q (record { z = z; place = way_place p q z P Q a; between = way_between p q z a; on = on })))
       | inr b ↦
           let y = tube_of w d bays m E steps lab within inside outside swept is L b.index b.fits b.bent in

@@ -37,11 +37,12 @@ use Rattle.plane.proofs.TubedRuns.HalfArcLists.{decide_kind}
 use Rattle.plane.proofs.TubedRuns.OwnedEdges.{owner_is, straight_edge}
 use Rattle.plane.proofs.OneTube.ArcEnds.{not_arc_end, not_arc_tip}
 use Rattle.plane.proofs.TubedRuns.RunTubes.{are_tubes, tubes_cover, arc_bent, tube_owner}
-use Rattle.plane.proofs.TubedRuns.TubedCurves.{tube_of, bent_hits, two_kinds}
+use Rattle.plane.proofs.TubedRuns.TubedCurves.{tube_of, bent_hits}
 use Rattle.plane.proofs.TubedRuns.TubedOff.{label_off}
 use Rattle.plane.proofs.TubePaths.TubedSides.{are_sides}
 use Rattle.plane.proofs.TubePaths.WaysOut.{beside_label, tube_label_of, free_label}
 use Rattle.plane.proofs.TubePaths.Exits.{way_between, same_start}
+use Rattle.plane.proofs.Covers.CurvePlaces.{no_kind}
 
 module _ (w : ℤ) (d : Plan) (bays : ℕ → List Bay) (m : ℕ) (E : ℕ → Edge) (steps : List Step) (lab : Labels) (within : ℕ → Half) (inside outside : ℕ → ℕ)
     (swept : WeighedRun w m E steps) (is : IsTubedRun d bays m E steps) (L : AreTubeLabels d bays (replay w m E steps) lab within inside outside) where
@@ -135,7 +136,7 @@ module _ (w : ℤ) (d : Plan) (bays : ℕ → List Bay) (m : ℕ) (E : ℕ → E
       Z = way_place p q z P Q on_way
 
       not_its : (h : Half) → Has h (T.halves c) → edge_of h ≡ e → ⊥
-      not_its h k y = two_kinds (curve d i).kind straight (subst (λ (n : ℕ). (curve d n).kind ≡ kind.HalfArc) (sym (sym own ∙ ap (λ (f : ℕ). (owned d bays f).curve) (sym y) ∙ tube_owner w d bays m E steps lab within inside outside swept is L c lc h k)) (arc_bent w d bays m E steps lab within inside outside swept is L c lc))
+      not_its h k y = no_kind (curve d i).kind straight (subst (λ (n : ℕ). (curve d n).kind ≡ kind.HalfArc) (sym (sym own ∙ ap (λ (f : ℕ). (owned d bays f).curve) (sym y) ∙ tube_owner w d bays m E steps lab within inside outside swept is L c lc h k)) (arc_bent w d bays m E steps lab within inside outside swept is L c lc))
 
       alone : (f : ℕ) → f < m → On w (E f) z → f ≡ e
       alone f lf on = only z on_way f lf on

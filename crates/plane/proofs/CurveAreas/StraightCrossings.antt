@@ -37,7 +37,7 @@ use Rattle.plane.proofs.Covers.CurvePlaces.{control_on, hits_alone}
 use Rattle.plane.proofs.FaceLemmas.Drawn.{hits_curve, hits_edge}
 use Rattle.plane.proofs.TubedRuns.OwnedEdges.{owner_is, straight_edge}
 use Rattle.plane.proofs.TubedRuns.RunTubes.{are_tubes, arc_fits, arc_bent, edge_in_tube}
-use Rattle.plane.proofs.TubedRuns.TubedCurves.{tube_of, free_clear, part_hits, bent_hits, two_kinds}
+use Rattle.plane.proofs.TubedRuns.TubedCurves.{tube_of, free_clear, part_hits, bent_hits}
 use Rattle.plane.proofs.TubedRuns.TubedLabels.{clear_label}
 use Rattle.plane.proofs.TubePaths.TubedSides.{are_sides}
 use Rattle.plane.proofs.TubePaths.WaysOut.{cell_label, tube_label_of, way_within}
@@ -45,6 +45,7 @@ use Rattle.plane.proofs.TubePaths.Exits.{way_between}
 use Rattle.plane.proofs.FaceLemmas.SmallSteps.{near}
 use Rattle.plane.proofs.HalfArcs.NearMisses.{near_is_place, others_missed}
 use Rattle.plane.proofs.Algebra.Ring.{Expr, at, num, plus, times, vars, ring}
+use Rattle.plane.proofs.Covers.CurvePlaces.{no_kind}
 
 -- two edges that run against each other do not both rise
 against : (w : ℤ) (a b : Edge) → a.low ≡ b.high → a.high ≡ b.low → pos 0 <ℤ rise w a → pos 0 <ℤ rise w b → ⊥
@@ -142,7 +143,7 @@ module _ (w : ℤ) (d : Plan) (bays : ℕ → List Bay) (m : ℕ) (E : ℕ → E
     no_arc : (c : ℕ) → c < T.count → (u v : Vector) → IsOnWay p q u → IsOnWay p q v → MeetsArc d c u v → ⊥
     no_arc c lc u v a b hit =
         let bent = arc_bent w d bays m E steps lab within inside outside swept is L c lc in
-        cross.clear (arc_at d c) (arc_fits w d bays m E steps lab within inside outside swept is L c lc) (λ k. two_kinds (curve d i).kind straight (subst (λ (y : ℕ). (curve d y).kind ≡ kind.HalfArc) k bent))
+        cross.clear (arc_at d c) (arc_fits w d bays m E steps lab within inside outside swept is L c lc) (λ k. no_kind (curve d i).kind straight (subst (λ (y : ℕ). (curve d y).kind ≡ kind.HalfArc) k bent))
         (subst (λ (k : CurveKind). HitsKind k (curve d (arc_at d c)) p q) (sym bent) (part_hits (arc (curve d (arc_at d c))) p q u v P Q a b hit))
 
     -- ---- the place where the segment crosses the straight
@@ -175,7 +176,7 @@ module _ (w : ℤ) (d : Plan) (bays : ℕ → List Bay) (m : ℕ) (E : ℕ → E
         let there = wall_in r lab (T.label t.0) (T.first t.0) (T.bay t.0) (T.bays t.0) (T.halves t.0) (all.tube t.0 t.1) t.2 t.3 z Z (swept.rises (edge_of t.2) lh) on_h in
         let bent = arc_bent w d bays m E steps lab within inside outside swept is L t.0 t.1 in
         let fits = arc_fits w d bays m E steps lab within inside outside swept is L t.0 t.1 in
-        let differ : i ≡ arc_at d t.0 → ⊥ = λ k. two_kinds (curve d i).kind straight (subst (λ (y : ℕ). (curve d y).kind ≡ kind.HalfArc) (sym k) bent) in
+        let differ : i ≡ arc_at d t.0 → ⊥ = λ k. no_kind (curve d i).kind straight (subst (λ (y : ℕ). (curve d y).kind ≡ kind.HalfArc) (sym k) bent) in
         let c = (straight_arc w d bays m E steps lab within inside outside swept is L i (arc_at d t.0) l fits differ straight bent e t.0 le own its_edge_is t.1 refl z Z met.2 there).1 in
         no_arc t.0 t.1 z z met.1 met.1 (bent_hits w d bays m E steps lab within inside outside swept is L (arc_at d t.0) z z bent ((hits_alone (curve d (arc_at d t.0)) z Z).1 (control_on (curve d (arc_at d t.0)) z Z c)))
 

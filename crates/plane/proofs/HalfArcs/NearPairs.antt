@@ -16,7 +16,7 @@ use Rattle.plane.specs.Forms.Boxes.{Box, InBox, GoesBeyond, size, sides, HoldsCu
 use Rattle.plane.proofs.Linear.EdgePlaces.{place_point}
 use Rattle.plane.proofs.Covers.SamePlace.{first_on, last_on}
 use Rattle.plane.proofs.Covers.NotApart.{on_sixteenths}
-use Rattle.plane.proofs.Settling.CurveCovers.{no_kind}
+use Rattle.plane.proofs.Covers.CurvePlaces.{no_kind}
 use Rattle.plane.proofs.HalfArcs.Boxes.{point_in, straight_in_box}
 use Rattle.plane.proofs.HalfArcs.ArcReach.{size_least, ends_in_cap, flat_cap_in_box, circle_in_box, side_in_box}
 

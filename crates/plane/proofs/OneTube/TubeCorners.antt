@@ -11,7 +11,7 @@ use Rattle.plane.specs.Tubes.Windings.{arrow, Triangle, weighed, InTriangle, str
 use Rattle.plane.proofs.Algebra.Scaling.{times_le, cancel_le}
 use Rattle.plane.proofs.Algebra.Ring.{Expr, at, num, plus, minus, times, vars, ring}
 use Rattle.plane.proofs.Caps.Seen.{seen_same}
-use Rattle.plane.proofs.Windings.TubeTiles.{AtArrow}
+use Rattle.plane.proofs.Windings.TileCorners.{AtArrow}
 
 -- ---- how far along the chord the places of a triangle lie
 along-weighed : (h : HalfArc) (r : ℤ) (a : Point) (s : ℤ) (b : Point) (t : ℤ) (c : Point)

@@ -28,7 +28,8 @@ use Rattle.plane.proofs.Settling.SettledRuns.{level_settled}
 use Rattle.plane.proofs.Settling.SettledFaces.{connected_faces, no_border}
 use Rattle.plane.proofs.TubedRuns.TubedWeights.{labels_to, curves_apart}
 use Rattle.plane.proofs.TubedRuns.TubedEdges.{half_curve}
-use Rattle.plane.proofs.Settling.RunFaces.{mark_is, tube_arc, arc_part, has_half, half_is, labels_settle}
+use Rattle.plane.proofs.Settling.RunFaces.{mark_is, tube_arc, arc_part, has_half, half_is}
+use Rattle.plane.proofs.Settling.LabelsSettle.{labels_settle}
 
 -- two numbers are equal where each is the other as far as it is above 0
 both_ways : (a b : ℕ) → ((i : ℕ) → a ≡ suc i → b ≡ suc i) → ((i : ℕ) → b ≡ suc i → a ≡ suc i) → a ≡ b

@@ -1,5 +1,5 @@
 -- The edges that stand for a drawing with half arcs: one for each straight, and for each half arc the bounds of its tube.
-use Rattle.std.specs.Prelude.{◌≡◌, ◌⊎◌, ℕ, ◌+◌, ◌<◌, List, ◌∷◌, map, cond, length, pos, ◌<ℤ◌}
+use Rattle.std.specs.Prelude.{◌≡◌, ◌⊎◌, ℕ, ◌<◌, List, ◌∷◌, map, cond, length, pos, ◌<ℤ◌}
 use Rattle.plane.specs.declared.kinds.Curve.{Curve}
 use Rattle.plane.specs.declared.kinds.CurveKind.TheVariants as kind
 use Rattle.plane.specs.Lists.{Has, Once}
@@ -56,10 +56,6 @@ pub record IsStraight (d : Plan) (i : ℕ) : Type 0 where
 pub record IsHalfArc (d : Plan) (i : ℕ) : Type 0 where
   pub there : i < length d.curves
   pub kind : (curve d i).kind ≡ kind.HalfArc
-
--- The half-edge faces the tube of some half arc from within.
-abbrev pub FacesTube : Plan → EdgeList → Half → Type 0
-FacesTube d l h = (i : ℕ) × IsHalfArc d i × Has h (l.tube i).halves
 
 -- They are the edges of the drawing: all half arcs have tubes, and each edge belongs to one straight or one tube.
 pub record IsEdgeList (d : Plan) (l : EdgeList) : Type 0 where

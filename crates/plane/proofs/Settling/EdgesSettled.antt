@@ -1,5 +1,5 @@
 -- When the edges of a drawing with half arcs settle it: they meet in their ends alone, and nothing enters a tube.
-use Rattle.std.specs.Prelude.{◌≡◌, ◌⊎◌, ℕ, ◌<◌, ◌≤◌, ◌∷◌, length, pos, ◌<ℤ◌}
+use Rattle.std.specs.Prelude.{◌≡◌, ◌⊎◌, ℕ, ◌<◌, List, [], ◌∷◌, pos, ◌<ℤ◌}
 use Rattle.plane.specs.declared.kinds.Point.{Point}
 use Rattle.plane.specs.Lists.{Has}
 use Rattle.plane.specs.Forms.Vectors.{point}
@@ -12,8 +12,6 @@ use Rattle.plane.specs.Faces.Halves.{Half, edge_of, twin}
 use Rattle.plane.specs.Tubes.Bays.{Bay}
 use Rattle.plane.specs.Tubes.Windings.{Triangle, InTriangle, IsCornerOf}
 use Rattle.plane.proofs.Settling.EdgesAndTubes.{EdgeList, IsStraight, IsHalfArc, tiles_of}
-use Rattle.plane.proofs.Settling.TubeRules.{inner_halves, outer_halves}
-use Rattle.plane.specs.CurveRuns.TubedRuns.{tube_label}
 
 -- That all half arcs have tubes is part of what makes them the edges of the drawing.
 pub record IsSettled (d : Plan) (l : EdgeList) : Type 0 where
@@ -26,6 +24,17 @@ pub record IsSettled (d : Plan) (l : EdgeList) : Type 0 where
   -- Where a straight joins the ends of a half arc, the inner corners of the tube but the half arc's ends stand strictly over the chord.
   pub chord : (i j : ℕ) → IsStraight d i → IsHalfArc d j → HaveSameEnds (curve d i) (curve d j) → (b : Bay) → Has b ((l.tube j).bay ∷ (l.tube j).bays) → IsEndOf (curve d j) b.inner ⊎ (pos 0 <ℤ bow (arc (curve d j)) (point b.inner))
 
+-- Of the half-edges that face a tube, in the order of its bounds: those of the inner chain, and those of the outer chain.
+abbrev pub inner_halves : List Half → List Half
+inner_halves [] = []
+inner_halves (g ∷ []) = []
+inner_halves (g ∷ (h ∷ rest)) = g ∷ inner_halves rest
+
+abbrev pub outer_halves : List Half → List Half
+outer_halves [] = []
+outer_halves (g ∷ []) = g ∷ []
+outer_halves (g ∷ (h ∷ rest)) = h ∷ outer_halves rest
+
 -- What face numbers say of the tube of half arc i: the half-edges that face it from within have one number, which no others have and
 -- which is not that of the outer face; on their other side those of the inner chain have one number, and those of the outer chain too.
 pub record AreTubeFaces (l : EdgeList) (face : Half → ℕ) (i : ℕ) : Type 0 where
@@ -34,8 +43,3 @@ pub record AreTubeFaces (l : EdgeList) (face : Half → ℕ) (i : ℕ) : Type 0 
   pub bounded : (g : Half) → Has g (l.tube i).halves → face g ≡ 0 → ⊥
   pub inner : (g f : Half) → Has g (inner_halves (l.tube i).halves) → Has f (inner_halves (l.tube i).halves) → face (twin g) ≡ face (twin f)
   pub outer : (g f : Half) → Has g (outer_halves (l.tube i).halves) → Has f (outer_halves (l.tube i).halves) → face (twin g) ≡ face (twin f)
-
--- The face numbers are those of a certificate: those of the inside of a tube are its label, all others at most the number of points.
-pub record AreNamed (d : Plan) (l : EdgeList) (face : Half → ℕ) : Type 0 where
-  pub tubes : (i : ℕ) → IsHalfArc d i → (g : Half) → Has g (l.tube i).halves → face g ≡ tube_label d i
-  pub rest : (f : Half) → edge_of f < l.edges → (face f ≤ length d.points) ⊎ ((i : ℕ) × IsHalfArc d i × (face f ≡ tube_label d i))

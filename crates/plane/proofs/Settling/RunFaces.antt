@@ -1,4 +1,4 @@
--- A settled run: what face numbers say of its tubes, the labels that they give, and that a certificate's labels settle a run.
+-- A settled run: what face numbers say of its tubes, and the labels that they give.
 use Rattle.std.proofs.Common.{◌≡◌, ℕ, suc, ◌+◌, ◌<◌, ◌≤◌, Bool, true, false, List, [], ◌∷◌, ◌++◌, map, length, ℤ, ◌⊎◌, inl, inr, refl, arith, ap, sym, ◌∙◌, subst}
 use Rattle.plane.specs.declared.kinds.CurveKind.TheVariants as kind
 use Rattle.plane.specs.Lists.{Has}
@@ -7,30 +7,26 @@ use Rattle.plane.specs.Rule.Plans.{Plan, curve}
 use Rattle.plane.specs.Runs.Steps.{Step, WeighedRun}
 use Rattle.plane.specs.Faces.Replays.{replay}
 use Rattle.plane.specs.Faces.Halves.{Half, under, over, edge_of, twin, mark}
-use Rattle.plane.specs.Faces.Labels.{Labels}
 use Rattle.plane.specs.Faces.Classes.{IsFaces, numbers}
 use Rattle.plane.specs.Tubes.Bays.{Bay}
 use Rattle.plane.specs.Tubes.Bays as one
 use Rattle.plane.specs.CurveRuns.TubedRuns.{Part, whole, inner, outer, Owned, owned, IsOfTube, IsTubedRun, third_is_left, half_within, first_edge, tube_edges, onward_edges, backward_edges, tube_label}
 use Rattle.plane.specs.CurveRuns.TubedRuns as tubed
-use Rattle.plane.proofs.Settling.EdgesAndTubes.{EdgeList, IsHalfArc, FacesTube, IsEdgeList, level}
-use Rattle.plane.proofs.Settling.TubeRules.{inner_halves, outer_halves, AreTubeLabels}
-use Rattle.plane.proofs.Settling.EdgesSettled.{IsSettled, AreTubeFaces}
+use Rattle.plane.proofs.Settling.EdgesAndTubes.{EdgeList, IsHalfArc, IsEdgeList, level}
+use Rattle.plane.proofs.Settling.EdgesSettled.{inner_halves, outer_halves, IsSettled, AreTubeFaces}
 use Rattle.plane.specs.CurveRuns.Levels.{AreWide, IsSettledRun, AreFacesOfTubes, AreCertificateNumbers, beside_inner, beside_outer}
-use Rattle.plane.proofs.Settling.CurveCovers.{no_kind}
-use Rattle.plane.proofs.Windings.Ways.{half_or_twin}
+use Rattle.plane.proofs.Covers.CurvePlaces.{no_kind}
 use Rattle.plane.proofs.FaceLemmas.FaceNumbers.{faces_matched}
 use Rattle.plane.proofs.Windings.Whole.{IsWhole, swept_whole}
 use Rattle.plane.proofs.TubedRuns.TubeBounds.{IsAmong}
 use Rattle.plane.proofs.TubedRuns.OwnedEdges.{owner_is}
 use Rattle.plane.proofs.TubedRuns.FacingHalves.{faces}
-use Rattle.plane.proofs.TubedRuns.FacedTubes.{edge_twin, one_faces}
+use Rattle.plane.proofs.TubedRuns.FacedTubes.{edge_twin}
 use Rattle.plane.proofs.TubedRuns.TubeNumbers.{tube_among}
 use Rattle.plane.proofs.TubedRuns.ArcEdges.{its_curve, below_m, inner_owner, outer_owner}
 use Rattle.plane.proofs.TubedRuns.TubedEdges.{half_from, facing, half_curve}
 use Rattle.plane.proofs.Settling.RunLevels.{run_edges}
-use Rattle.plane.proofs.Settling.SettledRuns.{own, level_settled, run_settled, some}
-use Rattle.plane.proofs.Settling.SettledRules.{settled}
+use Rattle.plane.proofs.Settling.SettledRuns.{level_settled, some}
 use Rattle.plane.proofs.Settling.TubeFaces.{chains, tube_faces}
 
 -- ---- every second number of a list, from the first one on and from the second one on
@@ -293,59 +289,3 @@ module _ (d : Plan) (bays : ℕ → List Bay) (m : ℕ) (E : ℕ → Edge) (step
         inner_chain = λ e k p. mark_is face (twin (within e)) ∙ inner_first e k p;
         outer_chain = λ e k p. mark_is face (twin (within e)) ∙ outer_first e k p;
       }
-
-  -- ---- a certificate's labels settle the run
-  module _ (w : ℤ) (swept : WeighedRun w m E steps) (lab : Labels) (fits : ℕ → Half) (inside outside : ℕ → ℕ) (L : tubed.AreTubeLabels d bays (replay w m E steps) lab fits inside outside) where
-    fits_is : (e : ℕ) → e < m → IsOfTube (f e).part → fits e ≡ within e
-    fits_is e k o = one_faces d bays E e (within e) (fits e) (is.run.edges e k) (faces d bays m E steps is e k o) (L.faces e k o)
-
-    within_is : (i : ℕ) → IsHalfArc d i → (g : Half) → Has g (l.tube i).halves → mark lab g ≡ tube_label d i
-    within_is i h g n =
-        let c = half_curve d bays m E steps within is (faces d bays m E steps is) i h.there h.kind g n in
-        let k = (edges.tubes i h).fits g n in
-        let o = arc_part (edge_of g) k (subst (λ (j : ℕ). IsHalfArc d j) (sym c) h) in
-        ap (mark lab) (half_is i h g n ∙ sym (fits_is (edge_of g) k o)) ∙ L.within_label (edge_of g) k o ∙ ap (tube_label d) c
-
-    others_are : (h : Half) → edge_of h < m → (FacesTube d l h → ⊥) → mark lab h ≤ length d.points
-    others_are h k n = elim (owner_is d bays m E steps is (edge_of h) k) [
-      | inl s ↦ straight h (L.straight_label (edge_of h) k s.part)
-      | inr a ↦
-          let o = a.part in
-          let i : IsHalfArc d a.index = record { there = a.fits; kind = a.bent } in
-          elim (half_or_twin (within (edge_of h)) h (has_half a.index i (edge_of h) k a.number).1) [
-            | inl q ↦ absurd (n (a.index, i, subst (λ (g : Half). Has g (l.tube a.index).halves) (sym q) (has_half a.index i (edge_of h) k a.number).0))
-            | inr q ↦ subst (λ (x : ℕ). x ≤ length d.points) (sym (ap (mark lab) (q ∙ ap twin (sym (fits_is (edge_of h) k o))))) (L.outer_label (edge_of h) k o)
-          ]
-    ]
-      where
-        straight : (g : Half) → (lab.below (edge_of g) ≤ length d.points) × (lab.above (edge_of g) ≤ length d.points) → mark lab g ≤ length d.points
-        straight (under e) p = p.0
-        straight (over e) p = p.1
-
-    inner_is : (i : ℕ) → IsHalfArc d i → (g : Half) → Has g (inner_halves (l.tube i).halves) → mark lab (twin g) ≡ inside i
-    inner_is i h g n =
-        let r = inner_from within (tube_edges (third_is_left (curve d i)) (first_edge bays 0 d.curves i) (bays i)) g n in
-        let a = tube_firsts (third_is_left (curve d i)) (first_edge bays 0 d.curves i) r.0 (bays i) r.1 in
-        let o = inner_owner d bays m E steps is i h.there h.kind r.0 a in
-        let k = below_m d bays m E steps is i h.there h.kind r.0 (let p = a.0 in let q = a.1 in (omega (arith, p), omega (arith, q))) in
-        ap (λ (x : Half). mark lab (twin x)) (r.2 ∙ sym (fits_is r.0 k (subst IsOfTube (sym o.1) tt))) ∙ L.inner_chain r.0 k o.1 ∙ ap inside o.0
-
-    outer_is : (i : ℕ) → IsHalfArc d i → (g : Half) → Has g (outer_halves (l.tube i).halves) → mark lab (twin g) ≡ outside i
-    outer_is i h g n =
-        let r = outer_from within (tube_edges (third_is_left (curve d i)) (first_edge bays 0 d.curves i) (bays i)) g n in
-        let a = tube_seconds (third_is_left (curve d i)) (first_edge bays 0 d.curves i) r.0 (bays i) r.1 in
-        let o = outer_owner d bays m E steps is i h.there h.kind r.0 a in
-        let k = below_m d bays m E steps is i h.there h.kind r.0 (let p = a.0 in let q = a.1 in (omega (arith, p), omega (arith, q))) in
-        ap (λ (x : Half). mark lab (twin x)) (r.2 ∙ sym (fits_is r.0 k (subst IsOfTube (sym o.1) tt))) ∙ L.outer_chain r.0 k o.1 ∙ ap outside o.0
-
-    tube_labels : AreTubeLabels d l lab
-    tube_labels = record {
-      within = within_is;
-      others = others_are;
-      inner = λ i h g x n k. inner_is i h g n ∙ sym (inner_is i h x k);
-      outer = λ i h g x n k. outer_is i h g n ∙ sym (outer_is i h x k);
-    }
-
-    pub labels_settle : IsSettledRun d bays m E
-    labels_settle = run_settled d bays m E steps is wide
-        (settled d l edges steps is.run w swept lab L.matched (λ i h k j c. own d bays m E steps is wide i h c.0 c.1 ((replay w m E steps).step k).at c.2) tube_labels)

@@ -28,10 +28,10 @@ use Rattle.plane.proofs.FaceLemmas.Crossings.{crossing_segment}
 use Rattle.plane.proofs.Windings.CommonPlaces.{decide_number}
 use Rattle.plane.proofs.Windings.Whole.{IsWhole, swept_whole}
 use Rattle.plane.proofs.Windings.OneTriangle.{IsWithin, within_triangle}
-use Rattle.plane.proofs.Windings.TubeTiles.{arrow_end}
+use Rattle.plane.proofs.Windings.TileCorners.{arrow_end, edge_arrow}
 use Rattle.plane.proofs.OneTube.TubeExits.{kept_in, side_a_within, side_b_within, side_c_within}
 use Rattle.plane.proofs.OneTube.BoundSides.{IsSideOf, bound_side, near_inside, right_near, opposite, Some, Twice, Ends, has_some, bounds_twice}
-use Rattle.plane.proofs.Settling.SettledRules.{has_map, edge_arrow}
+use Rattle.plane.proofs.ListLemmas.Lists.{has_map}
 use Rattle.plane.proofs.Settling.SettledEdges.{Inside, all_left, bound_edge, low_on, high_on}
 
 -- ---- two edges at each corner

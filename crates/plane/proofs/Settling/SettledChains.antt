@@ -17,12 +17,12 @@ use Rattle.plane.specs.Tubes.Facing.{way}
 use Rattle.plane.proofs.Settling.EdgesAndTubes.{DrawnTube, IsTubeOf, EdgeList, IsHalfArc, IsEdgeList}
 use Rattle.plane.proofs.Settling.EdgesSettled.{IsSettled}
 use Rattle.plane.proofs.Windings.Ways.{half_or_twin}
-use Rattle.plane.proofs.Windings.TubeTiles.{arrow_end}
-use Rattle.plane.proofs.Settling.TubesApart.{of_tube}
+use Rattle.plane.proofs.Windings.TileCorners.{arrow_end}
+use Rattle.plane.proofs.Settling.DrawnTubes.{of_tube}
 use Rattle.plane.proofs.OneTube.TubeArrows.{starts_one, arrives_one, origin_way, origin_twin, once_half}
 use Rattle.plane.proofs.Turning.HalfWays as ways
 use Rattle.plane.proofs.Turning.HalfWays.{edge_twin, twin_twin}
-use Rattle.plane.proofs.Settling.SettledRules.{has_map}
+use Rattle.plane.proofs.ListLemmas.Lists.{has_map}
 
 module _ (d : Plan) (l : EdgeList) (is : IsEdgeList d l) (settled : IsSettled d l) (steps : List Step) (complete : Run l.edges l.edge steps) (w : ℤ) (swept : WeighedRun w l.edges l.edge steps) where
   abbrev r : Replay
@@ -93,7 +93,7 @@ module _ (d : Plan) (l : EdgeList) (is : IsEdgeList d l) (settled : IsSettled d 
           | inl e ↦ absurd (no_end e)
           | inr own ↦
               let at_x = arrow_end l.edge x (way l.edge f).low (inl (sym (origin_way l.edge x) ∙ o)) in
-              let m = of_tube d l is w steps swept i h (edge_of x) lx (own (edge_of x) lx at_x) in
+              let m = of_tube d l is i h (edge_of x) lx (own (edge_of x) lx at_x) in
               let k = at_corner g f mg mf meet m.0 m.1 (subst (λ (e : ℕ). IsEnd (l.edge e) (way l.edge f).low) (sym m.2) at_x) in
               by_edge x o (elim k [ inl e ↦ inl (sym m.2 ∙ e) | inr e ↦ inr (sym m.2 ∙ e) ])
         ]

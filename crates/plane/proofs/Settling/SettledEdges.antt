@@ -35,18 +35,19 @@ use Rattle.plane.proofs.Windings.Enters.{high_same}
 use Rattle.plane.proofs.Windings.TubeCells.{from_map, way_on}
 use Rattle.plane.proofs.Windings.Whole.{IsWhole, swept_whole}
 use Rattle.plane.proofs.HalfArcs.Turned.{bow_one}
-use Rattle.plane.proofs.Windings.TubeTiles.{AtArrow, arrow_end, tile_corners, corner_edge, tiled}
+use Rattle.plane.proofs.Windings.TileCorners.{AtArrow, arrow_end, tile_corners, corner_edge, edge_arrow}
+use Rattle.plane.proofs.Windings.SteepTiles.{tiled}
 use Rattle.plane.proofs.OneTube.TubeExits.{kept_in}
 use Rattle.plane.proofs.OneTube.BoundSides.{IsSideOf, bound_side, column_low}
 use Rattle.plane.proofs.OneTube.HighChords.{StandsHigh, high_chord_out, bound_middle}
-use Rattle.plane.proofs.Settling.SettledRules.{edge_arrow, has_map, moved, between_arc}
+use Rattle.plane.proofs.ListLemmas.Lists.{has_map}
 use Rattle.plane.proofs.Algebra.Scaling.{cancel_zero}
 use Rattle.plane.proofs.Caps.Seen.{seen-mix, seen_same}
 use Rattle.plane.proofs.Caps.Pictures.{along-from, along-to, bow-from, bow-to}
 use Rattle.plane.proofs.OneTube.TubeStrips.{tube_cap, tube_rest}
 use Rattle.plane.proofs.OneTube.TubeEdges.{at_end}
 use Rattle.plane.proofs.OneTube.Chords.{inner_after}
-use Rattle.plane.proofs.Settling.CurveCovers.{either_kind, arc_ends, ends_arc, tip_is}
+use Rattle.plane.proofs.Settling.DrawnTubes.{either_kind, arc_ends, ends_arc, tip_is, moved, between_arc}
 
 -- ---- places of an edge
 pub low_same : (w : ℤ) (e : Edge) (z : Vector) → pos 0 <ℤ rise w e → Place z → side e z ≡ pos 0 → sweep w z ≡ sweep w (point e.low) *ℤ z.n → Same z (point e.low)
@@ -172,7 +173,7 @@ module _ (d : Plan) (l : EdgeList) (is : IsEdgeList d l) (settled : IsSettled d 
   all_left i h = let t = is.tubes i h in tiles_left (l.tube i).arc (l.tube i).bay (l.tube i).bays t.right t.tube
 
   pub all_tiled : (i : ℕ) → IsHalfArc d i → IsTiled w (tiles_of (l.tube i))
-  all_tiled i h = let t = is.tubes i h in tiled r whole (l.tube i).arc.from ((l.tube i).bay ∷ (l.tube i).bays) (l.tube i).halves t.bounds t.fits (all_left i h)
+  all_tiled i h = let t = is.tubes i h in tiled r whole.run (l.tube i).arc.from ((l.tube i).bay ∷ (l.tube i).bays) (l.tube i).halves t.bounds t.fits (all_left i h)
 
   -- a bound of the tube through a place is an edge of the tube through it
   pub bound_edge : (i : ℕ) → (h : IsHalfArc d i) → (e : Edge) → Has e (bounds (l.tube i).arc.from ((l.tube i).bay ∷ (l.tube i).bays)) → (z : Vector) → Place z → Between z (point e.low) (point e.high)

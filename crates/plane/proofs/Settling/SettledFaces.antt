@@ -32,9 +32,9 @@ use Rattle.plane.proofs.Windings.CommonPlaces.{decide_number, in_some_same}
 use Rattle.plane.proofs.Windings.Under.{lead_after}
 use Rattle.plane.proofs.Windings.OneTriangle.{side_a, side_b, side_c, area, sides_sum, sides_lead, triangle_within}
 use Rattle.plane.proofs.Windings.Whole.{IsWhole, swept_whole}
-use Rattle.plane.proofs.Windings.TubeTiles.{AtArrow, tile_corners, corner_edge, end_event}
+use Rattle.plane.proofs.Windings.TileCorners.{AtArrow, tile_corners, corner_edge, end_event}
 use Rattle.plane.proofs.OneTube.TubeExits.{kept_in}
-use Rattle.plane.proofs.Settling.TubesApart.{of_tube}
+use Rattle.plane.proofs.Settling.DrawnTubes.{of_tube}
 use Rattle.plane.proofs.Settling.SettledEdges.{Inside, all_left, bound_edge, event_in, edge_out, low_on, high_on}
 use Rattle.plane.proofs.Settling.SettledCells.{IsAcross, across_edge, across_back, left_inside, right_outside, way_hits}
 
@@ -67,7 +67,7 @@ module _ (d : Plan) (l : EdgeList) (is : IsEdgeList d l) (settled : IsSettled d 
   module _ (i : ℕ) (h : IsHalfArc d i) (g : Half) (fits : edge_of g < l.edges) where
     own_wall : (s o : Vector) → IsAcross d l is settled w steps swept g s o → In i s → l.owner (edge_of g) ≡ i → Has g (l.tube i).halves
     own_wall s o a inside q =
-        let m = of_tube d l is w steps swept i h (edge_of g) fits q in
+        let m = of_tube d l is i h (edge_of g) fits q in
         elim (half_or_twin m.0 g m.2) [
           | inl e ↦ subst (λ (x : Half). Has x (l.tube i).halves) (sym e) m.1
           | inr e ↦

@@ -28,9 +28,8 @@ use Rattle.plane.proofs.Turning.RunFans.{next_is_clockwise}
 use Rattle.plane.proofs.Windings.Whole.{IsWhole, swept_whole}
 use Rattle.plane.proofs.Windings.OneTriangle.{side_a, side_b, IsWithin, within_triangle, area_next}
 use Rattle.plane.proofs.Turning.FanWedges.{InWedge, between, before, after}
-use Rattle.plane.proofs.Windings.TubeTiles.{arrow_end}
-use Rattle.plane.proofs.Settling.CurveCovers.{decide_half}
-use Rattle.plane.proofs.Settling.TubesApart.{of_tube}
+use Rattle.plane.proofs.Windings.TileCorners.{arrow_end}
+use Rattle.plane.proofs.Settling.DrawnTubes.{decide_half, of_tube}
 use Rattle.plane.proofs.OneTube.BoundSides.{outweighs, large, large_first, large_positive}
 use Rattle.plane.proofs.OneTube.TubeArrows.{origin_way, origin_twin, from_to, direction_way}
 use Rattle.plane.proofs.Settling.SettledEdges.{all_left, edge_out, on_mix}
@@ -153,7 +152,7 @@ module _ (d : Plan) (l : EdgeList) (is : IsEdgeList d l) (settled : IsSettled d 
     wedge_empty : (x : Half) → edge_of x < l.edges → origin l.edge x ≡ origin l.edge (twin o) → (x ≡ g → ⊥) → (x ≡ twin o → ⊥) → InWedge (direction l.edge g) (direction l.edge (twin o)) (direction l.edge x) → ⊥
     wedge_empty x fits at_o not_g not_o wedge = elim (decide_number (l.owner (edge_of x)) i) [
       | inl own ↦
-          let m = of_tube d l is w steps swept i h (edge_of x) fits own in
+          let m = of_tube d l is i h (edge_of x) fits own in
           let at_x = arrow_end l.edge x (way l.edge g).low (inl (sym (origin_way l.edge x) ∙ from_g)) in
           let c = at_corner d l is settled steps complete w swept i h o g mo mg meet m.0 m.1 (subst (λ (e : ℕ). IsEnd (l.edge e) (way l.edge g).low) (sym m.2) at_x) in
           elim (by_edge d l is settled steps complete w swept i h o g mo mg meet x from_g (elim c [ inl e ↦ inl (sym m.2 ∙ e) | inr e ↦ inr (sym m.2 ∙ e) ])) [ inl e ↦ not_o e | inr e ↦ not_g e ]

@@ -1,8 +1,7 @@
--- Settled runs in the words of the edge list, and in those of the tubes from their right ends: the one is the other.
+-- A settled run in the words of the tubes from those ends from which the third points are on the right.
 use Rattle.std.proofs.Common.{◌≡◌, ℕ, suc, ◌+◌, ◌<◌, Bool, true, false, cond, List, [], ◌∷◌, ◌++◌, map, length, get_or, pos, ◌<ℤ◌, ◌⊎◌, ◌↔◌, inl, inr, refl, ap, sym, ◌∙◌, subst}
 use Rattle.plane.specs.declared.kinds.Point.{Point}
 use Rattle.plane.specs.declared.kinds.Curve.{Curve}
-use Rattle.plane.specs.declared.kinds.CurveKind.TheVariants as kind
 use Rattle.plane.specs.Lists.{Has}
 use Rattle.plane.specs.Forms.Vectors.{point, Edge}
 use Rattle.plane.specs.Forms.Meets.{IsEnd}
@@ -32,11 +31,10 @@ use Rattle.plane.proofs.TubedRuns.FacingHalves.{faces}
 use Rattle.plane.proofs.TubedRuns.TubeNumbers.{tube_among, among_tube, oriented}
 use Rattle.plane.proofs.TubedRuns.ArcEdges.{its_curve, of_tube, below_m, some_bay, inner_from, outer_from, ends_at}
 use Rattle.plane.proofs.TubedRuns.TubedEdges.{half_from, facing}
-use Rattle.plane.proofs.Windings.TubeTiles.{AtArrow, tile_corners}
+use Rattle.plane.proofs.Windings.TileCorners.{AtArrow, tile_corners, edge_arrow, end_event}
 use Rattle.plane.proofs.OneTube.TubeCorners.{tile_corner}
-use Rattle.plane.proofs.Settling.SettledRules.{has_map, edge_arrow}
+use Rattle.plane.proofs.ListLemmas.Lists.{has_map}
 use Rattle.plane.proofs.Windings.TubeCells.{from_map}
-use Rattle.plane.proofs.Windings.TubeTiles.{corner_edge, end_event}
 use Rattle.plane.proofs.Runs.RunWeights.{run_weight}
 use Rattle.plane.proofs.Windings.Whole.{swept_whole}
 use Rattle.plane.proofs.Settling.RunLevels.{run_edges}
@@ -52,40 +50,11 @@ back_inner a (b ∷ bs) k m = elim (has_append k (backward b.inner bs) (record {
   ]
 ]
 
-has_end : {X : Type 0} (x : X) (xs ys : List X) → Has x ys → Has x (xs ++ ys)
-has_end x [] ys m = m
-has_end x (y ∷ xs) ys m = inr (has_end x xs ys m)
-
-has_start : {X : Type 0} (x : X) (xs ys : List X) → Has x xs → Has x (xs ++ ys)
-has_start x [] ys m = absurd m
-has_start x (y ∷ xs) ys (inl e) = inl e
-has_start x (y ∷ xs) ys (inr m) = inr (has_start x xs ys m)
-
-inner_back : (a : Point) (bs : List Bay) (b : Bay) → Has b bs → (b.inner ≡ last_inner a bs) ⊎ ((k : Bay) × Has k (backward a bs) × (k.inner ≡ b.inner))
-inner_back a [] b m = absurd m
-inner_back a (d ∷ []) b (inl e) = inl (ap (λ (x : Bay). x.inner) e)
-inner_back a (d ∷ []) b (inr m) = absurd m
-inner_back a (d ∷ (x ∷ bs)) b (inl e) =
-    let k : Bay = record { outer = x.outer; inner = d.inner } in
-    inr (k, has_start k (backward d.inner (x ∷ bs)) (record { outer = d.outer; inner = a } ∷ []) (has_end k (backward x.inner bs) (k ∷ []) (inl refl)), sym (ap (λ (y : Bay). y.inner) e))
-inner_back a (d ∷ (x ∷ bs)) b (inr m) = elim (inner_back d.inner (x ∷ bs) b m) [
-  | inl e ↦ inl e
-  | inr r ↦ inr (r.0, has_start r.0 (backward d.inner (x ∷ bs)) (record { outer = d.outer; inner = a } ∷ []) r.1, r.2)
-]
-
 -- of the bays from the right end, by the side of the third point
 right_inner : (left : Bool) (c : Curve) (bs : List Bay) (k : Bay) → IsSome bs → Has k (first_bay (cond left (backward c.from bs) bs) ∷ later_bays (cond left (backward c.from bs) bs)) → (k.inner ≡ c.from) ⊎ ((b : Bay) × Has b bs × (b.inner ≡ k.inner))
 right_inner left c [] k s m = absurd s
 right_inner false c (b ∷ bs) k s m = inr (k, m, refl)
 right_inner true c (b ∷ bs) k s m = back_inner c.from (b ∷ bs) k (subst (λ (ks : List Bay). Has k ks) (split_bays true c.from b bs) m)
-
-inner_right : (left : Bool) (c : Curve) (bs : List Bay) (b : Bay) → IsSome bs → Has b bs → (b.inner ≡ last_inner c.from bs) ⊎ ((k : Bay) × Has k (first_bay (cond left (backward c.from bs) bs) ∷ later_bays (cond left (backward c.from bs) bs)) × (k.inner ≡ b.inner))
-inner_right left c [] b s m = absurd s
-inner_right false c (d ∷ bs) b s m = inr (b, m, refl)
-inner_right true c (d ∷ bs) b s m = elim (inner_back c.from (d ∷ bs) b m) [
-  | inl e ↦ inl e
-  | inr r ↦ inr (r.0, subst (λ (ks : List Bay). Has r.0 ks) (sym (split_bays true c.from d bs)) r.1, r.2)
-]
 
 -- ---- an arrow of an edge has the edge's ends
 inward_end : (left : Bool) (part : Part) (p q v : Point) → IsEnd (inward left part p q) v → (p ≡ v) ⊎ (q ≡ v)
@@ -174,7 +143,7 @@ module _ (d : Plan) (bays : ℕ → List Bay) (m : ℕ) (E : ℕ → Edge) (step
           end = joins_end (E n.0) (f n.0).from (f n.0).to p (is.edge n.0 k) (inward_end false (f n.0).part (f n.0).from (f n.0).to p (subst (λ (e : Edge). IsEnd e p) n.2 x));
         }
 
-    corner_arrow : (p : Point) → HasCorner p → AtArrow (bounds c.from bs) p
+    pub corner_arrow : (p : Point) → HasCorner p → AtArrow (bounds c.from bs) p
     corner_arrow p k =
         let g : ℕ → Edge = λ n. inward false (f n).part (f n).from (f n).to in (
           g k.edge,
@@ -182,7 +151,7 @@ module _ (d : Plan) (bays : ℕ → List Bay) (m : ℕ) (E : ℕ → Edge) (step
           end_inward false (f k.edge).part (f k.edge).from (f k.edge).to p (end_joins (E k.edge) (f k.edge).from (f k.edge).to p (is.edge k.edge k.fits) k.end),
         )
 
-    half_corner : (p : Point) (g : Half) → Has g (l.tube i).halves → IsEnd (E (edge_of g)) p → HasCorner p
+    pub half_corner : (p : Point) (g : Half) → Has g (l.tube i).halves → IsEnd (E (edge_of g)) p → HasCorner p
     half_corner p g has x =
         let y = half_from d bays m E steps within is (faces d bays m E steps is) i h.there h.kind (tube_edges (third_is_left c) s bs) g has in
         let a = tube_among (third_is_left c) s y.0 bs y.1 in
@@ -245,7 +214,6 @@ module _ (d : Plan) (bays : ℕ → List Bay) (m : ℕ) (E : ℕ → Edge) (step
           let u = run_weight m E steps [] is.run in
           end_event (replay u.weight m E steps) (swept_whole u.weight m E steps u.swept) e p k x
 
-  -- ---- the one
   module _ (settled : IsSettledRun d bays m E) where
     enter : (e : ℕ) → e < m → (p : Point) → IsEnd (E e) p → (i : ℕ) → IsHalfArc d i → (t : Triangle) → Has t (tiles_of (l.tube i)) → InTriangle t (point p) → IsCornerOf t p
     enter e k p x i h t n inside =
@@ -266,29 +234,3 @@ module _ (d : Plan) (bays : ℕ → List Bay) (m : ℕ) (E : ℕ → Edge) (step
 
     pub level_settled : IsSettled d l
     level_settled = record { meet = run_meets m E steps is.run; enter = enter; own = own; chord = chord }
-
-  -- ---- and the other
-  module _ (settled : IsSettled d l) where
-    enter_back : (e : ℕ) → e < m → (p : Point) → IsEnd (E e) p → (i : ℕ) → i < length d.curves → (curve d i).kind ≡ kind.HalfArc → (t : Triangle) → Has t (tiles (curve d i).from (bays i)) → InTriangle t (point p) → IsCornerOf t p
-    enter_back e k p x i there bent t n inside =
-        let h : IsHalfArc d i = record { there = there; kind = bent } in
-        let u = (own_place i h p).1 (t, n, inside) in
-        let q = settled.enter e k p x i h u.0 u.1 u.2 in
-        let tube = edges.tubes i h in
-        let cs = tile_corners (l.tube i).arc.from ((l.tube i).bay ∷ (l.tube i).bays) u.0 u.1 in
-        let at_own = corner_of i h u.0 p (bounds (l.tube i).arc.from ((l.tube i).bay ∷ (l.tube i).bays)) q cs.a cs.b cs.c in
-        let g = corner_edge E (bounds (l.tube i).arc.from ((l.tube i).bay ∷ (l.tube i).bays)) (l.tube i).halves p tube.bounds at_own in
-        tile_corner (arc (curve d i)) (curve d i).from (bays i) t p (own_bays i h) n inside (corner_arrow i h p (half_corner i h p g.0 g.1 g.2))
-
-    chord_back : (i j : ℕ) → i < length d.curves → j < length d.curves → (curve d i).kind ≡ kind.Straight → (curve d j).kind ≡ kind.HalfArc → HaveSameEnds (curve d i) (curve d j) → (b : Bay) → Has b (bays j)
-        → IsEndOf (curve d j) b.inner ⊎ (pos 0 <ℤ bow (arc (curve d j)) (point b.inner))
-    chord_back i j li lj ki kj same b has =
-        let a : IsStraight d i = record { there = li; kind = ki } in
-        let h : IsHalfArc d j = record { there = lj; kind = kj } in
-        elim (inner_right (third_is_left (curve d j)) (curve d j) (bays j) b (some j h) has) [
-          | inl e ↦ inl (inr (sym (e ∙ ends_at d bays m E steps is j lj kj)))
-          | inr r ↦ subst (λ (q : Point). IsEndOf (curve d j) q ⊎ (pos 0 <ℤ bow (arc (curve d j)) (point q))) r.2 (settled.chord i j a h same r.0 r.1)
-        ]
-
-    pub run_settled : IsSettledRun d bays m E
-    run_settled = record { enter = enter_back; chord = chord_back }

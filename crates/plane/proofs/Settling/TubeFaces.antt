@@ -1,6 +1,6 @@
 -- A settled drawing keeps the rules on tubes: with face numbers each tube has one face within, which has no other half-edges and is not the
 -- outer one, and one face along each chain.
-use Rattle.std.proofs.Common.{◌≡◌, ℕ, ◌≤◌, ◌⊎◌, inl, inr, List, [], ◌∷◌, map, length, ℤ, pos, ◌<ℤ◌, ◌≤ℤ◌, refl, arith, ap, sym, ◌∙◌, subst}
+use Rattle.std.proofs.Common.{◌≡◌, ℕ, ◌⊎◌, inl, inr, List, [], ◌∷◌, map, ℤ, pos, ◌<ℤ◌, ◌≤ℤ◌, refl, arith, ap, sym, ◌∙◌, subst}
 use Rattle.std.proofs.lemmas.Int.{ints}
 use Rattle.plane.specs.declared.kinds.Point.{Point}
 use Rattle.plane.specs.Lists.{Has}
@@ -10,21 +10,20 @@ use Rattle.plane.specs.Forms.Arcs.{HalfArc, chord, along}
 use Rattle.plane.specs.Rule.Plans.{Plan, curve}
 use Rattle.plane.specs.Runs.Steps.{Step, Run, WeighedRun}
 use Rattle.plane.specs.Faces.Replays.{Replay, replay}
-use Rattle.plane.specs.Faces.Halves.{Half, under, over, twin, mark}
-use Rattle.plane.specs.Faces.Classes.{Next, IsFaces, numbers}
+use Rattle.plane.specs.Faces.Halves.{Half, twin}
+use Rattle.plane.specs.Faces.Classes.{Next, IsFaces}
 use Rattle.plane.specs.Tubes.Bays.{Bay}
 use Rattle.plane.specs.Tubes.Windings.{arrow, fence, bounds}
 use Rattle.plane.specs.Tubes.Facing.{way}
 use Rattle.plane.proofs.Settling.EdgesAndTubes.{DrawnTube, IsTubeOf, EdgeList, IsHalfArc, IsEdgeList}
-use Rattle.plane.proofs.Settling.TubeRules.{inner_halves, outer_halves, OwnCorners, AreTubeLabels}
-use Rattle.plane.proofs.Settling.EdgesSettled.{IsSettled, AreTubeFaces, AreNamed}
+use Rattle.plane.proofs.Settling.EdgesSettled.{inner_halves, outer_halves, IsSettled, AreTubeFaces}
 use Rattle.plane.proofs.OneTube.TubeStrips.{IsRest, before_end, tube_rest}
 use Rattle.plane.proofs.Caps.Pictures.{along-from, along-to}
 use Rattle.plane.proofs.OneTube.HighChords.{Rests, rests_after}
 use Rattle.plane.proofs.Turning.Rotation.{next_cells}
 use Rattle.plane.proofs.FaceLemmas.FaceNumbers.{beside_face, linked_is_face}
 use Rattle.plane.proofs.Windings.Whole.{IsWhole, swept_whole}
-use Rattle.plane.proofs.Settling.CurveCovers.{ends_arc, tip_is}
+use Rattle.plane.proofs.Settling.DrawnTubes.{ends_arc, tip_is}
 use Rattle.plane.proofs.Settling.SettledFaces.{own_face, not_outer}
 use Rattle.plane.proofs.Settling.SettledChains.{next_inside, next_outside}
 use Rattle.plane.proofs.Settling.SettledFans.{first_next}
@@ -191,33 +190,4 @@ module _ (d : Plan) (l : EdgeList) (is : IsEdgeList d l) (settled : IsSettled d 
       bounded = λ g m e. not_outer d l is settled w steps swept face faces i h g m e;
       inner = λ g f mg mf. sym (outside.inner g mg) ∙ outside.inner f mf;
       outer = λ g f mg mf. outside.outer g mg ∙ sym (outside.outer f mf);
-    }
-
-    pub first_half : (g : Half) × Has g t.halves
-    first_half = (inside.g, inside.g_ours)
-
--- ---- so face numbers with the names of a certificate are labels that keep the rules on tubes
-mark_is : (face : Half → ℕ) (h : Half) → mark (numbers face) h ≡ face h
-mark_is face (under e) = refl
-mark_is face (over e) = refl
-
-module _ (d : Plan) (l : EdgeList) (is : IsEdgeList d l) (settled : IsSettled d l) (w : ℤ) (steps : List Step) where
-  pub own_corners : OwnCorners d l (replay w l.edges l.edge steps)
-  own_corners i h k f c = settled.own i h c.0 c.1 ((replay w l.edges l.edge steps).step k).at c.2
-
-  module _ (complete : Run l.edges l.edge steps) (swept : WeighedRun w l.edges l.edge steps) (face : Half → ℕ) (faces : IsFaces (replay w l.edges l.edge steps) face) (named : AreNamed d l face) where
-    ours : (i : ℕ) → IsHalfArc d i → AreTubeFaces l face i
-    ours i h = tube_faces d l is settled steps complete w swept face faces i h
-
-    pub face_labels : AreTubeLabels d l (numbers face)
-    face_labels = record {
-      within = λ i h g m. mark_is face g ∙ named.tubes i h g m;
-      others = λ f fits n. elim (named.rest f fits) [
-        | inl k ↦ subst (λ (x : ℕ). x ≤ length d.points) (sym (mark_is face f)) k
-        | inr (i, h, e) ↦
-            let g = first_half d l is settled steps complete w swept face faces i h in
-            absurd (n (i, h, (ours i h).own g.0 f g.1 fits (named.tubes i h g.0 g.1 ∙ sym e)))
-      ];
-      inner = λ i h g f mg mf. mark_is face (twin g) ∙ (ours i h).inner g f mg mf ∙ sym (mark_is face (twin f));
-      outer = λ i h g f mg mf. mark_is face (twin g) ∙ (ours i h).outer g f mg mf ∙ sym (mark_is face (twin f));
     }

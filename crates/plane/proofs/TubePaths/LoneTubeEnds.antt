@@ -27,7 +27,7 @@ use Rattle.plane.proofs.Windings.Ways.{half_or_twin}
 use Rattle.plane.proofs.Windings.Whole.{IsWhole, swept_whole}
 use Rattle.plane.proofs.Turning.HalfWays.{edge_twin, twin_twin, way_flat, way_one, next_two}
 use Rattle.plane.proofs.OneTube.TubeArrows.{starts_one, arrives_one, origin_way, origin_twin, once_half}
-use Rattle.plane.proofs.Settling.SettledRules.{has_map}
+use Rattle.plane.proofs.ListLemmas.Lists.{has_map}
 use Rattle.plane.proofs.TubedRuns.TubeBounds.{IsAmong}
 use Rattle.plane.proofs.TubedRuns.EdgeNumbers.{IsFrom}
 use Rattle.plane.proofs.OneTube.BackwardBays.{last_inner}

@@ -3,7 +3,7 @@ use Rattle.std.proofs.Common.{◌≡◌, ℕ, suc, ◌+◌, ◌<◌, ◌≤◌, 
 use Rattle.plane.specs.declared.kinds.Point.{Point}
 use Rattle.plane.specs.declared.kinds.Curve.{Curve}
 use Rattle.plane.specs.declared.kinds.CurveKind.TheVariants as kind
-use Rattle.plane.specs.Lists.{Each, Has, Once}
+use Rattle.plane.specs.Lists.{Each, Has}
 use Rattle.plane.specs.Forms.Vectors.{Vector, Place, Same, Between, point, Edge, On}
 use Rattle.plane.specs.Forms.Arcs.{power}
 use Rattle.plane.specs.Rule.Curves.{arc}
@@ -18,7 +18,7 @@ use Rattle.plane.specs.Tubes.Bays as one
 use Rattle.plane.specs.Tubes.Windings.{IsLeft, tiles, bounds, IsTiled}
 use Rattle.plane.specs.Tubes.Facing.{way, IsDrawnTube, IsClean, tip}
 use Rattle.plane.specs.CurveRuns.Extended.{Tubes, IsOnWay, InTube, AtArcEnd, AreTubes}
-use Rattle.plane.specs.CurveRuns.TubedRuns.{Part, whole, inner, outer, Owned, chain, inner_corners, outer_corners, owned, Connects, IsOfTube, IsTubedRun, tube_label, third_is_left, inward, AreTubeLabels, arc_at, first_edge, tube_start, tube_bays, tube_edges, first_bay, later_bays, tubes, MeetsArc}
+use Rattle.plane.specs.CurveRuns.TubedRuns.{Part, whole, inner, outer, Owned, chain, inner_corners, outer_corners, owned, Connects, IsOfTube, IsTubedRun, tube_label, third_is_left, AreTubeLabels, arc_at, first_edge, tube_start, tube_bays, tube_edges, first_bay, later_bays, tubes, MeetsArc}
 use Rattle.plane.proofs.Linear.Signs.{on_between, between_back}
 use Rattle.plane.proofs.Runs.Numbered.{swept_run}
 use Rattle.plane.proofs.Windings.Under.{by_order}
@@ -27,13 +27,14 @@ use Rattle.plane.proofs.Windings.Enters.{Decided, decide_point}
 use Rattle.plane.proofs.OneTube.TubeEdges.{inner_place, outer_place}
 use Rattle.plane.proofs.TubedRuns.EdgeNumbers.{IsFrom}
 use Rattle.plane.proofs.OneTube.BackwardBays.{last_inner}
-use Rattle.plane.proofs.TubedRuns.TubeBounds.{edges_back, map_same, map_twice, IsAmong}
+use Rattle.plane.proofs.TubedRuns.TubeBounds.{IsAmong}
 use Rattle.plane.proofs.Windings.SteepTiles.{tiled}
 use Rattle.plane.proofs.OneTube.TurnedTubes.{turned_left}
 use Rattle.plane.proofs.TubedRuns.HalfArcLists.{IsArcOf, arc_of, arcs_rise}
 use Rattle.plane.proofs.TubedRuns.OwnedEdges.{no_curve}
-use Rattle.plane.proofs.TubedRuns.TubeNumbers.{whole_range, tube_among, among_tube, tube_once, on_inner, on_outer, oriented}
+use Rattle.plane.proofs.TubedRuns.TubeNumbers.{whole_range, tube_among, among_tube, on_inner, on_outer}
 use Rattle.plane.proofs.TubedRuns.ArcEdges as edges
+use Rattle.plane.proofs.TubedRuns.TubedEdges as bound
 use Rattle.plane.proofs.TubedRuns.TubedHits.{end_hits, circle_hits, side_kept, arc_covered}
 
 module _ (w : ℤ) (d : Plan) (bays : ℕ → List Bay) (m : ℕ) (E : ℕ → Edge) (steps : List Step) (lab : Labels) (within : ℕ → Half) (inside outside : ℕ → ℕ)
@@ -98,12 +99,8 @@ module _ (w : ℤ) (d : Plan) (bays : ℕ → List Bay) (m : ℕ) (E : ℕ → E
     at_ends : (P : Point → Type 0) → P c.from ⊎ P c.to → P (tube_start c) ⊎ P (tip (first_bay (tube_bays c bs)) (later_bays (tube_bays c bs)))
     at_ends = edges.at_ends d bays m E steps is i l bent
 
-    -- each bound is the half-edge that faces the tube
-    faces_at : (x : ℕ) → IsAmong x (first i) size → way E (within x) ≡ inward (third_is_left c) (f x).part (f x).from (f x).to
-    faces_at x h = (L.faces x (below_m x h) (of_tube x h)).left ∙ ap (λ (j : ℕ). inward (third_is_left (curve d j)) (f x).part (f x).from (f x).to) (its_curve x h)
-
     edge_at : (x : ℕ) → IsAmong x (first i) size → edge_of (within x) ≡ x
-    edge_at x h = (L.faces x (below_m x h) (of_tube x h)).edge
+    edge_at = bound.edge_at d bays m E steps within is L.faces i l bent
 
     abbrev numbers : List ℕ
     numbers = tube_edges (third_is_left c) (first i) bs
@@ -112,31 +109,17 @@ module _ (w : ℤ) (d : Plan) (bays : ℕ → List Bay) (m : ℕ) (E : ℕ → E
     halves = map within numbers
 
     -- the half-edges of the tube
-    pub half_from : (ns : List ℕ) (h : Half) → Has h (map within ns) → (x : ℕ) × Has x ns × (h ≡ within x)
-    half_from [] h k = absurd k
-    half_from (n ∷ ns) h (inl e) = (n, inl refl, e)
-    half_from (n ∷ ns) h (inr k) = let y = half_from ns h k in (y.0, inr y.1, y.2)
+    half_from : (ns : List ℕ) (h : Half) → Has h (map within ns) → (x : ℕ) × Has x ns × (h ≡ within x)
+    half_from = bound.half_from d bays m E steps within is L.faces i l bent
 
     half_in : (ns : List ℕ) (x : ℕ) → Has x ns → Has (within x) (map within ns)
-    half_in [] x k = absurd k
-    half_in (n ∷ ns) x (inl e) = inl (ap within e)
-    half_in (n ∷ ns) x (inr k) = inr (half_in ns x k)
+    half_in = bound.half_in d bays m E steps within is L.faces i l bent
 
     its_bounds : bounds (tube_start c) (first_bay (tube_bays c bs) ∷ later_bays (tube_bays c bs)) ≡ map (way E) halves
-    its_bounds =
-        with_bay (λ ks. bounds (tube_start c) (first_bay (tube_bays c ks) ∷ later_bays (tube_bays c ks)) ≡ map (λ n. inward (third_is_left c) (f n).part (f n).from (f n).to) (tube_edges (third_is_left c) (first i) ks))
-        (λ b rest e. oriented (third_is_left c) f i (first i) c.from c.to b rest
-        (subst (λ (ks : List Bay). IsFrom f (first i) (chain i inner c.from (inner_corners ks))) e inner_from)
-        (subst (λ (ks : List Bay). IsFrom f (first i + length ks) (chain i outer c.from (outer_corners ks ++ c.to ∷ []))) e outer_from)
-        (subst (λ (ks : List Bay). last_inner c.from ks ≡ c.to) e ends_at))
-        ∙ sym (map_same (λ n. way E (within n)) (λ n. inward (third_is_left c) (f n).part (f n).from (f n).to) numbers (λ n k. faces_at n (tube_among (third_is_left c) (first i) n bs k)))
-        ∙ sym (map_twice (way E) within numbers)
+    its_bounds = bound.its_bounds d bays m E steps within is L.faces i l bent
 
     half_fits : (h : Half) → Has h halves → edge_of h < m
-    half_fits h k =
-        let x = half_from numbers h k in
-        let a = tube_among (third_is_left c) (first i) x.0 bs x.1 in
-        subst (λ (n : ℕ). n < m) (sym (ap edge_of x.2 ∙ edge_at x.0 a)) (below_m x.0 a)
+    half_fits = bound.half_fits d bays m E steps within is L.faces i l bent
 
     its_label : (h : Half) → Has h halves → mark lab h ≡ tube_label d i
     its_label h k =
@@ -184,7 +167,7 @@ module _ (w : ℤ) (d : Plan) (bays : ℕ → List Bay) (m : ℕ) (E : ℕ → E
       faced = record {
         some_label = λ e. omega (arith, e);
         fits = half_fits;
-        once = subst Once (sym (edges_back within numbers (λ n k. edge_at n (tube_among (third_is_left c) (first i) n bs k)))) (tube_once (third_is_left c) (first i) bs);
+        once = bound.half_once d bays m E steps within is L.faces i l bent;
         faces = its_label;
         only = label_only;
       };
@@ -213,14 +196,11 @@ module _ (w : ℤ) (d : Plan) (bays : ℕ → List Bay) (m : ℕ) (E : ℕ → E
             ]))
 
     pub facing : (x : ℕ) → x < m → (f x).curve ≡ i → Has (within x) halves × (edge_of (within x) ≡ x)
-    facing x k e = let a = owned_in x k e in (half_in numbers x (among_tube (third_is_left c) (first i) x bs a), edge_at x a)
+    facing = bound.facing d bays m E steps within is L.faces i l bent
 
     -- the curve of a half-edge of the tube
-    pub half_curve : (h : Half) → Has h halves → (f (edge_of h)).curve ≡ i
-    half_curve h k =
-        let x = half_from numbers h k in
-        let a = tube_among (third_is_left c) (first i) x.0 bs x.1 in
-        ap (λ (n : ℕ). (f n).curve) (ap edge_of x.2 ∙ edge_at x.0 a) ∙ its_curve x.0 a
+    half_curve : (h : Half) → Has h halves → (f (edge_of h)).curve ≡ i
+    half_curve = bound.half_curve d bays m E steps within is L.faces i l bent
 
     joined_between : (e : Edge) (p q : Point) (z : Vector) → Connects e p q → Between z (point e.low) (point e.high) → Between z (point p) (point q)
     joined_between e p q z (inl h) b = subst (λ (x : Point). Between z (point x) (point q)) h.0 (subst (λ (x : Point). Between z (point e.low) (point x)) h.1 b)

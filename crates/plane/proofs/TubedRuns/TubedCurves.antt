@@ -23,6 +23,7 @@ use Rattle.plane.proofs.HalfArcs.ArcHits.{hits_half_arc, hits_arc}
 use Rattle.plane.proofs.TubedRuns.HalfArcLists.{decide_kind, arc_listed}
 use Rattle.plane.proofs.TubedRuns.OwnedEdges.{no_curve, owner_is, straight_edge}
 use Rattle.plane.proofs.TubedRuns.RunTubes.{arc_fits, arc_bent, edge_in_tube, tube_owner}
+use Rattle.plane.proofs.Covers.CurvePlaces.{no_kind}
 
 -- ---- parts of segments
 pub way_between : (p q z : Vector) → IsOnWay p q z → Between z p q
@@ -52,13 +53,6 @@ part_hits h p q u v P Q a b k =
       u_in = x.u_in;
       v_out = x.v_out;
     })
-
-pub two_kinds : (k : CurveKind) → k ≡ kind.Straight → k ≡ kind.HalfArc → ⊥
-two_kinds k e f = subst Bent (sym e ∙ f) tt
-  where
-    Bent : CurveKind → Type 0
-    Bent kind.Straight = Unit {0}
-    Bent kind.HalfArc = ⊥
 
 module _ (w : ℤ) (d : Plan) (bays : ℕ → List Bay) (m : ℕ) (E : ℕ → Edge) (steps : List Step) (lab : Labels) (within : ℕ → Half) (inside outside : ℕ → ℕ)
     (swept : WeighedRun w m E steps) (is : IsTubedRun d bays m E steps) (L : AreTubeLabels d bays (replay w m E steps) lab within inside outside) where
@@ -107,7 +101,7 @@ module _ (w : ℤ) (d : Plan) (bays : ℕ → List Bay) (m : ℕ) (E : ℕ → E
           let s = free.straights (mix b.s p b.t q) way x.0 x.1 on in
           let o = tube_owner w d bays m E steps lab within inside outside swept is L s.0 s.1 s.2 s.3 in
           let same : i ≡ arc_at d s.0 = sym x.2 ∙ ap (λ (y : ℕ). (owned d bays y).curve) (sym s.4) ∙ o in
-          two_kinds (curve d i).kind e (subst (λ (y : ℕ). (curve d y).kind ≡ kind.HalfArc) (sym same) (arc_bent w d bays m E steps lab within inside outside swept is L s.0 s.1))
+          no_kind (curve d i).kind e (subst (λ (y : ℕ). (curve d y).kind ≡ kind.HalfArc) (sym same) (arc_bent w d bays m E steps lab within inside outside swept is L s.0 s.1))
       | inr e ↦
           let c = tube_of i l e in
           free.arcs c.0 c.1 p q (way_start p q) (way_end p q) (subst (λ (y : ℕ). HitsHalfArc (arc (curve d y)) p q) (sym c.2) (bent_hits i p q e hit))

@@ -48,7 +48,7 @@ module _ (d : Plan) (bays : ℕ → List Bay) (m : ℕ) (E : ℕ → Edge) (step
     faces_at : (x : ℕ) → IsIts x → way E (within x) ≡ inward (third_is_left c) (f x).part (f x).from (f x).to
     faces_at x h = (faced x (below_m x h) (of_tube x h)).left ∙ ap (λ (j : ℕ). inward (third_is_left (curve d j)) (f x).part (f x).from (f x).to) (its_curve x h)
 
-    edge_at : (x : ℕ) → IsIts x → edge_of (within x) ≡ x
+    pub edge_at : (x : ℕ) → IsIts x → edge_of (within x) ≡ x
     edge_at x h = (faced x (below_m x h) (of_tube x h)).edge
 
     abbrev numbers : List ℕ
@@ -63,7 +63,7 @@ module _ (d : Plan) (bays : ℕ → List Bay) (m : ℕ) (E : ℕ → Edge) (step
     half_from (n ∷ ns) h (inl e) = (n, inl refl, e)
     half_from (n ∷ ns) h (inr k) = let y = half_from ns h k in (y.0, inr y.1, y.2)
 
-    half_in : (ns : List ℕ) (x : ℕ) → Has x ns → Has (within x) (map within ns)
+    pub half_in : (ns : List ℕ) (x : ℕ) → Has x ns → Has (within x) (map within ns)
     half_in [] x k = absurd k
     half_in (n ∷ ns) x (inl e) = inl (ap within e)
     half_in (n ∷ ns) x (inr k) = inr (half_in ns x k)

@@ -26,8 +26,9 @@ use Rattle.plane.proofs.Windings.CommonPlaces.{decide_number, in_some_same}
 use Rattle.plane.proofs.TubedRuns.HalfArcLists.{decide_kind}
 use Rattle.plane.proofs.TubedRuns.OwnedEdges.{straight_edge}
 use Rattle.plane.proofs.TubedRuns.RunTubes.{arc_fits, arc_bent, tubes_cover}
-use Rattle.plane.proofs.TubedRuns.TubedCurves.{two_kinds, tube_of, bent_hits}
+use Rattle.plane.proofs.TubedRuns.TubedCurves.{tube_of, bent_hits}
 use Rattle.plane.proofs.TubedRuns.TubedApart.{straight_arc, one_end}
+use Rattle.plane.proofs.Covers.CurvePlaces.{no_kind}
 
 -- the ends of a half arc are on its circle
 end_power : (h : HalfArc) (z : Vector) → Place z → Same z (point h.from) ⊎ Same z (point h.to) → power h z ≡ pos 0
@@ -77,7 +78,7 @@ module _ (w : ℤ) (d : Plan) (bays : ℕ → List Bay) (m : ℕ) (E : ℕ → E
           let x = straight_edge d bays m E steps is i l e in
           let bent = arc_bent w d bays m E steps lab within inside outside swept is L c lc in
           let fits = arc_fits w d bays m E steps lab within inside outside swept is L c lc in
-          let k = straight_arc w d bays m E steps lab within inside outside swept is L i (arc_at d c) l fits (λ q. two_kinds (curve d i).kind e (subst (λ (y : ℕ). (curve d y).kind ≡ kind.HalfArc) (sym q) bent)) e bent x.0 c x.1 x.2 x.3 lc refl z Z
+          let k = straight_arc w d bays m E steps lab within inside outside swept is L i (arc_at d c) l fits (λ q. no_kind (curve d i).kind e (subst (λ (y : ℕ). (curve d y).kind ≡ kind.HalfArc) (sym q) bent)) e bent x.0 c x.1 x.2 x.3 lc refl z Z
           (on_edge w (E x.0) (curve d i) z x.3 e (swept.rises x.0 x.1) Z on) inner in
           end_of_arc c side k.1
       | inr e ↦

@@ -18,9 +18,9 @@ use Rattle.plane.specs.CurveRuns.Extended.{AreTubes}
 use Rattle.plane.specs.CurveRuns.TubedRuns.{IsTubedRun, AreTubeLabels, tubes, MeetsArc}
 use Rattle.plane.proofs.Worked.RunTests.{run_by_test}
 use Rattle.plane.proofs.Worked.TubeTests.{tubed_by_test, labels_by_test}
-use Rattle.plane.proofs.TubedRuns.TubedCurves.{two_kinds}
 use Rattle.plane.proofs.TubedRuns.RunTubes.{are_tubes}
 use Rattle.plane.proofs.Worked.CircleRun.{at_point, from_to}
+use Rattle.plane.proofs.Covers.CurvePlaces.{no_kind}
 
 abbrev rim : HalfArc
 rim = record { from = at_point 500000 510000; to = at_point 510000 500000; third = at_point 490000 500000 }
@@ -91,7 +91,7 @@ abbrev pub outside : ℕ → ℕ
 outside i = 0
 
 straight_or_bent : kind.Straight ≡ kind.HalfArc → ⊥
-straight_or_bent e = two_kinds kind.Straight refl e
+straight_or_bent e = no_kind kind.Straight refl e
 
 module _ (w : Window2) where
   abbrev pub quarter : Plan

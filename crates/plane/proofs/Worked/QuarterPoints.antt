@@ -14,20 +14,20 @@ use Rattle.plane.specs.Faces.PlacedPoints.{IsLocated}
 use Rattle.plane.specs.CurveRuns.Levels.{AreWide, IsSettledRun}
 use Rattle.plane.specs.CurveRuns.FacedTubes.{faced, IsFirstOn, LiesInTube}
 use Rattle.plane.proofs.Runs.RunWeights.{run_weight}
-use Rattle.plane.proofs.Settling.RunFaces.{labels_settle}
+use Rattle.plane.proofs.Settling.LabelsSettle.{labels_settle}
 use Rattle.plane.proofs.TubedRuns.SettledPoints.{in_cell}
-use Rattle.plane.proofs.TubedRuns.TubedCurves.{two_kinds}
 use Rattle.plane.proofs.Worked.CircleRun.{at_point}
 use Rattle.plane.proofs.Worked.QuarterDisc.{edge, steps, bays, labels, within, inside, outside, quarter, quarter_run, quarter_labels}
+use Rattle.plane.proofs.Covers.CurvePlaces.{no_kind}
 
 abbrev r : Replay
 r = replay (pos 0) 7 edge steps
 
 module _ (w : Window2) where
   wide : AreWide (quarter w) bays
-  wide zero l e = absurd (two_kinds kind.Straight refl e)
+  wide zero l e = absurd (no_kind kind.Straight refl e)
   wide (suc zero) l e = tt
-  wide (suc (suc zero)) l e = absurd (two_kinds kind.Straight refl e)
+  wide (suc (suc zero)) l e = absurd (no_kind kind.Straight refl e)
   wide (suc (suc (suc i))) l e = absurd (omega (arith, l))
 
   settled : IsSettledRun (quarter w) bays 7 edge

@@ -1,5 +1,5 @@
 -- The edge list of a drawing with half arcs at one level, as the laws on settled drawings see it.
-use Rattle.std.specs.Prelude.{◌≡◌, ◌⊎◌, ℕ, ◌+◌, ◌<◌, ◌≤◌, List, map, cond, length, pos, ◌<ℤ◌}
+use Rattle.std.specs.Prelude.{◌≡◌, ◌⊎◌, ℕ, ◌+◌, ◌<◌, ◌≤◌, List, length, pos, ◌<ℤ◌}
 use Rattle.plane.specs.declared.kinds.Point.{Point}
 use Rattle.plane.specs.declared.kinds.CurveKind.TheVariants as kind
 use Rattle.plane.specs.Lists.{Has}
@@ -12,7 +12,7 @@ use Rattle.plane.specs.Rule.BadPairs.{IsEndOf, HaveSameEnds}
 use Rattle.plane.specs.Faces.Halves.{Half, edge_of, twin}
 use Rattle.plane.specs.Tubes.Bays.{Bay, IsSome}
 use Rattle.plane.specs.Tubes.Windings.{Triangle, InTriangle, tiles, IsCornerOf}
-use Rattle.plane.specs.CurveRuns.TubedRuns.{owned, IsOfTube, inner, outer, half_within, tube_label, third_is_left, first_edge, tube_start, tube_bays, tube_edges, first_bay, later_bays}
+use Rattle.plane.specs.CurveRuns.TubedRuns.{owned, IsOfTube, inner, outer, half_within, tube_label, first_edge, later_bays}
 
 -- Each tube has at least two bays.
 abbrev pub AreWide : Plan → (ℕ → List Bay) → Type 0
