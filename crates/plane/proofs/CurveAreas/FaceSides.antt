@@ -18,7 +18,8 @@ use Rattle.plane.specs.CurveRuns.Extended.{HasLabel}
 use Rattle.plane.specs.CurveRuns.TubedRuns.{whole, owned, IsOfTube, IsTubedRun, AreTubeLabels, half_within, tubes}
 use Rattle.plane.specs.CurveRuns.RegionPoints.{HasRegion}
 use Rattle.plane.specs.CurveRuns.Levels.{AreWide, IsSettledRun, beside_inner, beside_outer}
-use Rattle.plane.specs.CurveRuns.FacePlaces.{HasFace, PointHasFace, IsUnnamed}
+use Rattle.plane.specs.CurveRuns.FacePlaces.{HasFace, PointHasFace}
+use Rattle.plane.specs.Rule.CrossedCurves.{IsUnnamed}
 use Rattle.plane.proofs.Runs.RunWeights.{RunWeight, points_of, points_has, run_weight, event_known}
 use Rattle.plane.proofs.TubedRuns.OwnedEdges.{IsOfStraight, owner_is}
 use Rattle.plane.proofs.TubedRuns.FacedTubes.{faced_whole}

@@ -3,7 +3,7 @@
 use Rattle.std.proofs.Common.{◌≡◌, ℕ, zero, suc, ◌<◌, ◌≤◌, List, [], length, ℤ, refl, arith, ap, sym, ◌∙◌, subst}
 use Rattle.plane.specs.Lists.{Has}
 use Rattle.plane.specs.Forms.Vectors.{Edge}
-use Rattle.plane.specs.Rule.Plans.{Plan, curve}
+use Rattle.plane.specs.Rule.Plans.{Plan, curve, IsHalfArc}
 use Rattle.plane.specs.Rule.Triangles.{Apart}
 use Rattle.plane.specs.Runs.Steps.{Step, WeighedRun}
 use Rattle.plane.specs.Faces.Replays.{Replay, replay}
@@ -12,7 +12,7 @@ use Rattle.plane.specs.Faces.Classes.{Across, Touches, Connected}
 use Rattle.plane.specs.Faces.Classes as faces_of
 use Rattle.plane.specs.Tubes.Bays.{Bay}
 use Rattle.plane.specs.CurveRuns.TubedRuns.{Owned, owned, IsTubedRun, AreTubeLabels, half_within}
-use Rattle.plane.proofs.Settling.EdgesAndTubes.{EdgeList, IsHalfArc, IsEdgeList, level}
+use Rattle.plane.proofs.Settling.EdgesAndTubes.{EdgeList, IsEdgeList, level}
 use Rattle.plane.proofs.Settling.EdgesSettled.{IsSettled}
 use Rattle.plane.specs.CurveRuns.Levels.{AreWide, IsSettledRun}
 use Rattle.plane.specs.CurveRuns.FacedTubes.{faced, AreCellsPaired, blank_label, blank_labels}

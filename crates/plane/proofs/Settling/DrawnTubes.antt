@@ -7,11 +7,11 @@ use Rattle.plane.specs.Forms.Vectors.{Vector, Between, point, Edge}
 use Rattle.plane.specs.Forms.Arcs.{HalfArc}
 use Rattle.plane.specs.Rule.Curves.{arc}
 use Rattle.plane.specs.Rule.BadPairs.{IsEndOf, HaveSameEnds}
-use Rattle.plane.specs.Rule.Plans.{Plan, curve}
+use Rattle.plane.specs.Rule.Plans.{Plan, curve, IsStraight, IsHalfArc}
 use Rattle.plane.specs.Faces.Halves.{Half, under, over, edge_of}
 use Rattle.plane.specs.Tubes.Bays.{Bay}
 use Rattle.plane.specs.Tubes.Facing.{tip}
-use Rattle.plane.proofs.Settling.EdgesAndTubes.{DrawnTube, IsTubeOf, EdgeList, IsStraight, IsHalfArc, IsEdgeList}
+use Rattle.plane.proofs.Settling.EdgesAndTubes.{DrawnTube, IsTubeOf, EdgeList, IsEdgeList}
 use Rattle.plane.proofs.Linear.Signs.{between_back}
 use Rattle.plane.proofs.HalfArcs.Turned.{OneArc}
 use Rattle.plane.proofs.Windings.Enters.{Decided}

@@ -6,7 +6,7 @@ use Rattle.plane.specs.Lists.{Has, Once}
 use Rattle.plane.specs.Forms.Vectors.{Edge}
 use Rattle.plane.specs.Forms.Arcs.{HalfArc, bend}
 use Rattle.plane.specs.Rule.Curves.{arc}
-use Rattle.plane.specs.Rule.Plans.{Plan, curve}
+use Rattle.plane.specs.Rule.Plans.{Plan, curve, IsStraight, IsHalfArc}
 use Rattle.plane.specs.Forms.Segments.{IsEdgeOf}
 use Rattle.plane.specs.Faces.Halves.{Half, edge_of}
 use Rattle.plane.specs.Tubes.Bays.{Bay, IsTube, IsSome}
@@ -47,15 +47,6 @@ pub record EdgeList : Type 0 where
   pub owner : ℕ → ℕ
   pub straight : ℕ → ℕ
   pub tube : ℕ → DrawnTube
-
--- Curve i is a straight of the drawing, or a half arc of it.
-pub record IsStraight (d : Plan) (i : ℕ) : Type 0 where
-  pub there : i < length d.curves
-  pub kind : (curve d i).kind ≡ kind.Straight
-
-pub record IsHalfArc (d : Plan) (i : ℕ) : Type 0 where
-  pub there : i < length d.curves
-  pub kind : (curve d i).kind ≡ kind.HalfArc
 
 -- They are the edges of the drawing: all half arcs have tubes, and each edge belongs to one straight or one tube.
 pub record IsEdgeList (d : Plan) (l : EdgeList) : Type 0 where

@@ -5,13 +5,13 @@ use Rattle.plane.specs.Lists.{Has}
 use Rattle.plane.specs.Forms.Vectors.{point}
 use Rattle.plane.specs.Rule.HalfArcs.{bow}
 use Rattle.plane.specs.Rule.Curves.{arc}
-use Rattle.plane.specs.Rule.Plans.{Plan, curve}
+use Rattle.plane.specs.Rule.Plans.{Plan, curve, IsStraight, IsHalfArc}
 use Rattle.plane.specs.Forms.Meets.{IsEnd, Disjoint, Touch}
 use Rattle.plane.specs.Rule.BadPairs.{IsEndOf, HaveSameEnds}
 use Rattle.plane.specs.Faces.Halves.{Half, edge_of, twin}
 use Rattle.plane.specs.Tubes.Bays.{Bay}
 use Rattle.plane.specs.Tubes.Windings.{Triangle, InTriangle, IsCornerOf}
-use Rattle.plane.proofs.Settling.EdgesAndTubes.{EdgeList, IsStraight, IsHalfArc, tiles_of}
+use Rattle.plane.proofs.Settling.EdgesAndTubes.{EdgeList, tiles_of}
 
 -- That all half arcs have tubes is part of what makes them the edges of the drawing.
 pub record IsSettled (d : Plan) (l : EdgeList) : Type 0 where

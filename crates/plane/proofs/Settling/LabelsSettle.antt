@@ -10,7 +10,7 @@ use Rattle.plane.specs.Forms.Vectors.{Vector, point, Edge}
 use Rattle.plane.specs.Forms.Meets.{IsEnd}
 use Rattle.plane.specs.Rule.HalfArcs.{power, bow}
 use Rattle.plane.specs.Rule.Curves.{arc, IsOnKind}
-use Rattle.plane.specs.Rule.Plans.{Plan, curve}
+use Rattle.plane.specs.Rule.Plans.{Plan, curve, IsHalfArc}
 use Rattle.plane.specs.Rule.BadPairs.{IsEndOf, HaveSameEnds}
 use Rattle.plane.specs.Runs.Steps.{Step, WeighedRun}
 use Rattle.plane.specs.Faces.Replays.{Replay, replay}
@@ -39,7 +39,6 @@ use Rattle.plane.proofs.TubedRuns.RunTubes.{are_tubes, tube_owner, tube_places}
 use Rattle.plane.proofs.TubedRuns.TubedCurves.{tube_of}
 use Rattle.plane.proofs.TubedRuns.TubedApart.{straight_arc}
 use Rattle.plane.proofs.Covers.CurvePlaces.{no_kind}
-use Rattle.plane.proofs.Settling.EdgesAndTubes.{IsHalfArc}
 use Rattle.plane.proofs.Settling.DrawnTubes.{same_ends}
 use Rattle.plane.proofs.Settling.SettledRuns.{half_corner, corner_arrow}
 

@@ -3,7 +3,7 @@ use Rattle.std.proofs.Common.{◌≡◌, ℕ, suc, ◌+◌, ◌<◌, ◌≤◌, 
 use Rattle.plane.specs.declared.kinds.CurveKind.TheVariants as kind
 use Rattle.plane.specs.Lists.{Has}
 use Rattle.plane.specs.Forms.Vectors.{Edge}
-use Rattle.plane.specs.Rule.Plans.{Plan, curve}
+use Rattle.plane.specs.Rule.Plans.{Plan, curve, IsHalfArc}
 use Rattle.plane.specs.Runs.Steps.{Step, WeighedRun}
 use Rattle.plane.specs.Faces.Replays.{replay}
 use Rattle.plane.specs.Faces.Halves.{Half, under, over, edge_of, twin, mark}
@@ -12,7 +12,7 @@ use Rattle.plane.specs.Tubes.Bays.{Bay}
 use Rattle.plane.specs.Tubes.Bays as one
 use Rattle.plane.specs.CurveRuns.TubedRuns.{Part, whole, inner, outer, Owned, owned, IsOfTube, IsTubedRun, third_is_left, half_within, first_edge, tube_edges, onward_edges, backward_edges, tube_label}
 use Rattle.plane.specs.CurveRuns.TubedRuns as tubed
-use Rattle.plane.proofs.Settling.EdgesAndTubes.{EdgeList, IsHalfArc, IsEdgeList, level}
+use Rattle.plane.proofs.Settling.EdgesAndTubes.{EdgeList, IsEdgeList, level}
 use Rattle.plane.proofs.Settling.EdgesSettled.{inner_halves, outer_halves, IsSettled, AreTubeFaces}
 use Rattle.plane.specs.CurveRuns.Levels.{AreWide, IsSettledRun, AreFacesOfTubes, AreCertificateNumbers, beside_inner, beside_outer}
 use Rattle.plane.proofs.Covers.CurvePlaces.{no_kind}

@@ -10,12 +10,12 @@ use Rattle.plane.specs.Forms.Vectors.{Edge}
 use Rattle.plane.specs.Forms.Segments.{IsEdgeOf}
 use Rattle.plane.specs.Forms.Arcs.{HalfArc, bend}
 use Rattle.plane.specs.Rule.Curves.{arc}
-use Rattle.plane.specs.Rule.Plans.{Plan, curve}
+use Rattle.plane.specs.Rule.Plans.{Plan, curve, IsStraight}
 use Rattle.plane.specs.Faces.Cells.{is_positive}
 use Rattle.plane.specs.Runs.Steps.{Step}
 use Rattle.plane.specs.Tubes.Bays.{Bay, IsSome, IsTube}
 use Rattle.plane.specs.CurveRuns.TubedRuns.{edges_of, owned, IsTubedRun, third_is_left, half_within, first_edge, first_bay, later_bays, backward}
-use Rattle.plane.proofs.Settling.EdgesAndTubes.{turned, EdgeList, IsStraight, IsEdgeList, level}
+use Rattle.plane.proofs.Settling.EdgesAndTubes.{turned, EdgeList, IsEdgeList, level}
 use Rattle.plane.specs.CurveRuns.Levels.{AreWide}
 use Rattle.plane.proofs.TubedRuns.EdgeNumbers.{group_of}
 use Rattle.plane.proofs.TubedRuns.OwnedEdges.{no_curve, owner_is, straight_edge}

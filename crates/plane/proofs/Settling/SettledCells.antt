@@ -5,7 +5,7 @@ use Rattle.plane.specs.declared.kinds.Point.{Point}
 use Rattle.plane.specs.Lists.{Has, Once}
 use Rattle.plane.specs.Forms.Vectors.{Vector, Place, Same, Between, mix, point, Edge, side, On, HitsEdge}
 use Rattle.plane.specs.Forms.Meets.{IsEnd}
-use Rattle.plane.specs.Rule.Plans.{Plan}
+use Rattle.plane.specs.Rule.Plans.{Plan, IsHalfArc}
 use Rattle.plane.specs.Runs.Steps.{Step, WeighedRun}
 use Rattle.plane.specs.Faces.Replays.{Replay, replay, IsOffEdges}
 use Rattle.plane.specs.Faces.Cells.{sector}
@@ -13,7 +13,7 @@ use Rattle.plane.specs.Faces.Halves.{Half, under, over, edge_of, twin, Beside}
 use Rattle.plane.specs.Tubes.Windings.{Triangle, IsLeft, bounds}
 use Rattle.plane.specs.Tubes.Facing.{way}
 use Rattle.plane.specs.CurveRuns.Extended.{IsOnWay}
-use Rattle.plane.proofs.Settling.EdgesAndTubes.{tiles_of, EdgeList, IsHalfArc, IsEdgeList}
+use Rattle.plane.proofs.Settling.EdgesAndTubes.{tiles_of, EdgeList, IsEdgeList}
 use Rattle.plane.proofs.Settling.EdgesSettled.{IsSettled}
 use Rattle.plane.proofs.Linear.EdgePlaces.{place_point}
 use Rattle.plane.proofs.ListLemmas.Lists.{each_has}

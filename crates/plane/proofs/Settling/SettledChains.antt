@@ -6,7 +6,7 @@ use Rattle.plane.specs.Lists.{Has}
 use Rattle.plane.specs.Forms.Vectors.{Edge}
 use Rattle.plane.specs.Forms.Meets.{IsEnd}
 use Rattle.plane.specs.Rule.BadPairs.{IsEndOf}
-use Rattle.plane.specs.Rule.Plans.{Plan, curve}
+use Rattle.plane.specs.Rule.Plans.{Plan, curve, IsHalfArc}
 use Rattle.plane.specs.Runs.Steps.{Step, Run, WeighedRun}
 use Rattle.plane.specs.Faces.Replays.{Replay, replay}
 use Rattle.plane.specs.Faces.Halves.{Half, under, over, edge_of, twin}
@@ -14,7 +14,7 @@ use Rattle.plane.specs.Faces.Classes.{Next}
 use Rattle.plane.specs.Faces.Directions.{origin}
 use Rattle.plane.specs.Tubes.Windings.{bounds}
 use Rattle.plane.specs.Tubes.Facing.{way}
-use Rattle.plane.proofs.Settling.EdgesAndTubes.{DrawnTube, IsTubeOf, EdgeList, IsHalfArc, IsEdgeList}
+use Rattle.plane.proofs.Settling.EdgesAndTubes.{DrawnTube, IsTubeOf, EdgeList, IsEdgeList}
 use Rattle.plane.proofs.Settling.EdgesSettled.{IsSettled}
 use Rattle.plane.proofs.Windings.Ways.{half_or_twin}
 use Rattle.plane.proofs.Windings.TileCorners.{arrow_end}

@@ -8,7 +8,7 @@ use Rattle.plane.specs.Forms.Vectors.{Vector, Place, Same, Between, mix, point, 
 use Rattle.plane.specs.Forms.Meets.{IsEnd}
 use Rattle.plane.specs.Forms.Arcs.{HalfArc, chord, along, bow}
 use Rattle.plane.specs.Rule.Curves.{arc}
-use Rattle.plane.specs.Rule.Plans.{Plan, curve}
+use Rattle.plane.specs.Rule.Plans.{Plan, curve, IsStraight, IsHalfArc}
 use Rattle.plane.specs.Rule.BadPairs.{IsEndOf, HaveSameEnds}
 use Rattle.plane.specs.Forms.Segments.{IsEdgeOf}
 use Rattle.plane.specs.Runs.Steps.{Step, WeighedRun}
@@ -18,7 +18,7 @@ use Rattle.plane.specs.Tubes.Bays.{Bay}
 use Rattle.plane.specs.Tubes.Windings.{arrow, Triangle, InTriangle, InSome, IsLeft, IsTiled, tiles, bounds, IsCornerOf}
 use Rattle.plane.specs.Tubes.Facing.{way}
 use Rattle.plane.specs.CurveRuns.Extended.{IsOnWay}
-use Rattle.plane.proofs.Settling.EdgesAndTubes.{DrawnTube, tiles_of, EdgeList, IsStraight, IsHalfArc, IsEdgeList}
+use Rattle.plane.proofs.Settling.EdgesAndTubes.{DrawnTube, tiles_of, EdgeList, IsEdgeList}
 use Rattle.plane.proofs.Settling.EdgesSettled.{IsSettled}
 use Rattle.plane.proofs.Linear.EdgePlaces.{place_point}
 use Rattle.plane.proofs.Algebra.Laws.{weight_at_most}

@@ -5,7 +5,7 @@ use Rattle.plane.specs.declared.kinds.Point.{Point}
 use Rattle.plane.specs.Lists.{Has}
 use Rattle.plane.specs.Forms.Vectors.{Vector, Place, Same, mix, point, Edge, side}
 use Rattle.plane.specs.Forms.Meets.{IsEnd}
-use Rattle.plane.specs.Rule.Plans.{Plan}
+use Rattle.plane.specs.Rule.Plans.{Plan, IsHalfArc}
 use Rattle.plane.specs.Runs.Steps.{Step, Run, WeighedRun}
 use Rattle.plane.specs.Faces.Replays.{Replay, replay}
 use Rattle.plane.specs.Faces.Halves.{Half, under, over, edge_of, twin}
@@ -14,7 +14,7 @@ use Rattle.plane.specs.Faces.Directions.{Direction, origin, direction, TurnsLeft
 use Rattle.plane.specs.Tubes.Bays.{Bay}
 use Rattle.plane.specs.Tubes.Windings.{arrow, back, Triangle, IsLeft}
 use Rattle.plane.specs.Tubes.Facing.{way}
-use Rattle.plane.proofs.Settling.EdgesAndTubes.{EdgeList, IsHalfArc, IsEdgeList}
+use Rattle.plane.proofs.Settling.EdgesAndTubes.{EdgeList, IsEdgeList}
 use Rattle.plane.proofs.Settling.EdgesSettled.{IsSettled}
 use Rattle.plane.proofs.ListLemmas.Points.{point_eq}
 use Rattle.plane.proofs.Algebra.Ring.{at, num, plus, minus, times, vars, ring}

@@ -7,7 +7,7 @@ use Rattle.plane.specs.Forms.Vectors.{point, Edge}
 use Rattle.plane.specs.Forms.Meets.{IsEnd}
 use Rattle.plane.specs.Rule.HalfArcs.{bow}
 use Rattle.plane.specs.Rule.Curves.{arc}
-use Rattle.plane.specs.Rule.Plans.{Plan, curve}
+use Rattle.plane.specs.Rule.Plans.{Plan, curve, IsStraight, IsHalfArc}
 use Rattle.plane.specs.Rule.BadPairs.{IsEndOf, HaveSameEnds}
 use Rattle.plane.specs.Runs.Steps.{Step}
 use Rattle.plane.specs.Faces.Replays.{replay, no_step}
@@ -16,7 +16,7 @@ use Rattle.plane.specs.Tubes.Bays.{Bay, IsSome, IsTube}
 use Rattle.plane.specs.Tubes.Bays as one
 use Rattle.plane.specs.Tubes.Windings.{Triangle, InTriangle, InSome, tiles, bounds, IsCornerOf}
 use Rattle.plane.specs.CurveRuns.TubedRuns.{Part, whole, inner, outer, Owned, chain, inner_corners, outer_corners, owned, Connects, IsTubedRun, third_is_left, inward, half_within, first_edge, tube_start, tube_bays, tube_edges, first_bay, later_bays, backward}
-use Rattle.plane.proofs.Settling.EdgesAndTubes.{tiles_of, EdgeList, IsStraight, IsHalfArc, IsEdgeList, level}
+use Rattle.plane.proofs.Settling.EdgesAndTubes.{tiles_of, EdgeList, IsEdgeList, level}
 use Rattle.plane.proofs.Settling.EdgesSettled.{IsSettled}
 use Rattle.plane.specs.CurveRuns.Levels.{AreWide, IsSettledRun}
 use Rattle.plane.proofs.ListLemmas.Lists.{has_append}

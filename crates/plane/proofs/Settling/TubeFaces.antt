@@ -7,7 +7,7 @@ use Rattle.plane.specs.Lists.{Has}
 use Rattle.plane.specs.Forms.Vectors.{point, Edge}
 use Rattle.plane.specs.Rule.BadPairs.{IsEndOf}
 use Rattle.plane.specs.Forms.Arcs.{HalfArc, chord, along}
-use Rattle.plane.specs.Rule.Plans.{Plan, curve}
+use Rattle.plane.specs.Rule.Plans.{Plan, curve, IsHalfArc}
 use Rattle.plane.specs.Runs.Steps.{Step, Run, WeighedRun}
 use Rattle.plane.specs.Faces.Replays.{Replay, replay}
 use Rattle.plane.specs.Faces.Halves.{Half, twin}
@@ -15,7 +15,7 @@ use Rattle.plane.specs.Faces.Classes.{Next, IsFaces}
 use Rattle.plane.specs.Tubes.Bays.{Bay}
 use Rattle.plane.specs.Tubes.Windings.{arrow, fence, bounds}
 use Rattle.plane.specs.Tubes.Facing.{way}
-use Rattle.plane.proofs.Settling.EdgesAndTubes.{DrawnTube, IsTubeOf, EdgeList, IsHalfArc, IsEdgeList}
+use Rattle.plane.proofs.Settling.EdgesAndTubes.{DrawnTube, IsTubeOf, EdgeList, IsEdgeList}
 use Rattle.plane.proofs.Settling.EdgesSettled.{inner_halves, outer_halves, IsSettled, AreTubeFaces}
 use Rattle.plane.proofs.OneTube.TubeStrips.{IsRest, before_end, tube_rest}
 use Rattle.plane.proofs.Caps.Pictures.{along-from, along-to}

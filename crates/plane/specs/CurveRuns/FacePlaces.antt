@@ -5,12 +5,12 @@ use Rattle.plane.specs.Forms.Vectors.{Vector}
 use Rattle.plane.specs.Rule.Plans.{Plan}
 use Rattle.plane.specs.Faces.Replays.{Replay}
 use Rattle.plane.specs.Faces.Halves.{Half, over, AtBefore}
-use Rattle.plane.specs.Faces.Classes.{numbers, face_of}
+use Rattle.plane.specs.Faces.Classes.{Lead, numbers, face_of}
 use Rattle.plane.specs.Faces.PlacedPoints.{IsLocated}
 use Rattle.plane.specs.Tubes.Bays.{Bay}
 use Rattle.plane.specs.CurveRuns.Extended.{HasLabel}
 use Rattle.plane.specs.CurveRuns.TubedRuns.{half_within, tubes}
-use Rattle.plane.specs.CurveRuns.CertifiedCurves.{IsInTube}
+use Rattle.plane.specs.CurveRuns.CertifiedCurves.{IsInTube, ArePlaced, IsCurveRoot, CertifiedCurves}
 use Rattle.plane.specs.CurveRuns.Levels.{beside_inner, beside_outer}
 use Rattle.plane.specs.CurveRuns.FacedTubes.{faced}
 
@@ -30,6 +30,12 @@ pub record IsInFace (d : Plan) (bays : ℕ → List Bay) (r : Replay) (face : Ha
 abbrev pub PointHasFace : Plan → (ℕ → List Bay) → Replay → (Half → ℕ) → Point → ℕ → Type 0
 PointHasFace d bays r face v n = IsInFace d bays r face v n ⊎ IsInTube d bays (beside_inner d bays r.edge face) (beside_outer d bays r.edge face) v n
 
--- The number is neither 0 nor that of an object's point, where point j has the number k j.
-abbrev pub IsUnnamed : Plan → (ℕ → ℕ) → ℕ → Type 0
-IsUnnamed d k n = (n ≡ 0 → ⊥) × ((j : ℕ) → j < length d.points → n ≡ k j → ⊥)
+-- ---- a certificate whose labels are the face numbers
+abbrev pub ArePlacedByFaces : Plan → (ℕ → List Bay) → Replay → (Half → ℕ) → Type 0
+ArePlacedByFaces d bays r face = ArePlaced d bays r (numbers face) (beside_inner d bays r.edge face) (beside_outer d bays r.edge face)
+
+abbrev pub IsFaceRoot : Plan → (ℕ → List Bay) → Replay → (Half → ℕ) → Half → Type 0
+IsFaceRoot d bays r face h = IsCurveRoot d bays r (numbers face) (half_within d bays r.edge) (beside_inner d bays r.edge face) (beside_outer d bays r.edge face) h
+
+abbrev pub CertifiedByFaces : Plan → (ℕ → List Bay) → Replay → (Half → ℕ) → (Half → ℕ) → (Half → Lead) → Type 0
+CertifiedByFaces d bays r face rank link = CertifiedCurves d bays r (numbers face) (half_within d bays r.edge) (beside_inner d bays r.edge face) (beside_outer d bays r.edge face) rank link

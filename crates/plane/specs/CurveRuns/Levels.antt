@@ -12,7 +12,8 @@ use Rattle.plane.specs.Rule.BadPairs.{IsEndOf, HaveSameEnds}
 use Rattle.plane.specs.Faces.Halves.{Half, edge_of, twin}
 use Rattle.plane.specs.Tubes.Bays.{Bay, IsSome}
 use Rattle.plane.specs.Tubes.Windings.{Triangle, InTriangle, tiles, IsCornerOf}
-use Rattle.plane.specs.CurveRuns.TubedRuns.{owned, IsOfTube, inner, outer, half_within, tube_label, first_edge, later_bays}
+use Rattle.plane.specs.CurveRuns.TubedRuns.{IsTubedRun, owned, IsOfTube, inner, outer, half_within, tube_label, first_edge, later_bays}
+use Rattle.plane.specs.Runs.Steps.{Step}
 
 -- Each tube has at least two bays.
 abbrev pub AreWide : Plan → (ℕ → List Bay) → Type 0
@@ -26,6 +27,12 @@ pub record IsSettledRun (d : Plan) (bays : ℕ → List Bay) (m : ℕ) (E : ℕ 
   -- Where a straight joins the ends of a half arc, the inner corners of the tube but the half arc's ends stand strictly over the chord.
   pub chord : (i j : ℕ) → i < length d.curves → j < length d.curves → (curve d i).kind ≡ kind.Straight → (curve d j).kind ≡ kind.HalfArc → HaveSameEnds (curve d i) (curve d j) → (b : Bay) → Has b (bays j)
       → IsEndOf (curve d j) b.inner ⊎ (pos 0 <ℤ bow (arc (curve d j)) (point b.inner))
+
+-- A run over the edge list whose tubes have two bays at least, and that is settled.
+pub record IsSettledDrawing (d : Plan) (bays : ℕ → List Bay) (m : ℕ) (E : ℕ → Edge) (steps : List Step) : Type 0 where
+  pub run : IsTubedRun d bays m E steps
+  pub wide : AreWide d bays
+  pub settled : IsSettledRun d bays m E
 
 -- ---- face numbers as labels
 -- What face numbers say of the edges of tubes: those that face one tube from within have one number, which no other half-edge has and which

@@ -1,6 +1,6 @@
 -- Complete runs over the edge list of a drawing whose half arcs have tubes, and the labels of their sides.
 -- The edge list follows the curves: a straight gives one edge; a half arc gives its inner chain, then its outer chain.
-use Rattle.std.specs.Prelude.{◌≡◌, ◌⊎◌, ℕ, zero, suc, ◌+◌, ◌<◌, ◌≤◌, Bool, true, false, cond, List, [], ◌∷◌, ◌++◌, map, length, get_or, pos, ◌-ℤ◌}
+use Rattle.std.specs.Prelude.{◌≡◌, ◌⊎◌, ℕ, zero, suc, ◌+◌, ◌<◌, ◌≤◌, Bool, true, false, cond, List, [], ◌∷◌, ◌++◌, map, length, get_or, pos, ◌-ℤ◌, ℤ}
 use Rattle.plane.specs.declared.kinds.Point.{Point}
 use Rattle.plane.specs.declared.kinds.Curve.{Curve}
 use Rattle.plane.specs.declared.kinds.CurveKind.{CurveKind}
@@ -9,10 +9,10 @@ use Rattle.plane.specs.Forms.Vectors.{Vector, point, Edge}
 use Rattle.plane.specs.Forms.Arcs.{along}
 use Rattle.plane.specs.Rule.HalfArcs.{bend, power, HitsHalfArc}
 use Rattle.plane.specs.Rule.Curves.{arc}
-use Rattle.plane.specs.Rule.Plans.{Plan, curve}
+use Rattle.plane.specs.Rule.Plans.{Plan, curve, IsStraight}
 use Rattle.plane.specs.Forms.Meets.{IsEnd}
 use Rattle.plane.specs.Runs.Steps.{Step, Run}
-use Rattle.plane.specs.Faces.Replays.{Replay, no_step}
+use Rattle.plane.specs.Faces.Replays.{Replay, replay, no_step}
 use Rattle.plane.specs.Faces.Cells.{is_positive}
 use Rattle.plane.specs.Faces.Halves.{Half, under, over, twin, edge_of, mark, IsMatched}
 use Rattle.plane.specs.Faces.Labels.{Labels}
@@ -210,3 +210,16 @@ tubes d bays within inside outside = record {
 -- The segment from p to q hits the half arc of tube c.
 abbrev pub MeetsArc : Plan → ℕ → Vector → Vector → Type 0
 MeetsArc d c p q = HitsHalfArc (arc (curve d (arc_at d c))) p q
+
+-- ---- the premises of the laws on such runs
+-- A run over the edge list with labels as a certificate's rules ask.
+pub record IsLabelledRun (w : ℤ) (d : Plan) (bays : ℕ → List Bay) (m : ℕ) (E : ℕ → Edge) (steps : List Step) (lab : Labels) (within : ℕ → Half) (inside outside : ℕ → ℕ) : Type 0 where
+  pub run : IsTubedRun d bays m E steps
+  pub labels : AreTubeLabels d bays (replay w m E steps) lab within inside outside
+
+-- Edge e is that of curve i, a straight.
+pub record IsStraightEdge (d : Plan) (bays : ℕ → List Bay) (m i e : ℕ) : Type 0 where
+  pub straight : IsStraight d i
+  pub fits : e < m
+  pub curve : (owned d bays e).curve ≡ i
+  pub part : (owned d bays e).part ≡ whole

@@ -24,6 +24,9 @@ pub record Sector : Type 0 where
   pub strip : ℕ
   pub index : ℕ
 
+abbrev pub position : ℕ → ℕ → Sector
+position k i = record { strip = k; index = i }
+
 abbrev pub strip : Replay → Vector → ℕ
 strip r z = passed r z r.steps
 

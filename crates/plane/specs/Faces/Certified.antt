@@ -1,11 +1,11 @@
 -- What a certificate says of a drawing of straights, over the lists of its replay.
 -- And the other way, what face numbers have to meet to be the labels of one.
-use Rattle.std.specs.Prelude.{◌≡◌, ℕ, suc, ◌<◌, ◌⊎◌, length}
+use Rattle.std.specs.Prelude.{◌≡◌, ℕ, suc, ◌<◌, ◌⊎◌, length, Bool, IsTrue}
 use Rattle.plane.specs.Faces.Replays.{Replay}
 use Rattle.plane.specs.Faces.Labels.{Labels}
 use Rattle.plane.specs.Faces.Halves.{Half, edge_of, mark, Beside, IsMatched}
 use Rattle.plane.specs.Faces.Classes.{Next, Across, Touches, Lead, root, next, previous, across, AreLeads, IsFaces, face_of}
-use Rattle.plane.specs.Faces.PlacedPoints.{IsPlaced}
+use Rattle.plane.specs.Faces.PlacedPoints.{IsPlaced, IsLocated}
 use Rattle.plane.specs.Rule.Plans.{Plan, object}
 
 -- a root has label 0 and was a neighbour of a border, or bounds the cell of its label's point
@@ -37,3 +37,16 @@ FoundLead r rank Root h root = Root h
 FoundLead r rank Root h (next g) = Next r h g × (rank g < rank h)
 FoundLead r rank Root h (previous g) = Next r g h × (rank g < rank h)
 FoundLead r rank Root h (across g) = Across r h g × (rank g < rank h)
+
+-- every object's point has a position
+abbrev pub AreLocated : Plan → Replay → (ℕ → ℕ) → (ℕ → ℕ) → Type 0
+AreLocated d r strip index = (j : ℕ) → j < length d.points → IsLocated r (object d j) (strip j) (index j)
+
+-- every half-edge has such a lead
+abbrev pub AreFound : Replay → (Half → ℕ) → (Half → Type 0) → (Half → Lead) → Type 0
+AreFound r rank Root link = (h : Half) → edge_of h < r.edges → FoundLead r rank Root h (link h)
+
+-- a search that begins at the roots and crosses cells
+pub record IsSearch (r : Replay) (Root : Half → Type 0) (reached : Half → Bool) : Type 0 where
+  pub roots : (h : Half) → edge_of h < r.edges → Root h → IsTrue (reached h)
+  pub across : (g h : Half) → IsTrue (reached g) → Across r h g → IsTrue (reached h)

@@ -5,7 +5,7 @@ use Rattle.plane.specs.Runs.Steps.{Step}
 use Rattle.plane.specs.Faces.Replays.{Replay}
 use Rattle.plane.specs.Faces.Labels.{Labels}
 use Rattle.plane.specs.Faces.Cells.{label_of, Sector, IsSector, IsBorder}
-use Rattle.plane.specs.Faces.Halves.{Half, under, over, edge_of, twin, Beside}
+use Rattle.plane.specs.Faces.Halves.{Half, under, over, edge_of, twin, mark, Beside}
 
 -- ---- rotation
 abbrev pub outward : List ℕ → List Half
@@ -105,3 +105,9 @@ numbers face = record { below = λ e. face (under e); above = λ e. face (over e
 -- the number of a cell
 abbrev pub face_of : Replay → (Half → ℕ) → Sector → ℕ
 face_of r face c = label_of (numbers face) r c
+
+-- ---- labels that tell apart whatever face numbers tell apart
+pub record AreFine (r : Replay) (lab : Labels) (face : Half → ℕ) : Type 0 where
+  pub faces : IsFaces r face
+  pub finer : (g h : Half) → edge_of g < r.edges → edge_of h < r.edges → mark lab g ≡ mark lab h → face g ≡ face h
+  pub outer : (h : Half) → edge_of h < r.edges → mark lab h ≡ 0 → face h ≡ 0

@@ -1,6 +1,6 @@
 -- Working forms: edges, two linear forms on places, and the places of a segment as means of its ends.
 -- A vector with n = 0 is a direction.
-use Rattle.std.specs.Prelude.{◌≡◌, ℤ, pos, negsuc, ◌+ℤ◌, ◌*ℤ◌, ◌-ℤ◌, ◌<ℤ◌, ◌≤ℤ◌, ◌⊎◌}
+use Rattle.std.specs.Prelude.{◌≡◌, ℤ, pos, negsuc, ◌+ℤ◌, ◌*ℤ◌, ◌-ℤ◌, ◌<ℤ◌, ◌≤ℤ◌, ◌⊎◌, ℕ, ◌<◌}
 use Rattle.plane.specs.declared.kinds.Point.{Point}
 pub use Rattle.plane.specs.declared.kinds.Edge.{Edge}
 pub use Rattle.plane.specs.Rule.Places.{Vector, Place, point, Same}
@@ -56,6 +56,10 @@ pub record InSpan (w : ℤ) (e : Edge) (v : Vector) : Type 0 where
 -- p comes before q: by x, then by y
 abbrev pub Before : Point → Point → Type 0
 Before p q = (p.x <ℤ q.x) ⊎ ((p.x ≡ q.x) × (p.y <ℤ q.y))
+
+-- of the edges with numbers below m the low end comes before the high end
+abbrev pub AreRising : ℕ → (ℕ → Edge) → Type 0
+AreRising m E = (e : ℕ) → e < m → Before (E e).low (E e).high
 
 -- the place of e on the sweep line through z
 abbrev pub foot : ℤ → Edge → Vector → Vector

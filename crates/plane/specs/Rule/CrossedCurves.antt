@@ -38,3 +38,22 @@ pub record CrossesHalfArc (d : Plan) (i : ℕ) (p q : Vector) : Type 0 where
 pub record IsLost (d : Plan) (z : Vector) : Type 0 where
   pub inner : IsOuter d z → ⊥
   pub alone : (j : ℕ) → j < length d.points → Joined d z (point (object d j)) → ⊥
+
+-- The number is neither 0 nor that of an object's point, where point j has the number k j.
+abbrev pub IsUnnamed : Plan → (ℕ → ℕ) → ℕ → Type 0
+IsUnnamed d k n = (n ≡ 0 → ⊥) × ((j : ℕ) → j < length d.points → n ≡ k j → ⊥)
+
+-- ---- empty sides, as some segment that crosses the curve shows
+-- above and below the edge of a straight
+abbrev pub IsEmptyAbove : Plan → Edge → ℕ → Type 0
+IsEmptyAbove d e i = (p : Vector) × (q : Vector) × CrossesCurve d e i p q × IsLost d p
+
+abbrev pub IsEmptyBelow : Plan → Edge → ℕ → Type 0
+IsEmptyBelow d e i = (p : Vector) × (q : Vector) × CrossesCurve d e i p q × IsLost d q
+
+-- inside and outside the circle of a half arc
+abbrev pub IsEmptyInside : Plan → ℕ → Type 0
+IsEmptyInside d i = (p : Vector) × (q : Vector) × CrossesHalfArc d i p q × IsLost d p
+
+abbrev pub IsEmptyOutside : Plan → ℕ → Type 0
+IsEmptyOutside d i = (p : Vector) × (q : Vector) × CrossesHalfArc d i p q × IsLost d q
