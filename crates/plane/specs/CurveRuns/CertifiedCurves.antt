@@ -1,5 +1,5 @@
 -- What a certificate says of a drawing of straights and half arcs, over the lists of its replay.
--- The labels are those of regions and tubes (specs/TubedRuns); for a drawing of straights alone see specs/Certified.
+-- The labels are those of regions and tubes (`TubedRuns`); for a drawing of straights alone see `Faces/Certified`.
 use Rattle.std.specs.Prelude.{◌≡◌, ◌⊎◌, ℕ, suc, ◌<◌, List, length, pos, ◌<ℤ◌}
 use Rattle.plane.specs.declared.kinds.Point.{Point}
 use Rattle.plane.specs.declared.kinds.CurveKind.TheVariants as kind

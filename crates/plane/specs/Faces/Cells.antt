@@ -1,5 +1,5 @@
--- Cells of a run, what opens from one to the next, and places joined by segments that hit no edge.
--- A cell is a strip's number and the number of edges under it; border cells lie under all edges or over all.
+-- Sectors of a run, what opens from one to the next, and places joined by segments that hit no edge.
+-- A cell is made of sectors, one in each strip that it goes through; border sectors lie under all edges or over all.
 use Rattle.std.specs.Prelude.{◌≡◌, ℕ, zero, suc, ◌+◌, ◌<◌, ◌≤◌, ◌⊎◌, Bool, true, false, cond, List, [], ◌∷◌, length, ℤ, pos, negsuc, ◌*ℤ◌, ◌-ℤ◌, ◌<ℤ◌}
 use Rattle.plane.specs.Forms.Vectors.{Vector, Place, Same, side, sweep, HitsEdge}
 use Rattle.plane.specs.Faces.Labels.{Labels, label_at}
@@ -20,6 +20,7 @@ abbrev pub raised : Replay → Vector → List ℕ → ℕ
 raised r z [] = 0
 raised r z (e ∷ es) = cond (is_positive (side (r.edge e) z)) (suc (raised r z es)) (raised r z es)
 
+-- A piece of a cell in one strip: how many events come before it, and how many edges of the live list lie under it.
 pub record Sector : Type 0 where
   pub strip : ℕ
   pub index : ℕ
@@ -36,27 +37,27 @@ sector_at r z k = record { strip = k; index = raised r z (r.list k) }
 abbrev pub sector : Replay → Vector → Sector
 sector r z = sector_at r z (strip r z)
 
--- a cell of the run
+-- a sector of the run
 pub record IsSector (r : Replay) (c : Sector) : Type 0 where
   pub strip : c.strip ≤ r.steps
   pub index : c.index ≤ length (r.list c.strip)
 
--- the cell before all events
+-- the sector before all events
 abbrev pub corner : Sector
 corner = record { strip = 0; index = 0 }
 
--- a cell under all edges, or over all
+-- a sector under all edges, or over all
 abbrev pub IsBorder : Replay → Sector → Type 0
 IsBorder r c = (c.index ≡ 0) ⊎ (c.index ≡ length (r.list c.strip))
 
--- the cell goes on below the event, with the same edges under it
+-- the sector goes on below the event, with the same edges under it
 pub record OpensBelow (r : Replay) (c d : Sector) : Type 0 where
   pub fits : c.strip < r.steps
   pub next : d.strip ≡ suc c.strip
   pub low : c.index ≤ length (r.step c.strip).below
   pub kept : d.index ≡ c.index
 
--- the cell goes on above the event, with the same edges over it
+-- the sector goes on above the event, with the same edges over it
 pub record OpensAbove (r : Replay) (c d : Sector) : Type 0 where
   pub fits : c.strip < r.steps
   pub next : d.strip ≡ suc c.strip
@@ -67,7 +68,7 @@ pub record OpensAbove (r : Replay) (c d : Sector) : Type 0 where
 abbrev pub Opens : Replay → Sector → Sector → Type 0
 Opens r c d = OpensBelow r c d ⊎ OpensAbove r c d
 
--- the least equivalence of cells that holds what opens
+-- the least equivalence of sectors that holds what opens
 pub data Linked (r : Replay) : Sector → Sector → Type 0 where
   stays : (c d : Sector) → c ≡ d → Linked r c d
   onward : (c d e : Sector) → Opens r c d → Linked r d e → Linked r c e
@@ -86,6 +87,6 @@ pub data JoinedByEdges (r : Replay) : Vector → Vector → Type 0 where
 abbrev pub IsOuterByEdges : Replay → Vector → Type 0
 IsOuterByEdges r p = (b : ℤ) → (q : Vector) × Place q × JoinedByEdges r p q × (q.x <ℤ (b *ℤ q.n))
 
--- the label of a cell: that of the side above the edge under it, or 0 at the bottom
+-- the label of a sector: that of the side above the edge under it, or 0 at the bottom
 abbrev pub label_of : Labels → Replay → Sector → ℕ
 label_of a r c = label_at a 0 c.index (r.list c.strip)

@@ -1,5 +1,5 @@
 use Rattle.std.proofs.Common.{arith}
-use Rattle.mesh_client.proofs.bend.Goals as goal
+use Rattle.half_edges.proofs.tests.bend.Goals as goal
 
 pub returns-clause-back : goal.returns-clause-back
 returns-clause-back c = c.link.ensures.links.next_is 1 (omega arith)

@@ -2,7 +2,7 @@ use Rattle.std.proofs.Common.{◌≡◌, ℕ, ◌+◌, get_or, length, add-one, 
 use Rattle.std.proofs.lemmas.List.{get_or_read}
 use Rattle.half_edges.specs.HalfEdges.{twin_of}
 use Rattle.half_edges.specs.Stars.{before}
-use Rattle.mesh_client.proofs.next_after_linking.Goals as goal
+use Rattle.half_edges.proofs.tests.next_after_linking.Goals as goal
 
 behind : (n k j : ℕ) → k ≡ j + 1 → before n k ≡ j
 behind n k j e = ap (before n) (e ∙ add-one j)
