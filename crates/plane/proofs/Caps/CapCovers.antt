@@ -5,7 +5,7 @@ use Rattle.plane.specs.declared.kinds.Point.{Point}
 use Rattle.plane.specs.Forms.Vectors.{Vector, Place, mix, Edge, side}
 use Rattle.plane.specs.Tubes.Caps.{Cap, IsCap, shape, InSlab}
 use Rattle.plane.specs.Tubes.Bays.{Bay, InBays, InTube}
-use Rattle.plane.specs.Tubes.CapStrips.{line, IsStrip, AtInner}
+use Rattle.plane.specs.Tubes.CapStrips.{line, IsCapStrip, AtInner}
 use Rattle.plane.specs.Tubes.Regions.{NotUnder}
 use Rattle.plane.proofs.Algebra.Laws.{product_positive, product_nonnegative, weight_at_most, product-sum}
 use Rattle.plane.proofs.Algebra.Scaling.{product_of_zero}
@@ -187,7 +187,7 @@ pub at_map : (R S : Edge → Vector → Type 0) (z : Vector) (p : Point) (bs : L
 at_map R S z p [] f h = tt
 at_map R S z p (b ∷ rest) f h = ((λ k. f (line p b.inner) (h.0 k)), at_map R S z b.inner rest f h.1)
 
-pub strip_cover : (c : Cap) (p : Point) (b : Bay) (rest : List Bay) (u v : Vector) → IsCap c → IsStrip c p p (b ∷ rest) → p.x ≡ pos 0 → Place u → Place v
+pub strip_cover : (c : Cap) (p : Point) (b : Bay) (rest : List Bay) (u v : Vector) → IsCap c → IsCapStrip c p p (b ∷ rest) → p.x ≡ pos 0 → Place u → Place v
     → pos 0 ≤ℤ u.y → pos 0 ≤ℤ v.y → shape c u ≤ℤ pos 0 → pos 0 ≤ℤ shape c v → Reaches p (b ∷ rest) u v
 strip_cover c p b rest u v hc h start hu hv uy vy inside outside =
     elim (locate c u p p (b ∷ rest) hu h (left_end u slab.low) slab.high (under_fences c u p p (b ∷ rest) hc hu h uy inside)) [

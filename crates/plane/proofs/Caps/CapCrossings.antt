@@ -5,7 +5,7 @@ use Rattle.plane.specs.declared.kinds.Point.{Point}
 use Rattle.plane.specs.Forms.Vectors.{Vector, Place, mix, Edge, side}
 use Rattle.plane.specs.Tubes.Caps.{Cap}
 use Rattle.plane.specs.Tubes.Bays.{Bay, InBays}
-use Rattle.plane.specs.Tubes.CapStrips.{line, InColumn, IsArch, IsStrip, AtInner}
+use Rattle.plane.specs.Tubes.CapStrips.{line, InColumn, IsArch, IsCapStrip, AtInner}
 use Rattle.plane.proofs.Algebra.Laws.{product_positive, product_nonnegative, weight_at_most, product-sum}
 use Rattle.plane.proofs.Algebra.Scaling.{product-difference}
 use Rattle.plane.proofs.Linear.Signs.{mix_place, span_low, span_high}
@@ -116,7 +116,7 @@ meets_here R p b rest a z r ha hz h ka kz low high =
     }
 
 -- ---- the walk, from a on the left to z on the right
-most_rest : (R : Edge → Vector → ℤ) (c : Cap) (p : Point) (b : Bay) (rest : List Bay) (a : Vector) → IsTilt R → Place a → IsArch p b → IsStrip c b.outer b.inner rest
+most_rest : (R : Edge → Vector → ℤ) (c : Cap) (p : Point) (b : Bay) (rest : List Bay) (a : Vector) → IsTilt R → Place a → IsArch p b → IsCapStrip c b.outer b.inner rest
     → a.x ≡ b.inner.x *ℤ a.n → R (line p b.inner) a ≤ℤ pos 0 → AtInner (Most R) a b.inner rest
 most_rest R c p b [] a r ha h g e k = tt
 most_rest R c p b (d ∷ rest) a r ha h g e k =
@@ -165,7 +165,7 @@ Later R c b rest z = (a : Vector) → Place a → (b.inner.x *ℤ a.n) ≤ℤ a.
 meets_later : (p : Point) (b : Bay) (rest : List Bay) (a z : Vector) → Meets b.inner rest a z → Meets p (b ∷ rest) a z
 meets_later p b rest a z m = record { s = m.s; t = m.t; s_least = m.s_least; t_least = m.t_least; some = m.some; there = inr m.there }
 
-crosses_at : (R : Edge → Vector → ℤ) (c : Cap) (q p : Point) (b : Bay) (rest : List Bay) (a z : Vector) → IsTilt R → Place a → Place z → IsStrip c q p (b ∷ rest)
+crosses_at : (R : Edge → Vector → ℤ) (c : Cap) (q p : Point) (b : Bay) (rest : List Bay) (a z : Vector) → IsTilt R → Place a → Place z → IsCapStrip c q p (b ∷ rest)
     → (p.x *ℤ a.n) ≤ℤ a.x → a.x ≤ℤ (c.chord *ℤ a.n) → z.x ≤ℤ (c.chord *ℤ z.n) → NotRight a z → AtInner (Most R) a p (b ∷ rest) → AtInner (Least R) z p (b ∷ rest) → b.inner.x ≤ℤ c.chord → Later R c b rest z
     → Meets p (b ∷ rest) a z
 crosses_at R c q p b rest a z r ha hz h l ra rz nr most least bound later =
@@ -220,11 +220,11 @@ crosses_at R c q p b rest a z r ha hz h l ra rz nr most least bound later =
             omega (arith, ints, p, i, e)
 
 -- the strip ends at the end of the chord
-pub strip_bound : (c : Cap) (q p : Point) (bs : List Bay) → IsStrip c q p bs → p.x ≤ℤ c.chord
+pub strip_bound : (c : Cap) (q p : Point) (bs : List Bay) → IsCapStrip c q p bs → p.x ≤ℤ c.chord
 strip_bound c q p [] h = let e = h.0 in omega (arith, ints, e)
 strip_bound c q p (b ∷ rest) h = let k = strip_bound c b.outer b.inner rest h.4 in let u = h.0.up in let v = h.0.on in omega (arith, ints, k, u, v)
 
-pub crosses : (R : Edge → Vector → ℤ) (c : Cap) (q p : Point) (b : Bay) (rest : List Bay) (a z : Vector) → IsTilt R → Place a → Place z → IsStrip c q p (b ∷ rest)
+pub crosses : (R : Edge → Vector → ℤ) (c : Cap) (q p : Point) (b : Bay) (rest : List Bay) (a z : Vector) → IsTilt R → Place a → Place z → IsCapStrip c q p (b ∷ rest)
     → (p.x *ℤ a.n) ≤ℤ a.x → a.x ≤ℤ (c.chord *ℤ a.n) → z.x ≤ℤ (c.chord *ℤ z.n) → NotRight a z → AtInner (Most R) a p (b ∷ rest) → AtInner (Least R) z p (b ∷ rest)
     → Meets p (b ∷ rest) a z
 crosses R c q p b [] a z r ha hz h l ra rz nr most least =

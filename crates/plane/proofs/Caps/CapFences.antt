@@ -5,7 +5,7 @@ use Rattle.plane.specs.declared.kinds.Point.{Point}
 use Rattle.plane.specs.Forms.Vectors.{Vector, Place, point, mix, side}
 use Rattle.plane.specs.Tubes.Caps.{Cap, IsCap, shape}
 use Rattle.plane.specs.Tubes.Bays.{Bay}
-use Rattle.plane.specs.Tubes.CapStrips.{line, InColumn, IsFence, IsDip, IsStrip, IsUnder, AtInner}
+use Rattle.plane.specs.Tubes.CapStrips.{line, InColumn, IsFence, IsDip, IsCapStrip, IsUnder, AtInner}
 use Rattle.plane.specs.Tubes.Regions.{NotUnder}
 use Rattle.plane.proofs.Algebra.Laws.{product_positive, product_nonnegative, square_nonnegative}
 use Rattle.plane.proofs.Linear.Signs.{mix_place}
@@ -117,7 +117,7 @@ chain_under c p q z hc hz h ip iq hy outside k = by_lt_z (side (line p q) z) (po
         no_rise _ _ rises b a
 
 -- ---- along the strip
-pub under_fences : (c : Cap) (z : Vector) (q p : Point) (bs : List Bay) → IsCap c → Place z → IsStrip c q p bs → pos 0 ≤ℤ z.y → shape c z ≤ℤ pos 0 → IsUnder z q p bs
+pub under_fences : (c : Cap) (z : Vector) (q p : Point) (bs : List Bay) → IsCap c → Place z → IsCapStrip c q p bs → pos 0 ≤ℤ z.y → shape c z ≤ℤ pos 0 → IsUnder z q p bs
 under_fences c z q p [] hc hz h hy inside = λ k. fence_over c q p z hc hz h.1 h.2 hy inside k
 under_fences c z q p (b ∷ rest) hc hz h hy inside =
     ((λ k. fence_over c q b.outer z hc hz (before h.1) h.2 hy inside k), under_fences c z b.outer b.inner rest hc hz h.4 hy inside)
@@ -126,11 +126,11 @@ under_fences c z q p (b ∷ rest) hc hz h hy inside =
     before (inl e) = let k = ap (λ (v : Point). v.x) e in let u = h.0.up in omega (arith, ints, k, u)
     before (inr d) = let k = d.up in let u = h.0.up in omega (arith, ints, k, u)
 
-pub strip_inner : (c : Cap) (q p : Point) (bs : List Bay) → IsStrip c q p bs → shape c (point p) ≤ℤ pos 0
+pub strip_inner : (c : Cap) (q p : Point) (bs : List Bay) → IsCapStrip c q p bs → shape c (point p) ≤ℤ pos 0
 strip_inner c q p [] h = h.3
 strip_inner c q p (b ∷ rest) h = h.3
 
-pub over_inner : (c : Cap) (z : Vector) (q p : Point) (bs : List Bay) → IsCap c → Place z → IsStrip c q p bs → pos 0 ≤ℤ z.y → pos 0 ≤ℤ shape c z → AtInner NotUnder z p bs
+pub over_inner : (c : Cap) (z : Vector) (q p : Point) (bs : List Bay) → IsCap c → Place z → IsCapStrip c q p bs → pos 0 ≤ℤ z.y → pos 0 ≤ℤ shape c z → AtInner NotUnder z p bs
 over_inner c z q p [] hc hz h hy outside = tt
 over_inner c z q p (b ∷ rest) hc hz h hy outside =
     let a = h.0.up in

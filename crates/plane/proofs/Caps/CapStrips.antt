@@ -5,7 +5,7 @@ use Rattle.plane.specs.declared.kinds.Point.{Point}
 use Rattle.plane.specs.Forms.Vectors.{Vector, Place, point, Edge, side}
 use Rattle.plane.specs.Tubes.Caps.{Cap}
 use Rattle.plane.specs.Tubes.Bays.{InTriangle, Bay, InGaps, InTube}
-use Rattle.plane.specs.Tubes.CapStrips.{line, InColumn, IsArch, IsDip, IsStrip, IsUnder, AtInner}
+use Rattle.plane.specs.Tubes.CapStrips.{line, InColumn, IsArch, IsDip, IsCapStrip, IsUnder, AtInner}
 use Rattle.plane.proofs.Algebra.Laws.{sum-product, zero-product}
 use Rattle.plane.proofs.Algebra.Scaling.{times_lt, product_of_zero}
 use Rattle.plane.proofs.Caps.CapOver.{times_most, cancel_most}
@@ -41,7 +41,7 @@ abbrev pub NotOver : Edge → Vector → Type 0
 NotOver e z = side e z ≤ℤ pos 0
 
 -- left of p, no later straight of the inner chain is met
-pub inner_left : (R : Edge → Vector → Type 0) (c : Cap) (z : Vector) (q p : Point) (bs : List Bay) → Place z → IsStrip c q p bs → z.x <ℤ (p.x *ℤ z.n) → AtInner R z p bs
+pub inner_left : (R : Edge → Vector → Type 0) (c : Cap) (z : Vector) (q p : Point) (bs : List Bay) → Place z → IsCapStrip c q p bs → z.x <ℤ (p.x *ℤ z.n) → AtInner R z p bs
 inner_left R c z q p [] hz h l = tt
 inner_left R c z q p (b ∷ rest) hz h l =
     let m = further p.x b.outer.x z.n hz h.0.up in
@@ -92,7 +92,7 @@ found_first z p (b ∷ rest) (inl h) = inl (inl record {
 
 -- ---- the walk along the strip
 -- right of o and left of v the outer chain goes on from o
-after_top : (c : Cap) (z : Vector) (b : Bay) (rest : List Bay) → Place z → IsStrip c b.outer b.inner rest → IsUnder z b.outer b.inner rest
+after_top : (c : Cap) (z : Vector) (b : Bay) (rest : List Bay) → Place z → IsCapStrip c b.outer b.inner rest → IsUnder z b.outer b.inner rest
     → (b.outer.x *ℤ z.n) ≤ℤ z.x → z.x ≤ℤ (b.inner.x *ℤ z.n) → pos 0 <ℤ side (line b.outer b.inner) z → b.outer.x <ℤ b.inner.x → Found z b.outer b.inner rest
 after_top c z b [] hz h u l r s on = absurd (let k = u record { low = l; high = r } in omega (arith, ints, k, s))
 after_top c z b (d ∷ rest) hz h u l r s on = inl (top h.1)
@@ -105,7 +105,7 @@ after_top c z b (d ∷ rest) hz h u l r s on = inl (top h.1)
         let under = u.0 record { low = l; high = omega (arith, ints, r, m) } in
         triangle_down b.outer b.inner d.outer z hz dip.under under (omega (arith, ints, s)) (left_down b.outer b.inner d.outer z dip.up out dip.under r (omega (arith, ints, s)))
 
-before_top : (c : Cap) (z : Vector) (q p : Point) (b : Bay) (rest : List Bay) → Place z → IsStrip c q p (b ∷ rest) → IsUnder z q p (b ∷ rest)
+before_top : (c : Cap) (z : Vector) (q p : Point) (b : Bay) (rest : List Bay) → Place z → IsCapStrip c q p (b ∷ rest) → IsUnder z q p (b ∷ rest)
     → (p.x *ℤ z.n) ≤ℤ z.x → z.x ≤ℤ (b.outer.x *ℤ z.n) → pos 0 <ℤ side (line p b.outer) z → Found z q p (b ∷ rest)
 before_top c z q p b rest hz h u l r s = inl (top h.1)
   where
@@ -120,11 +120,11 @@ before_top c z q p b rest hz h u l r s = inl (top h.1)
         triangle_down q p b.outer z hz dip.under under (right_down q p b.outer z dip.up out dip.under l (omega (arith, ints, s))) (omega (arith, ints, s))
 
 -- under the straight p v, the place is not over any straight of the inner chain
-under_all : (c : Cap) (z : Vector) (p : Point) (b : Bay) (rest : List Bay) → Place z → IsArch p b → IsStrip c b.outer b.inner rest
+under_all : (c : Cap) (z : Vector) (p : Point) (b : Bay) (rest : List Bay) → Place z → IsArch p b → IsCapStrip c b.outer b.inner rest
     → z.x ≤ℤ (b.inner.x *ℤ z.n) → side (line p b.inner) z <ℤ pos 0 → AtInner NotOver z p (b ∷ rest)
 under_all c z p b rest hz a h r s = ((λ k. omega (arith, ints, s)), later rest h)
   where
-    later : (rest : List Bay) → IsStrip c b.outer b.inner rest → AtInner NotOver z b.inner rest
+    later : (rest : List Bay) → IsCapStrip c b.outer b.inner rest → AtInner NotOver z b.inner rest
     later [] h = tt
     later (d ∷ rest) h =
         let m = further b.inner.x d.outer.x z.n hz h.0.up in
@@ -145,7 +145,7 @@ under_all c z p b rest hz a h r s = ((λ k. omega (arith, ints, s)), later rest 
 abbrev pub Split : Vector → Point → Point → List Bay → Type 0
 Split z q p bs = Found z q p bs ⊎ AtInner NotOver z p bs
 
-pub locate : (c : Cap) (z : Vector) (q p : Point) (bs : List Bay) → Place z → IsStrip c q p bs → (p.x *ℤ z.n) ≤ℤ z.x → z.x ≤ℤ (c.chord *ℤ z.n) → IsUnder z q p bs → Split z q p bs
+pub locate : (c : Cap) (z : Vector) (q p : Point) (bs : List Bay) → Place z → IsCapStrip c q p bs → (p.x *ℤ z.n) ≤ℤ z.x → z.x ≤ℤ (c.chord *ℤ z.n) → IsUnder z q p bs → Split z q p bs
 locate c z q p [] hz h l r u = inr tt
 locate c z q p (b ∷ rest) hz h l r u =
     by_lt_z (b.inner.x *ℤ z.n) z.x

@@ -15,7 +15,7 @@ use Rattle.plane.specs.Faces.Halves.{Half, edge_of}
 use Rattle.plane.specs.Faces.Labels.{Labels}
 use Rattle.plane.specs.Tubes.Bays.{Bay, IsTube, AtEnds}
 use Rattle.plane.specs.Tubes.Bays as one
-use Rattle.plane.specs.CurveRuns.Extended.{Tubes, InTube, AtArcEnd, AreTubes, HasLabel, IsOnWay, IsFreeOfCurves}
+use Rattle.plane.specs.CurveRuns.Extended.{Tubes, InTubeAt, AtArcEnd, AreTubes, HasLabel, IsOnWay, IsFreeOfCurves}
 use Rattle.plane.specs.CurveRuns.TubedRuns.{owned, IsTubedRun, AreTubeLabels, arc_at, tube_label, tubes, MeetsArc}
 use Rattle.plane.proofs.FaceLemmas.Drawn.{hits_curve}
 use Rattle.plane.proofs.Windings.CommonPlaces.{decide_number}
@@ -134,7 +134,7 @@ module _ (w : ℤ) (d : Plan) (bays : ℕ → List Bay) (m : ℕ) (E : ℕ → E
       by_bays [] k = absurd k.some
       by_bays (b ∷ rest) k = (inner_entry h b rest k p q P Q x.p_away x.q_away x.inside x.outside, outer_entry h b rest k p q P Q x.p_away x.q_away x.inside x.outside)
 
-  in_tube : (z : Vector) → one.InTube h.from (bays i) z → InTube T c z
+  in_tube : (z : Vector) → one.InTube h.from (bays i) z → InTubeAt T c z
   in_tube z k = (tube_places w d bays m E steps lab within inside outside swept is L c lc z).1 (subst (λ (j : ℕ). one.InTube (curve d j).from (bays j) z) (sym tube.2) k)
 
   place : (y : Vector) → IsOnWay p q y → Place y
@@ -156,12 +156,12 @@ module _ (w : ℤ) (d : Plan) (bays : ℕ → List Bay) (m : ℕ) (E : ℕ → E
     at_end : AtArcEnd T c y
     at_end = at_ends d bays m E steps is (arc_at d c) (fits c lc) (bends c lc) (λ v. Same y (point v)) (subst (λ (j : ℕ). AtEnds (arc (curve d j)) y) (sym tube.2) e.end)
 
-    there : InTube T c y
+    there : InTubeAt T c y
     there =
         let hit = hits_bent w d bays m E steps lab within inside outside swept is L (arc_at d c) y y (bends c lc) (all.ends c lc y Y at_end) in
         let k = in_its_tube w d bays m E steps lab within inside outside swept is L y Y (arc_at d c) (fits c lc) (bends c lc) ((hits_alone (curve d (arc_at d c)) y Y).0 hit) in
         elim (decide_number k.0 c) [
-          | inl own ↦ subst (λ (n : ℕ). InTube T n y) own k.3
+          | inl own ↦ subst (λ (n : ℕ). InTubeAt T n y) own k.3
           | inr n ↦ absurd (all.labels k.0 c k.1 lc n (ap (tube_label d) k.2))
         ]
 

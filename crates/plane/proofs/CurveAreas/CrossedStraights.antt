@@ -18,7 +18,7 @@ use Rattle.plane.specs.Faces.Halves.{Half, under, over, edge_of, mark, Beside}
 use Rattle.plane.proofs.FaceLemmas.EdgeCrossings.{IsCrossing}
 use Rattle.plane.specs.Tubes.Bays.{Bay}
 use Rattle.plane.specs.Tubes.Windings.{tiles}
-use Rattle.plane.specs.CurveRuns.Extended.{Tubes, AreTubes, InTube, AtArcEnd, HasLabel, IsOnWay}
+use Rattle.plane.specs.CurveRuns.Extended.{Tubes, AreTubes, InTubeAt, AtArcEnd, HasLabel, IsOnWay}
 use Rattle.plane.proofs.TubePaths.PieceWords.{AreSides}
 use Rattle.plane.specs.CurveRuns.TubedRuns.{whole, owned, IsOfTube, IsTubedRun, AreTubeLabels, arc_at, tubes, MeetsArc}
 use Rattle.plane.proofs.Linear.EdgePlaces.{side-turn, place_point}
@@ -65,7 +65,7 @@ module _ (w : ℤ) (d : Plan) (bays : ℕ → List Bay) (m : ℕ) (E : ℕ → E
   too_great n i l e k = omega (arith, e, k)
 
   -- an edge that is no tube's is in a tube at most at its ends
-  at_end : (e c : ℕ) → e < m → c < T.count → ((h : Half) → Has h (T.halves c) → edge_of h ≡ e → ⊥) → (z : Vector) → Place z → On w (E e) z → InTube T c z → AtArcEnd T c z
+  at_end : (e c : ℕ) → e < m → c < T.count → ((h : Half) → Has h (T.halves c) → edge_of h ≡ e → ⊥) → (z : Vector) → Place z → On w (E e) z → InTubeAt T c z → AtArcEnd T c z
   at_end e c le lc not_its z Z on in_c =
       elim (look_below (λ k. Same z (point (r.step k).at)) r.steps (λ k. decide_same z (point (r.step k).at))) [
         | inr none ↦ absurd (edge_outside r run lab L.matched (T.label c) (T.first c) (T.bay c) (T.bays c) (T.halves c) (all.tube c lc) e z le not_its Z (λ k l s. none (k, l, s)) on in_c)
@@ -131,7 +131,7 @@ module _ (w : ℤ) (d : Plan) (bays : ℕ → List Bay) (m : ℕ) (E : ℕ → E
     q_label = labelled (under e) q Q x.q_off found.4 (L.straight_label e le part).0
 
     -- no place of the segment is in a tube
-    module _ (c : ℕ) (lc : c < T.count) (z : Vector) (on_way : IsOnWay p q z) (in_c : InTube T c z) where
+    module _ (c : ℕ) (lc : c < T.count) (z : Vector) (on_way : IsOnWay p q z) (in_c : InTubeAt T c z) where
       Z : Place z
       Z = way_place p q z P Q on_way
 

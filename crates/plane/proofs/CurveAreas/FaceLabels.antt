@@ -12,7 +12,7 @@ use Rattle.plane.specs.Faces.Labels.{label_at}
 use Rattle.plane.specs.Faces.Halves.{Half, under, over, edge_of, twin, mark, AtBefore}
 use Rattle.plane.specs.Faces.Classes.{IsFaces, numbers, face_of}
 use Rattle.plane.specs.Tubes.Bays.{Bay}
-use Rattle.plane.specs.CurveRuns.Extended.{Tubes, InTube, AreTubes, HasLabel}
+use Rattle.plane.specs.CurveRuns.Extended.{Tubes, InTubeAt, AreTubes, HasLabel}
 use Rattle.plane.proofs.TubePaths.PieceWords.{AreSides}
 use Rattle.plane.specs.CurveRuns.TubedRuns.{owned, IsOfTube, IsTubedRun, AreTubeLabels, tube_label, half_within, first_edge, arc_at, tubes, MeetsArc}
 use Rattle.plane.specs.CurveRuns.RegionPoints.{HasRegion}
@@ -233,7 +233,7 @@ module _ (d : Plan) (bays : ℕ → List Bay) (m : ℕ) (E : ℕ → Edge) (step
     ]
 
     -- the cell of a place in no tube faces none
-    clear_cell : (z : Vector) → Place z → ((c : ℕ) → c < T.count → InTube T c z → ⊥) → IsOffEdges r z → (e : ℕ) → AtBefore (r.list (sector r z).strip) (sector r z).index e → faced d bays E (over e) ≡ 0
+    clear_cell : (z : Vector) → Place z → ((c : ℕ) → c < T.count → InTubeAt T c z → ⊥) → IsOffEdges r z → (e : ℕ) → AtBefore (r.list (sector r z).strip) (sector r z).index e → faced d bays E (over e) ≡ 0
     clear_cell z Z out off e b = elim (by_faced (over e)) [
       | inl a ↦ a
       | inr a ↦

@@ -6,7 +6,7 @@ use Rattle.plane.specs.Forms.Vectors.{Vector, Place, Same, Between, point, mix, 
 use Rattle.plane.specs.Forms.Arcs.{HalfArc, power, bow, seen}
 use Rattle.plane.specs.Tubes.Caps.{Cap, IsCap, InSlab, cap, shape}
 use Rattle.plane.specs.Tubes.Bays.{Bay, InTriangle, InBays, InTube, IsTube, OnInner, OnOuter, AtEnds}
-use Rattle.plane.specs.Tubes.CapStrips.{line, InColumn, IsStrip, IsDip, IsUnder, AtInner}
+use Rattle.plane.specs.Tubes.CapStrips.{line, InColumn, IsCapStrip, IsDip, IsUnder, AtInner}
 use Rattle.plane.specs.Tubes.Regions.{NotUnder, seen_point, seen_bay, seen_bays}
 use Rattle.plane.specs.CurveRuns.Extended.{IsOnWay}
 use Rattle.plane.proofs.Algebra.Laws.{product_positive}
@@ -39,11 +39,11 @@ abbrev pub outers : Point → List Bay → List Point
 outers p [] = p ∷ []
 outers p (b ∷ rest) = b.outer ∷ outers b.inner rest
 
-inner_rises : (c : Cap) (q p : Point) (bs : List Bay) → IsStrip c q p bs → Rises p (inners bs)
+inner_rises : (c : Cap) (q p : Point) (bs : List Bay) → IsCapStrip c q p bs → Rises p (inners bs)
 inner_rises c q p [] h = tt
 inner_rises c q p (b ∷ rest) h = ((let u = h.0.up in let v = h.0.on in omega (arith, ints, u, v)), inner_rises c b.outer b.inner rest h.4)
 
-outer_rises : (c : Cap) (q p : Point) (bs : List Bay) → IsStrip c q p bs → Rises q (outers p bs)
+outer_rises : (c : Cap) (q p : Point) (bs : List Bay) → IsCapStrip c q p bs → Rises q (outers p bs)
 outer_rises c q p [] h = (h.1, tt)
 outer_rises c q p (b ∷ rest) h = (before h.1, outer_rises c b.outer b.inner rest h.4)
   where
@@ -51,11 +51,11 @@ outer_rises c q p (b ∷ rest) h = (before h.1, outer_rises c b.outer b.inner re
     before (inl e) = let k = ap (λ (v : Point). v.x) e in let u = h.0.up in omega (arith, ints, k, u)
     before (inr d) = let k = d.up in let u = h.0.up in omega (arith, ints, k, u)
 
-inner_last : (c : Cap) (q p : Point) (bs : List Bay) → IsStrip c q p bs → (last p (inners bs)).x ≡ c.chord
+inner_last : (c : Cap) (q p : Point) (bs : List Bay) → IsCapStrip c q p bs → (last p (inners bs)).x ≡ c.chord
 inner_last c q p [] h = h.0
 inner_last c q p (b ∷ rest) h = inner_last c b.outer b.inner rest h.4
 
-outer_last : (c : Cap) (q p : Point) (bs : List Bay) → IsStrip c q p bs → (last q (outers p bs)).x ≡ c.chord
+outer_last : (c : Cap) (q p : Point) (bs : List Bay) → IsCapStrip c q p bs → (last q (outers p bs)).x ≡ c.chord
 outer_last c q p [] h = h.0
 outer_last c q p (b ∷ rest) h = outer_last c b.outer b.inner rest h.4
 
@@ -72,7 +72,7 @@ tests_under z q p [] h = h.0
 tests_under z q p (b ∷ rest) h = (h.0, tests_under z b.outer b.inner rest h.1)
 
 -- the places of the chains are in the strip
-inner_there : (c : Cap) (q p : Point) (bs : List Bay) (z : Vector) → Place z → IsStrip c q p bs → OnChain z p (inners bs) → InBays p bs z
+inner_there : (c : Cap) (q p : Point) (bs : List Bay) (z : Vector) → Place z → IsCapStrip c q p bs → OnChain z p (inners bs) → InBays p bs z
 inner_there c q p [] z hz h k = absurd k
 inner_there c q p (b ∷ rest) z hz h (inl k) = inl (on_straight p b.inner b.outer z hz (let u = h.0.up in let v = h.0.on in omega (arith, ints, u, v)) k.0 k.1)
 inner_there c q p (b ∷ rest) z hz h (inr k) = inr (inner_there c b.outer b.inner rest z hz h.4 k)
@@ -95,7 +95,7 @@ turned z p q r t = record {
     one : (i j k x y z : ℤ) → ((k *ℤ z) +ℤ (i *ℤ x)) +ℤ (j *ℤ y) ≡ ((i *ℤ x) +ℤ (j *ℤ y)) +ℤ (k *ℤ z)
     one i j k x y z = omega (arith, ints)
 
-outer_there : (c : Cap) (q p : Point) (bs : List Bay) (z : Vector) → Place z → IsStrip c q p bs → OnChain z q (outers p bs) → Found z q p bs ⊎ (InColumn q p z × (side (line q p) z ≡ pos 0) × (q.x <ℤ p.x))
+outer_there : (c : Cap) (q p : Point) (bs : List Bay) (z : Vector) → Place z → IsCapStrip c q p bs → OnChain z q (outers p bs) → Found z q p bs ⊎ (InColumn q p z × (side (line q p) z ≡ pos 0) × (q.x <ℤ p.x))
 outer_there c q p [] z hz h (inl k) = inr (k.0, k.1, h.1)
 outer_there c q p [] z hz h (inr k) = absurd k
 outer_there c q p (b ∷ rest) z hz h (inl k) = inl (inl (turned z q b.outer p (on_straight q b.outer p z hz (outer_rises c q p (b ∷ rest) h).0 k.0 k.1)))
@@ -287,7 +287,7 @@ module _ (h : HalfArc) (b : Bay) (rest : List Bay) (t : IsTube h (b ∷ rest)) (
   abbrev B : List Bay
   B = seen_bays h (b ∷ rest)
 
-  st : IsStrip (cap h) P P B
+  st : IsCapStrip (cap h) P P B
   st = tube_strip h b rest t
 
   abbrev U : Vector

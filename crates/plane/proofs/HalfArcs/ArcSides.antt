@@ -4,7 +4,7 @@ use Rattle.std.proofs.lemmas.Int.{ints, by_lt_z}
 use Rattle.plane.specs.Forms.Vectors.{Vector, Place, Same, mix}
 use Rattle.plane.specs.Forms.Arcs.{HalfArc, bend, circle_x, circle_y, power, seen, HitsArc}
 use Rattle.plane.specs.Tubes.Caps.{Cap, IsCap, shape, cap}
-use Rattle.plane.specs.Tubes.Windings.{Triangle, InTriangle, weighed}
+use Rattle.plane.specs.Tubes.Windings.{Tile, InTile, weighed}
 use Rattle.plane.specs.CurveRuns.Extended.{IsOnWay}
 use Rattle.plane.proofs.Algebra.Laws.{product_positive, product_nonnegative, square_nonnegative}
 use Rattle.plane.proofs.Algebra.Scaling.{times_le}
@@ -227,7 +227,7 @@ mean_entry s u m n pn qn a b c e f g x y z px qx h k =
     chain : (x y a b c d : ℤ) → x ≡ a +ℤ b → y ≡ c +ℤ d → c ≡ a → d ≡ b → x ≡ y
     chain x y a b c d e f g h = omega (arith, ints, e, f, g, h)
 
-pub triangle_mix : (t : Triangle) (s : ℤ) (p : Vector) (u : ℤ) (q : Vector) → Place p → Place q → pos 0 ≤ℤ s → pos 0 ≤ℤ u → pos 0 <ℤ (s +ℤ u) → InTriangle t p → InTriangle t q → InTriangle t (mix s p u q)
+pub triangle_mix : (t : Tile) (s : ℤ) (p : Vector) (u : ℤ) (q : Vector) → Place p → Place q → pos 0 ≤ℤ s → pos 0 ≤ℤ u → pos 0 <ℤ (s +ℤ u) → InTile t p → InTile t q → InTile t (mix s p u q)
 triangle_mix t s p u q P Q hs hu some i k = record {
   of_a = (v *ℤ i.of_a) +ℤ (w *ℤ k.of_a);
   of_b = (v *ℤ i.of_b) +ℤ (w *ℤ k.of_b);
@@ -275,5 +275,5 @@ triangle_mix t s p u q P Q hs hu some i k = record {
     one : (x y : ℤ) → y ≡ (m *ℤ n) *ℤ x → x *ℤ ((((v *ℤ i.of_a) +ℤ (w *ℤ k.of_a)) +ℤ ((v *ℤ i.of_b) +ℤ (w *ℤ k.of_b))) +ℤ ((v *ℤ i.of_c) +ℤ (w *ℤ k.of_c))) ≡ y *ℤ (mix s p u q).n
     one x y e = ap (λ (z : ℤ). x *ℤ z) en ∙ ring (times (at 0) (times (at 1) (at 2))) (times (times (at 1) (at 0)) (at 2)) (vars (x ∷ (m *ℤ n) ∷ (mix s p u q).n ∷ [])) refl ∙ ap (λ (z : ℤ). z *ℤ (mix s p u q).n) (sym e)
 
-pub triangle_way : (t : Triangle) (p q z : Vector) → Place p → Place q → InTriangle t p → InTriangle t q → IsOnWay p q z → InTriangle t z
-triangle_way t p q z P Q i k w = subst (λ (v : Vector). InTriangle t v) (sym w.is) (triangle_mix t w.s p w.t q P Q w.s_least w.t_least w.some i k)
+pub triangle_way : (t : Tile) (p q z : Vector) → Place p → Place q → InTile t p → InTile t q → IsOnWay p q z → InTile t z
+triangle_way t p q z P Q i k w = subst (λ (v : Vector). InTile t v) (sym w.is) (triangle_mix t w.s p w.t q P Q w.s_least w.t_least w.some i k)

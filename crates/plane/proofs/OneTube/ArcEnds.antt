@@ -7,7 +7,7 @@ use Rattle.plane.specs.Forms.Vectors.{Vector, Place, Same, Between, point, Edge,
 use Rattle.plane.specs.Faces.Replays.{Replay, IsRun}
 use Rattle.plane.specs.Faces.Halves.{Half, under, over, twin, edge_of}
 use Rattle.plane.specs.Faces.Labels.{Labels}
-use Rattle.plane.specs.Tubes.Windings.{arrow, Triangle, IsLeft, IsSteep, Bay, strips, tiles, fence, bounds}
+use Rattle.plane.specs.Tubes.Windings.{arrow, Tile, IsLeftTile, IsSteep, Bay, strips, tiles, fence, bounds}
 use Rattle.plane.specs.Tubes.Facing.{way, tip, IsDrawnTube}
 use Rattle.plane.proofs.ListLemmas.Lists.{each_has}
 use Rattle.plane.proofs.Windings.TubeCells.{from_map, way_on}
@@ -39,7 +39,7 @@ edge_twin (under e) = refl
 edge_twin (over e) = refl
 
 -- ---- the arrows at the last inner point
-record IsTip (t : Point) (es : List Edge) (ts : List Triangle) (v o : Point) : Type 0 where
+record IsTip (t : Point) (es : List Edge) (ts : List Tile) (v o : Point) : Type 0 where
   comes : Has (arrow v t) es
   leaves : Has (arrow t o) es
   triangle : Has (record { a = v; b = t; c = o }) ts
@@ -94,7 +94,7 @@ module _ (r : Replay) (run : IsRun r) (lab : Labels) (t : ℕ) (a : Point) (b : 
   pub not_arc_tip : (z : Vector) → Place z → (f : ℕ) → ((e : ℕ) → e < r.edges → On r.weight (r.edge e) z → e ≡ f) → Same z (point (tip b bs)) → ⊥
   not_arc_tip z Z f only same =
       let i = tube_tip a b bs in
-      two_arrows z Z i.0 (tip b bs) i.1 i.2.comes i.2.leaves (each_has (λ t. IsLeft t × IsSteep r.weight t) (tiles a (b ∷ bs)) (record { a = i.0; b = tip b bs; c = i.1 }) tube.tiled i.2.triangle).1.ab same f only
+      two_arrows z Z i.0 (tip b bs) i.1 i.2.comes i.2.leaves (each_has (λ t. IsLeftTile t × IsSteep r.weight t) (tiles a (b ∷ bs)) (record { a = i.0; b = tip b bs; c = i.1 }) tube.tiled i.2.triangle).1.ab same f only
 
   -- a half-edge that faces the tube and its twin do not both face it
   pub twin_other : (h : Half) → Has h hs → Has (twin h) hs → ⊥

@@ -6,7 +6,7 @@ use Rattle.plane.specs.Lists.{Each, Last, Neighbours}
 use Rattle.plane.specs.Forms.Vectors.{Vector, point, side}
 use Rattle.plane.specs.Forms.Arcs.{HalfArc, bend}
 use Rattle.plane.specs.Tubes.Bays.{Bay, InTriangle, InBays, InGaps, InTube, AreBays, AreNext, outward}
-use Rattle.plane.specs.Tubes.Windings.{arrow, Triangle, IsLeft, strips, tiles}
+use Rattle.plane.specs.Tubes.Windings.{arrow, Tile, IsLeftTile, strips, tiles}
 use Rattle.plane.specs.Tubes.Facing.{tip}
 use Rattle.plane.specs.CurveRuns.TubedRuns.{backward}
 use Rattle.plane.proofs.Algebra.Laws.{positive_factor}
@@ -147,11 +147,11 @@ tube_backward e a bs z q (inr h) = inr (gaps_backward a bs z h)
 strips_end : (p u : Point) (ks : List Bay) (k : Bay)
     → strips p u (ks ++ k ∷ []) ≡ strips p u ks ++ record { a = last_outer u ks; b = last_inner p ks; c = k.outer } ∷ record { a = last_inner p ks; b = k.inner; c = k.outer } ∷ []
 strips_end p u [] k = refl
-strips_end p u (d ∷ ks) k = ap (λ (ts : List Triangle). record { a = u; b = p; c = d.outer } ∷ record { a = p; b = d.inner; c = d.outer } ∷ ts) (strips_end d.inner d.outer ks k)
+strips_end p u (d ∷ ks) k = ap (λ (ts : List Tile). record { a = u; b = p; c = d.outer } ∷ record { a = p; b = d.inner; c = d.outer } ∷ ts) (strips_end d.inner d.outer ks k)
 
 tiles_end : (e : Point) (d : Bay) (ks : List Bay) (k : Bay)
     → tiles e ((d ∷ ks) ++ k ∷ []) ≡ tiles e (d ∷ ks) ++ record { a = last_outer d.outer ks; b = last_inner d.inner ks; c = k.outer } ∷ record { a = last_inner d.inner ks; b = k.inner; c = k.outer } ∷ []
-tiles_end e d ks k = ap (λ (ts : List Triangle). record { a = e; b = d.inner; c = d.outer } ∷ ts) (strips_end d.inner d.outer ks k)
+tiles_end e d ks k = ap (λ (ts : List Tile). record { a = e; b = d.inner; c = d.outer } ∷ ts) (strips_end d.inner d.outer ks k)
 
 outward_right : (h : HalfArc) (p q z : Point) → pos 0 <ℤ bend h → outward h p q z <ℤ pos 0 → pos 0 <ℤ side (arrow p q) (point z)
 outward_right h p q z b l = positive_factor (bend h) (side (arrow p q) (point z)) b (let e = outward_side h p q z in let f = back_sign (bend h) (side (arrow p q) (point z)) in omega (arith, ints, e, f, l))
@@ -173,19 +173,19 @@ bay_left h v i o b l = outward_right h i v o b (let e = outward_turn h v i o in 
 gap_left : (h : HalfArc) (o d v : Point) → pos 0 <ℤ bend h → outward h o d v <ℤ pos 0 → pos 0 <ℤ side (arrow d v) (point o)
 gap_left h o d v b l = outward_right h d v o b (let e = outward_turn h o d v in let f = outward_swap h d o v in omega (arith, ints, e, f, l))
 
-pub backward_left : (h : HalfArc) (e a : Point) (b : Bay) (bs : List Bay) → pos 0 <ℤ bend h → last_inner a (b ∷ bs) ≡ e → AreBays h a (b ∷ bs) → Neighbours (AreNext h) (b ∷ bs) → Each (λ t. IsLeft t) (tiles e (backward a (b ∷ bs)))
+pub backward_left : (h : HalfArc) (e a : Point) (b : Bay) (bs : List Bay) → pos 0 <ℤ bend h → last_inner a (b ∷ bs) ≡ e → AreBays h a (b ∷ bs) → Neighbours (AreNext h) (b ∷ bs) → Each (λ t. IsLeftTile t) (tiles e (backward a (b ∷ bs)))
 backward_left h e a b [] l q are next = (subst (λ (p : Point). pos 0 <ℤ side (arrow p a) (point b.outer)) q (bay_left h a b.inner b.outer l are.0.over), tt)
 backward_left h e a b (d ∷ bs) l q are next =
     longer (backward b.inner (d ∷ bs)) (backward_left h e b.inner d bs l q are.1 next.1) (last_backward e b.inner (d ∷ bs) q)
     (last_outer_end e (backward d.inner bs) (record { outer = d.outer; inner = b.inner }))
   where
-    tile : Point → Point → Point → Triangle
+    tile : Point → Point → Point → Tile
     tile p r s = record { a = p; b = r; c = s }
 
-    longer : (ks : List Bay) → Each (λ t. IsLeft t) (tiles e ks) → last_inner e ks ≡ b.inner → last_outer e ks ≡ d.outer → Each (λ t. IsLeft t) (tiles e (ks ++ record { outer = b.outer; inner = a } ∷ []))
+    longer : (ks : List Bay) → Each (λ t. IsLeftTile t) (tiles e ks) → last_inner e ks ≡ b.inner → last_outer e ks ≡ d.outer → Each (λ t. IsLeftTile t) (tiles e (ks ++ record { outer = b.outer; inner = a } ∷ []))
     longer [] each i o = (subst (λ (p : Point). pos 0 <ℤ side (arrow p a) (point b.outer)) (sym i) (bay_left h a b.inner b.outer l are.0.over), tt)
-    longer (k ∷ ks) each i o = subst (λ (ts : List Triangle). Each (λ t. IsLeft t) ts) (sym (tiles_end e k ks (record { outer = b.outer; inner = a })))
-        (each_append (λ t. IsLeft t) (tiles e (k ∷ ks)) _ each (
-          subst (λ (p : Point). IsLeft (tile p (last_inner k.inner ks) b.outer)) (sym o) (subst (λ (p : Point). IsLeft (tile d.outer p b.outer)) (sym i) (gap_left h b.outer d.outer b.inner l next.0.under)),
-          (subst (λ (p : Point). IsLeft (tile p a b.outer)) (sym i) (bay_left h a b.inner b.outer l are.0.over), tt),
+    longer (k ∷ ks) each i o = subst (λ (ts : List Tile). Each (λ t. IsLeftTile t) ts) (sym (tiles_end e k ks (record { outer = b.outer; inner = a })))
+        (each_append (λ t. IsLeftTile t) (tiles e (k ∷ ks)) _ each (
+          subst (λ (p : Point). IsLeftTile (tile p (last_inner k.inner ks) b.outer)) (sym o) (subst (λ (p : Point). IsLeftTile (tile d.outer p b.outer)) (sym i) (gap_left h b.outer d.outer b.inner l next.0.under)),
+          (subst (λ (p : Point). IsLeftTile (tile p a b.outer)) (sym i) (bay_left h a b.inner b.outer l are.0.over), tt),
         ))

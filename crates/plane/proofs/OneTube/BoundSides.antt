@@ -10,7 +10,7 @@ use Rattle.plane.specs.Forms.Arcs.{HalfArc, wide, tall, bend, chord, along, bow,
 use Rattle.plane.specs.Tubes.CapStrips.{line, IsUnder, AtInner}
 use Rattle.plane.specs.Tubes.Regions.{seen_point, seen_bays, NotUnder}
 use Rattle.plane.specs.Tubes.Bays.{Bay, AreBays, IsTube}
-use Rattle.plane.specs.Tubes.Windings.{arrow, back, Triangle, InSome, IsLeft, strips, tiles, fence, bounds}
+use Rattle.plane.specs.Tubes.Windings.{arrow, back, Tile, InSomeTile, IsLeftTile, strips, tiles, fence, bounds}
 use Rattle.plane.proofs.Algebra.Laws.{product_positive, square_nonnegative, positive_factor, weight_at_most}
 use Rattle.plane.proofs.Algebra.Scaling.{cancel_zero}
 use Rattle.plane.proofs.Algebra.Ring.{Expr, at, num, plus, minus, times, vars, ring}
@@ -25,17 +25,17 @@ use Rattle.plane.proofs.OneTube.TubeEdges.{at_end}
 use Rattle.plane.proofs.OneTube.ArcTubes.{tiles_in_tube}
 
 -- ---- each bound is a side of a triangle
-abbrev pub IsSideOf : Edge → Triangle → Type 0
+abbrev pub IsSideOf : Edge → Tile → Type 0
 IsSideOf e t = (e ≡ arrow t.a t.b) ⊎ ((e ≡ arrow t.b t.c) ⊎ (e ≡ arrow t.c t.a))
 
-fence_side : (p u : Point) (k : Bay) (ks : List Bay) (e : Edge) → Has e (fence p u (k ∷ ks)) → (t : Triangle) × Has t (strips p u (k ∷ ks)) × IsSideOf e t
+fence_side : (p u : Point) (k : Bay) (ks : List Bay) (e : Edge) → Has e (fence p u (k ∷ ks)) → (t : Tile) × Has t (strips p u (k ∷ ks)) × IsSideOf e t
 fence_side p u k ks e (inl m) = (record { a = p; b = k.inner; c = k.outer }, inr (inl refl), inl m)
 fence_side p u k ks e (inr (inl m)) = (record { a = u; b = p; c = k.outer }, inl refl, inr (inr m))
 fence_side p u k [] e (inr (inr (inl m))) = (record { a = p; b = k.inner; c = k.outer }, inr (inl refl), inr (inl m))
 fence_side p u k [] e (inr (inr (inr m))) = absurd m
 fence_side p u k (d ∷ ks) e (inr (inr m)) = let s = fence_side k.inner k.outer d ks e m in (s.0, inr (inr s.1), s.2)
 
-pub bound_side : (a : Point) (k : Bay) (ks : List Bay) (e : Edge) → Has e (bounds a (k ∷ ks)) → (t : Triangle) × Has t (tiles a (k ∷ ks)) × IsSideOf e t
+pub bound_side : (a : Point) (k : Bay) (ks : List Bay) (e : Edge) → Has e (bounds a (k ∷ ks)) → (t : Tile) × Has t (tiles a (k ∷ ks)) × IsSideOf e t
 bound_side a k ks e (inl m) = (record { a = a; b = k.inner; c = k.outer }, inl refl, inl m)
 bound_side a k ks e (inr (inl m)) = (record { a = a; b = k.inner; c = k.outer }, inl refl, inr (inr m))
 bound_side a k [] e (inr (inr (inl m))) = (record { a = a; b = k.inner; c = k.outer }, inl refl, inr (inl m))
@@ -43,14 +43,14 @@ bound_side a k [] e (inr (inr (inr m))) = absurd m
 bound_side a k (d ∷ ks) e (inr (inr m)) = let s = fence_side k.inner k.outer d ks e m in (s.0, inr s.1, s.2)
 
 -- ---- close to a side, on its left
-abbrev rotated : Triangle → Triangle
+abbrev rotated : Tile → Tile
 rotated t = record { a = t.b; b = t.c; c = t.a }
 
-rotated_left : (t : Triangle) → IsLeft t → IsLeft (rotated t)
+rotated_left : (t : Tile) → IsLeftTile t → IsLeftTile (rotated t)
 rotated_left t l = let e = area_next t in omega (arith, ints, l, e)
 
 -- where two sides are 0, the place is their common corner
-corner_b : (t : Triangle) (z : Vector) → IsLeft t → side_a t z ≡ pos 0 → side_b t z ≡ pos 0 → Same z (point t.b)
+corner_b : (t : Tile) (z : Vector) → IsLeftTile t → side_a t z ≡ pos 0 → side_b t z ≡ pos 0 → Same z (point t.b)
 corner_b t z left ea eb =
     let s = sides_sum t z in
     let n : side_c t z ≡ z.n *ℤ area t = omega (arith, ints, s, ea, eb) in
@@ -65,7 +65,7 @@ corner_b t z left ea eb =
         let z = cancel_zero k ((x *ℤ pos 1) -ℤ (q *ℤ n)) K (omega (arith, ints, i, f, u, v, w)) in
         omega (arith, ints, z)
 
-corner_a : (t : Triangle) (z : Vector) → IsLeft t → side_a t z ≡ pos 0 → side_c t z ≡ pos 0 → Same z (point t.a)
+corner_a : (t : Tile) (z : Vector) → IsLeftTile t → side_a t z ≡ pos 0 → side_c t z ≡ pos 0 → Same z (point t.a)
 corner_a t z left ea ec = corner_b (rotated (rotated t)) z (rotated_left (rotated t) (rotated_left t left)) ec ea
 
 -- a weight so large that what is above 0 outweighs the other
@@ -94,7 +94,7 @@ unfolding large
 large_positive a b = let y = square_nonnegative a in let z = square_nonnegative b in omega (arith, ints, y, z)
 
 -- a place strictly on the left, drawn so near to the side that it is in the triangle
-side_near : (t : Triangle) (z p : Vector) → Place z → Place p → IsLeft t → IsWithin t z → side_a t z ≡ pos 0 → (Same z (point t.a) → ⊥) → (Same z (point t.b) → ⊥) → pos 0 <ℤ side_a t p
+side_near : (t : Tile) (z p : Vector) → Place z → Place p → IsLeftTile t → IsWithin t z → side_a t z ≡ pos 0 → (Same z (point t.a) → ⊥) → (Same z (point t.b) → ⊥) → pos 0 <ℤ side_a t p
     → (m : ℤ) × (pos 0 <ℤ m) × IsWithin t (mix m z (pos 1) p)
 side_near t z p Z P left w e no_a no_b l =
     let b = side_b t p in
@@ -112,14 +112,14 @@ side_near t z p Z P left w e no_a no_b l =
     let gc = outweighs m (side_c t z) c (large_second b c) weak up_c in
     (m, k, (omega (arith, ints, fa, za, l), omega (arith, ints, fb, gb), omega (arith, ints, fc, gc)))
 
-turn_within : (t : Triangle) (z : Vector) → IsWithin (rotated t) z → IsWithin t z
+turn_within : (t : Tile) (z : Vector) → IsWithin (rotated t) z → IsWithin t z
 turn_within t z w = (w.2, w.0, w.1)
 
-within_turn : (t : Triangle) (z : Vector) → IsWithin t z → IsWithin (rotated t) z
+within_turn : (t : Tile) (z : Vector) → IsWithin t z → IsWithin (rotated t) z
 within_turn t z w = (w.1, w.2, w.0)
 
 -- z on a side but no end of it, p strictly left of that side: some place between z and p, near z, is in the triangle
-pub near_inside : (t : Triangle) (e : Edge) (z p : Vector) → IsSideOf e t → Place z → Place p → IsLeft t → IsWithin t z → side e z ≡ pos 0 → (Same z (point e.low) → ⊥) → (Same z (point e.high) → ⊥) → pos 0 <ℤ side e p
+pub near_inside : (t : Tile) (e : Edge) (z p : Vector) → IsSideOf e t → Place z → Place p → IsLeftTile t → IsWithin t z → side e z ≡ pos 0 → (Same z (point e.low) → ⊥) → (Same z (point e.high) → ⊥) → pos 0 <ℤ side e p
     → (m : ℤ) × (pos 0 <ℤ m) × IsWithin t (mix m z (pos 1) p)
 near_inside t e z p (inl s) Z P left w zero no_low no_high l =
     side_near t z p Z P left w (subst (λ (f : Edge). side f z ≡ pos 0) s zero) (subst (λ (f : Edge). Same z (point f.low) → ⊥) s no_low) (subst (λ (f : Edge). Same z (point f.high) → ⊥) s no_high) (subst (λ (f : Edge). pos 0 <ℤ side f p) s l)
@@ -255,13 +255,13 @@ module _ (h : HalfArc) (b : Bay) (rest : List Bay) (tube : IsTube h (b ∷ rest)
   tube_wide : pos 0 <ℤ (chord h *ℤ (pos 0 -ℤ bend h))
   tube_wide = product_positive (chord h) (pos 0 -ℤ bend h) (tube_cap h (b ∷ rest) tube).chord (omega (arith, ints, right))
 
-  bound_left : (e : Edge) → Has e (bounds h.from (b ∷ rest)) → Slopes h (λ z. InSome (tiles h.from (b ∷ rest)) z) e
+  bound_left : (e : Edge) → Has e (bounds h.from (b ∷ rest)) → Slopes h (λ z. InSomeTile (tiles h.from (b ∷ rest)) z) e
   bound_left e m = later (bounds_left h tube_wide h.from b rest e tube.are_bays m)
     where
-      inside : (z : Vector) → Place z → InSome (tiles h.from (b ∷ rest)) z → IsInside h h.from h.from (b ∷ rest) z
+      inside : (z : Vector) → Place z → InSomeTile (tiles h.from (b ∷ rest)) z → IsInside h h.from h.from (b ∷ rest) z
       inside z Z s = let r = tube_region h (b ∷ rest) z tube Z (tiles_in_tube h.from b rest z s) in record { over = r.over; under = r.under }
 
-      later : Slopes h (IsInside h h.from h.from (b ∷ rest)) e → Slopes h (λ z. InSome (tiles h.from (b ∷ rest)) z) e
+      later : Slopes h (IsInside h h.from h.from (b ∷ rest)) e → Slopes h (λ z. InSomeTile (tiles h.from (b ∷ rest)) z) e
       later (inl (s, f)) = inl (s, λ z Z i low high. f z Z (inside z Z i) low high)
       later (inr (s, f)) = inr (s, λ z Z i low high. f z Z (inside z Z i) low high)
 
@@ -309,8 +309,8 @@ module _ (h : HalfArc) (b : Bay) (rest : List Bay) (tube : IsTube h (b ∷ rest)
 
   -- from low to high in the order of the chord
   right_up : (e : Edge) (lo hi : ℤ) (z q : Vector) → Place z → Place q → (lo *ℤ z.n) <ℤ A h z → A h z <ℤ (hi *ℤ z.n) → side e z ≡ pos 0 → side e q <ℤ pos 0
-      → ((y : Vector) → Place y → InSome (tiles h.from (b ∷ rest)) y → (lo *ℤ y.n) ≤ℤ A h y → A h y ≤ℤ (hi *ℤ y.n) → pos 0 ≤ℤ side e y)
-      → (m : ℤ) × (pos 0 <ℤ m) × (InSome (tiles h.from (b ∷ rest)) (mix m z (pos 1) q) → ⊥)
+      → ((y : Vector) → Place y → InSomeTile (tiles h.from (b ∷ rest)) y → (lo *ℤ y.n) ≤ℤ A h y → A h y ≤ℤ (hi *ℤ y.n) → pos 0 ≤ℤ side e y)
+      → (m : ℤ) × (pos 0 <ℤ m) × (InSomeTile (tiles h.from (b ∷ rest)) (mix m z (pos 1) q) → ⊥)
   right_up e lo hi z q Z Q low high zero l f =
       let c = A h q -ℤ (lo *ℤ q.n) in
       let d = (hi *ℤ q.n) -ℤ A h q in
@@ -324,7 +324,7 @@ module _ (h : HalfArc) (b : Bay) (rest : List Bay) (tube : IsTube h (b ∷ rest)
 
   -- z on a bound but no end of it, q strictly on its right: some place between them, near z, is not in the tube
   pub right_near : (e : Edge) → Has e (bounds h.from (b ∷ rest)) → (z q : Vector) → Place z → Place q → Between z (point e.low) (point e.high) → (Same z (point e.low) → ⊥) → (Same z (point e.high) → ⊥)
-      → side e z ≡ pos 0 → side e q <ℤ pos 0 → (m : ℤ) × (pos 0 <ℤ m) × (InSome (tiles h.from (b ∷ rest)) (mix m z (pos 1) q) → ⊥)
+      → side e z ≡ pos 0 → side e q <ℤ pos 0 → (m : ℤ) × (pos 0 <ℤ m) × (InSomeTile (tiles h.from (b ∷ rest)) (mix m z (pos 1) q) → ⊥)
   right_near e has z q Z Q d no_low no_high zero l =
       let one : pos 0 <ℤ pos 1 = omega (arith, ints) in
       let k = between_back z (point e.low) (point e.high) d in

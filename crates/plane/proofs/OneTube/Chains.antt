@@ -6,7 +6,7 @@ use Rattle.plane.specs.Forms.Vectors.{Vector, Place, point, mix}
 use Rattle.plane.specs.Lists.{Each}
 use Rattle.plane.specs.Forms.Arcs.{HalfArc, bend, power, along, bow, seen}
 use Rattle.plane.specs.Tubes.Caps.{Cap, IsCap, shape, IsOver, cap}
-use Rattle.plane.specs.Tubes.Bays.{Bay, AreNext, IsTube, distance, ahead_of_from, ahead_of_to, IsInside, IsOutside, IsOuterCorner, InnerChain, OuterChain}
+use Rattle.plane.specs.Tubes.Bays.{Bay, AreNext, IsTube, distance, ahead_of_from, ahead_of_to, RunsInside, RunsOutside, IsOuterCorner, InnerChain, OuterChain}
 use Rattle.plane.proofs.Algebra.Laws.{product_positive, product_nonnegative, square_nonnegative, positive_factor}
 use Rattle.plane.proofs.Algebra.Scaling.{product_of_zero}
 use Rattle.plane.proofs.Algebra.Ring.{at, num, plus, minus, times, vars, ring}
@@ -50,13 +50,13 @@ strict_mix c s p t q hc hp hq hs ht apart a b =
         let e = ring (times (minus (num (pos 0)) (at 0)) (minus (num (pos 0)) (at 0))) (times (at 0) (at 0)) (vars (x ∷ [])) refl in
         omega (arith, ints, p, e)
 
-inner_inside : (h : HalfArc) (p v : Point) → IsCap (cap h) → along h (point p) <ℤ along h (point v) → shape (cap h) (point (seen_point h p)) ≤ℤ pos 0 → shape (cap h) (point (seen_point h v)) ≤ℤ pos 0 → IsInside h p v
+inner_inside : (h : HalfArc) (p v : Point) → IsCap (cap h) → along h (point p) <ℤ along h (point v) → shape (cap h) (point (seen_point h p)) ≤ℤ pos 0 → shape (cap h) (point (seen_point h v)) ≤ℤ pos 0 → RunsInside h p v
 inner_inside h p v hc l a b s t hs ht =
     let one : pos 0 <ℤ pos 1 = omega (arith, ints) in
     let k = strict_mix (cap h) s (point (seen_point h p)) t (point (seen_point h v)) hc one one hs ht (omega (arith, ints, l)) a b in
     power_below h (mix s (point p) t (point v)) hc (subst (λ (z : Vector). shape (cap h) z <ℤ pos 0) (sym (seen-mix h s (point p) t (point v))) k)
 
-inner_chain : (h : HalfArc) (p : Point) (b : Bay) (rest : List Bay) → IsCap (cap h) → IsRest h p b rest → shape (cap h) (point (seen_point h p)) ≤ℤ pos 0 → InnerChain (IsInside h) p (b ∷ rest)
+inner_chain : (h : HalfArc) (p : Point) (b : Bay) (rest : List Bay) → IsCap (cap h) → IsRest h p b rest → shape (cap h) (point (seen_point h p)) ≤ℤ pos 0 → InnerChain (RunsInside h) p (b ∷ rest)
 inner_chain h p b [] hc r low =
     let u = r.are_bays.0.up in let v = r.are_bays.0.on in
     (inner_inside h p b.inner hc (omega (arith, ints, u, v)) low (inner_most h b.inner hc r.inside.0), tt)
@@ -76,7 +76,7 @@ outside_high h z hc o k =
     let m = power_most h z hc on in
     absurd (omega (arith, ints, m, k)))
 
-outside : (h : HalfArc) (p q : Point) → IsCap (cap h) → Corner h p → Corner h q → ((s t : ℤ) → pos 0 <ℤ s → pos 0 <ℤ t → pos 0 <ℤ power h (mix s (point p) t (point q))) → IsOutside h p q
+outside : (h : HalfArc) (p q : Point) → IsCap (cap h) → Corner h p → Corner h q → ((s t : ℤ) → pos 0 <ℤ s → pos 0 <ℤ t → pos 0 <ℤ power h (mix s (point p) t (point q))) → RunsOutside h p q
 outside h p q hc op oq f s t hs ht =
     let one : pos 0 <ℤ pos 1 = omega (arith, ints) in
     let k = f s t hs ht in
@@ -174,7 +174,7 @@ next_outside h b d n s t hs ht =
     same : (x y : ℤ) → x ≡ y → pos 0 <ℤ y → pos 0 <ℤ x
     same x y e k = omega (arith, ints)
 
-outer_rest : (h : HalfArc) (p : Point) (b : Bay) (rest : List Bay) → IsCap (cap h) → IsRest h p b rest → AreOver h p (b ∷ rest) → OuterChain (IsOutside h) b.outer h.to rest
+outer_rest : (h : HalfArc) (p : Point) (b : Bay) (rest : List Bay) → IsCap (cap h) → IsRest h p b rest → AreOver h p (b ∷ rest) → OuterChain (RunsOutside h) b.outer h.to rest
 outer_rest h p b [] hc r o =
     let e = r.ends in
     let l = r.are_bays.0.on in
@@ -205,14 +205,14 @@ outer_corners h p b (d ∷ rest) hc r o =
     ((k, outside_high h (point b.outer) hc o.1.0 k), outer_corners h b.inner d rest hc (rest_of h p b d rest r) o.1.1)
 
 -- ---- Arc4
-pub tube_inner : (h : HalfArc) (bs : List Bay) → IsTube h bs → InnerChain (IsInside h) h.from bs
+pub tube_inner : (h : HalfArc) (bs : List Bay) → IsTube h bs → InnerChain (RunsInside h) h.from bs
 tube_inner h [] t = tt
 tube_inner h (b ∷ rest) t =
     let hc = tube_cap h (b ∷ rest) t in
     let e = power-from h in
     inner_chain h h.from b rest hc (tube_rest h b rest t) (shape_most h (point h.from) hc (omega (arith, ints, e)))
 
-pub tube_outer : (h : HalfArc) (bs : List Bay) → IsTube h bs → OuterChain (IsOutside h) h.from h.to bs
+pub tube_outer : (h : HalfArc) (bs : List Bay) → IsTube h bs → OuterChain (RunsOutside h) h.from h.to bs
 tube_outer h [] t = absurd t.some
 tube_outer h (b ∷ rest) t =
     let hc = tube_cap h (b ∷ rest) t in

@@ -9,7 +9,7 @@ use Rattle.plane.specs.Forms.Arcs.{HalfArc}
 use Rattle.plane.specs.Rule.Curves.{arc}
 use Rattle.plane.specs.Forms.Meets.{IsEnd}
 use Rattle.plane.specs.Tubes.Bays.{Bay, AreBays, IsTube}
-use Rattle.plane.specs.Tubes.Windings.{Triangle, InTriangle, strips, tiles, IsCornerOf}
+use Rattle.plane.specs.Tubes.Windings.{Tile, InTile, strips, tiles, IsCornerOf}
 use Rattle.plane.specs.CurveRuns.TubedRuns.{inner, outer, Owned, chain, inner_corners, outer_corners, edges_of, no_edge, Connects}
 use Rattle.plane.proofs.ListLemmas.Lists.{each_append}
 use Rattle.plane.proofs.ListLemmas.ListPairs.{each_at}
@@ -18,23 +18,23 @@ use Rattle.plane.proofs.OneTube.ChainEdges.{EndsAt, ends_at}
 use Rattle.plane.proofs.OneTube.EdgesApart.{FromCorner, OnlyInBays, OnlyInGaps, corners_in_bays, corners_in_gaps}
 
 -- ---- corners in triangles
-strips_only : (p : Point) (b : Bay) (bs : List Bay) → OnlyInBays p b.inner bs → OnlyInGaps p (b ∷ bs) → (t : Triangle) → Has t (strips b.inner b.outer bs) → InTriangle t (point p) → IsCornerOf t p
+strips_only : (p : Point) (b : Bay) (bs : List Bay) → OnlyInBays p b.inner bs → OnlyInGaps p (b ∷ bs) → (t : Tile) → Has t (strips b.inner b.outer bs) → InTile t (point p) → IsCornerOf t p
 strips_only p b [] u v t k i = absurd k
 strips_only p b (d ∷ rest) u v t (inl e) i =
-    subst (λ (s : Triangle). IsCornerOf s p) (sym e)
-    (elim (v.0 (swapped (point p) b.outer b.inner d.outer (triangle_to (record { a = b.outer; b = b.inner; c = d.outer }) (point p) (subst (λ (s : Triangle). InTriangle s (point p)) e i)))) [
+    subst (λ (s : Tile). IsCornerOf s p) (sym e)
+    (elim (v.0 (swapped (point p) b.outer b.inner d.outer (triangle_to (record { a = b.outer; b = b.inner; c = d.outer }) (point p) (subst (λ (s : Tile). InTile s (point p)) e i)))) [
       | inl q ↦ inr (inl q)
       | inr (inl q) ↦ inl q
       | inr (inr q) ↦ inr (inr q)
     ])
 strips_only p b (d ∷ rest) u v t (inr (inl e)) i =
-    subst (λ (s : Triangle). IsCornerOf s p) (sym e) (u.0 (triangle_to (record { a = b.inner; b = d.inner; c = d.outer }) (point p) (subst (λ (s : Triangle). InTriangle s (point p)) e i)))
+    subst (λ (s : Tile). IsCornerOf s p) (sym e) (u.0 (triangle_to (record { a = b.inner; b = d.inner; c = d.outer }) (point p) (subst (λ (s : Tile). InTile s (point p)) e i)))
 strips_only p b (d ∷ rest) u v t (inr (inr k)) i = strips_only p d rest u.1 v.1 t k i
 
-tiles_only : (h : HalfArc) (p v : Point) (bs : List Bay) → AreBays h v bs → FromCorner p v bs → (t : Triangle) → Has t (tiles v bs) → InTriangle t (point p) → IsCornerOf t p
+tiles_only : (h : HalfArc) (p v : Point) (bs : List Bay) → AreBays h v bs → FromCorner p v bs → (t : Tile) → Has t (tiles v bs) → InTile t (point p) → IsCornerOf t p
 tiles_only h p v [] a c t k i = absurd k
 tiles_only h p v (b ∷ rest) a c t (inl e) i =
-    subst (λ (s : Triangle). IsCornerOf s p) (sym e) ((corners_in_bays h p v (b ∷ rest) a c).0 (triangle_to (record { a = v; b = b.inner; c = b.outer }) (point p) (subst (λ (s : Triangle). InTriangle s (point p)) e i)))
+    subst (λ (s : Tile). IsCornerOf s p) (sym e) ((corners_in_bays h p v (b ∷ rest) a c).0 (triangle_to (record { a = v; b = b.inner; c = b.outer }) (point p) (subst (λ (s : Tile). InTile s (point p)) e i)))
 tiles_only h p v (b ∷ rest) a c t (inr k) i = strips_only p b rest (corners_in_bays h p v (b ∷ rest) a c).1 (corners_in_gaps h p v (b ∷ rest) a c) t k i
 
 -- ---- ends of edges are corners
@@ -65,9 +65,9 @@ tube_ends i c (b ∷ rest) t =
     (inner_ends _ i c.from (b ∷ rest) (λ p k. k))
     (outer_ends _ i c.from c.from c.to (b ∷ rest) (inl refl) (λ p k. k) (ends_at c.to c.from b rest t.ends))
 
-pub own_corners : (i : ℕ) (c : Curve) (bs : List Bay) (e : ℕ) (a : Edge) (p : Point) (t : Triangle) → IsTube (arc c) bs → e < length (edges_of i kind.HalfArc c bs)
+pub own_corners : (i : ℕ) (c : Curve) (bs : List Bay) (e : ℕ) (a : Edge) (p : Point) (t : Tile) → IsTube (arc c) bs → e < length (edges_of i kind.HalfArc c bs)
     → Connects a (get_or (edges_of i kind.HalfArc c bs) e no_edge).from (get_or (edges_of i kind.HalfArc c bs) e no_edge).to
-    → IsEnd a p → Has t (tiles c.from bs) → InTriangle t (point p) → IsCornerOf t p
+    → IsEnd a p → Has t (tiles c.from bs) → InTile t (point p) → IsCornerOf t p
 own_corners i c bs e a p t is l k end has there = tiles_only (arc c) p c.from bs is.are_bays corner t has there
   where
     ends : OfEnds (λ q. FromCorner q c.from bs) (get_or (edges_of i kind.HalfArc c bs) e no_edge)

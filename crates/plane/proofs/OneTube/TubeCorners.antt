@@ -7,7 +7,7 @@ use Rattle.plane.specs.Forms.Vectors.{Vector, Place, point, Edge}
 use Rattle.plane.specs.Forms.Meets.{IsEnd}
 use Rattle.plane.specs.Forms.Arcs.{HalfArc, wide, tall, along}
 use Rattle.plane.specs.Tubes.Bays.{Bay, AreBays}
-use Rattle.plane.specs.Tubes.Windings.{arrow, Triangle, weighed, InTriangle, strips, tiles, fence, bounds, IsCornerOf}
+use Rattle.plane.specs.Tubes.Windings.{arrow, Tile, weighed, InTile, strips, tiles, fence, bounds, IsCornerOf}
 use Rattle.plane.proofs.Algebra.Scaling.{times_le, cancel_le}
 use Rattle.plane.proofs.Algebra.Ring.{Expr, at, num, plus, minus, times, vars, ring}
 use Rattle.plane.proofs.Caps.Seen.{seen_same}
@@ -62,24 +62,24 @@ scaled_ge n k x m hn hm l y e =
 weak : (n : ℤ) → pos 0 <ℤ n → pos 0 ≤ℤ n
 weak n h = omega (arith, ints, h)
 
-pub tile_low : (h : HalfArc) (t : Triangle) (z : Vector) (k : ℤ) → Place z → InTriangle t z → k ≤ℤ along h (point t.a) → k ≤ℤ along h (point t.b) → k ≤ℤ along h (point t.c) → (k *ℤ z.n) ≤ℤ along h z
+pub tile_low : (h : HalfArc) (t : Tile) (z : Vector) (k : ℤ) → Place z → InTile t z → k ≤ℤ along h (point t.a) → k ≤ℤ along h (point t.b) → k ≤ℤ along h (point t.c) → (k *ℤ z.n) ≤ℤ along h z
 tile_low h t z k Z i a b c =
     let m = weighed i.of_a t.a i.of_b t.b i.of_c t.c in
     let e = along-weighed h i.of_a t.a i.of_b t.b i.of_c t.c in
     let l = weighed_low k i.of_a (along h (point t.a)) i.of_b (along h (point t.b)) i.of_c (along h (point t.c)) i.a_least i.b_least i.c_least a b c in
     scaled_le z.n k (along h m) m.n (weak z.n Z) i.some (omega (arith, ints, l, e)) (along h z) (seen_same h z m i.is).x
 
-pub tile_high : (h : HalfArc) (t : Triangle) (z : Vector) (k : ℤ) → Place z → InTriangle t z → along h (point t.a) ≤ℤ k → along h (point t.b) ≤ℤ k → along h (point t.c) ≤ℤ k → along h z ≤ℤ (k *ℤ z.n)
+pub tile_high : (h : HalfArc) (t : Tile) (z : Vector) (k : ℤ) → Place z → InTile t z → along h (point t.a) ≤ℤ k → along h (point t.b) ≤ℤ k → along h (point t.c) ≤ℤ k → along h z ≤ℤ (k *ℤ z.n)
 tile_high h t z k Z i a b c =
     let m = weighed i.of_a t.a i.of_b t.b i.of_c t.c in
     let e = along-weighed h i.of_a t.a i.of_b t.b i.of_c t.c in
     let l = weighed_high k i.of_a (along h (point t.a)) i.of_b (along h (point t.b)) i.of_c (along h (point t.c)) i.a_least i.b_least i.c_least a b c in
     scaled_ge z.n k (along h m) m.n (weak z.n Z) i.some (omega (arith, ints, l, e)) (along h z) (seen_same h z m i.is).x
 
-low_point : (h : HalfArc) (t : Triangle) (q : Point) (k : ℤ) → InTriangle t (point q) → k ≤ℤ along h (point t.a) → k ≤ℤ along h (point t.b) → k ≤ℤ along h (point t.c) → k ≤ℤ along h (point q)
+low_point : (h : HalfArc) (t : Tile) (q : Point) (k : ℤ) → InTile t (point q) → k ≤ℤ along h (point t.a) → k ≤ℤ along h (point t.b) → k ≤ℤ along h (point t.c) → k ≤ℤ along h (point q)
 low_point h t q k i a b c = let l = tile_low h t (point q) k (omega (arith, ints)) i a b c in omega (arith, ints, l)
 
-high_point : (h : HalfArc) (t : Triangle) (q : Point) (k : ℤ) → InTriangle t (point q) → along h (point t.a) ≤ℤ k → along h (point t.b) ≤ℤ k → along h (point t.c) ≤ℤ k → along h (point q) ≤ℤ k
+high_point : (h : HalfArc) (t : Tile) (q : Point) (k : ℤ) → InTile t (point q) → along h (point t.a) ≤ℤ k → along h (point t.b) ≤ℤ k → along h (point t.c) ≤ℤ k → along h (point q) ≤ℤ k
 high_point h t q k i a b c = let l = tile_high h t (point q) k (omega (arith, ints)) i a b c in omega (arith, ints, l)
 
 -- ---- the corners from a diagonal on
@@ -116,29 +116,29 @@ fence_from h p u (k ∷ ks) q are (e, inr (inr m), x) =
     ]
 
 -- the triangles from the diagonal on do not lie before u
-strip_low : (h : HalfArc) (p u : Point) (ks : List Bay) (t : Triangle) (q : Point) → A h u ≤ℤ A h p → AreBays h p ks → Has t (strips p u ks) → InTriangle t (point q) → A h u ≤ℤ A h q
+strip_low : (h : HalfArc) (p u : Point) (ks : List Bay) (t : Tile) (q : Point) → A h u ≤ℤ A h p → AreBays h p ks → Has t (strips p u ks) → InTile t (point q) → A h u ≤ℤ A h q
 strip_low h p u [] t q l are m i = absurd m
 strip_low h p u (k ∷ ks) t q l are (inl e) i =
     let up = are.0.up in
-    low_point h (record { a = u; b = p; c = k.outer }) q (A h u) (subst (λ (x : Triangle). InTriangle x (point q)) e i) (omega (arith, ints)) l (omega (arith, ints, l, up))
+    low_point h (record { a = u; b = p; c = k.outer }) q (A h u) (subst (λ (x : Tile). InTile x (point q)) e i) (omega (arith, ints)) l (omega (arith, ints, l, up))
 strip_low h p u (k ∷ ks) t q l are (inr (inl e)) i =
     let up = are.0.up in let on = are.0.on in
-    low_point h (record { a = p; b = k.inner; c = k.outer }) q (A h u) (subst (λ (x : Triangle). InTriangle x (point q)) e i) l (omega (arith, ints, l, up, on)) (omega (arith, ints, l, up))
+    low_point h (record { a = p; b = k.inner; c = k.outer }) q (A h u) (subst (λ (x : Tile). InTile x (point q)) e i) l (omega (arith, ints, l, up, on)) (omega (arith, ints, l, up))
 strip_low h p u (k ∷ ks) t q l are (inr (inr m)) i =
     let up = are.0.up in let on = are.0.on in
     let x = strip_low h k.inner k.outer ks t q (omega (arith, ints, on)) are.1 m i in
     omega (arith, ints, l, up, x)
 
-of_same : (s t : Triangle) (q : Point) → t ≡ s → IsCornerOf s q → IsCornerOf t q
-of_same s t q e c = subst (λ (x : Triangle). IsCornerOf x q) (sym e) c
+of_same : (s t : Tile) (q : Point) → t ≡ s → IsCornerOf s q → IsCornerOf t q
+of_same s t q e c = subst (λ (x : Tile). IsCornerOf x q) (sym e) c
 
 -- from a diagonal on: a corner of the chains that is in a triangle is one of its corners
-strip_corner : (h : HalfArc) (p u : Point) (ks : List Bay) (t : Triangle) (q : Point) → A h u <ℤ A h p → AreBays h p ks → Has t (strips p u ks) → InTriangle t (point q)
+strip_corner : (h : HalfArc) (p u : Point) (ks : List Bay) (t : Tile) (q : Point) → A h u <ℤ A h p → AreBays h p ks → Has t (strips p u ks) → InTile t (point q)
     → AtArrow (fence p u ks) q → IsCornerOf t q
 strip_corner h p u [] t q l are m i at_ = absurd m
 strip_corner h p u (k ∷ ks) t q l are (inl e) i at_ =
     let up = are.0.up in let on = are.0.on in
-    let top = high_point h (record { a = u; b = p; c = k.outer }) q (A h k.outer) (subst (λ (x : Triangle). InTriangle x (point q)) e i) (omega (arith, ints, l, up)) (omega (arith, ints, up)) (omega (arith, ints)) in
+    let top = high_point h (record { a = u; b = p; c = k.outer }) q (A h k.outer) (subst (λ (x : Tile). InTile x (point q)) e i) (omega (arith, ints, l, up)) (omega (arith, ints, up)) (omega (arith, ints)) in
     of_same (record { a = u; b = p; c = k.outer }) t q e (first at_ top)
   where
     first : AtArrow (fence p u (k ∷ ks)) q → A h q ≤ℤ A h k.outer → (q ≡ u) ⊎ ((q ≡ p) ⊎ (q ≡ k.outer))
@@ -160,8 +160,8 @@ strip_corner h p u (k ∷ ks) t q l are (inl e) i at_ =
         ]
 strip_corner h p u (k ∷ ks) t q l are (inr (inl e)) i at_ =
     let up = are.0.up in let on = are.0.on in
-    let s : Triangle = record { a = p; b = k.inner; c = k.outer } in
-    let j = subst (λ (x : Triangle). InTriangle x (point q)) e i in
+    let s : Tile = record { a = p; b = k.inner; c = k.outer } in
+    let j = subst (λ (x : Tile). InTile x (point q)) e i in
     let top = high_point h s q (A h k.inner) j (omega (arith, ints, up, on)) (omega (arith, ints)) (omega (arith, ints, on)) in
     let low = low_point h s q (A h p) j (omega (arith, ints)) (omega (arith, ints, up, on)) (omega (arith, ints, up)) in
     of_same s t q e (second at_ top low)
@@ -214,12 +214,12 @@ strip_corner h p u (k ∷ ks) t q l are (inr (inr m)) i at_ =
     rest (f, inr (inr n), x) low next = next (f, n, x)
 
 -- ---- the whole tube
-pub tile_corner : (h : HalfArc) (a : Point) (ks : List Bay) (t : Triangle) (q : Point) → AreBays h a ks → Has t (tiles a ks) → InTriangle t (point q) → AtArrow (bounds a ks) q → IsCornerOf t q
+pub tile_corner : (h : HalfArc) (a : Point) (ks : List Bay) (t : Tile) (q : Point) → AreBays h a ks → Has t (tiles a ks) → InTile t (point q) → AtArrow (bounds a ks) q → IsCornerOf t q
 tile_corner h a [] t q are m i at_ = absurd m
 tile_corner h a (k ∷ ks) t q are (inl e) i at_ =
     let up = are.0.up in let on = are.0.on in
-    let s : Triangle = record { a = a; b = k.inner; c = k.outer } in
-    let top = high_point h s q (A h k.inner) (subst (λ (x : Triangle). InTriangle x (point q)) e i) (omega (arith, ints, up, on)) (omega (arith, ints)) (omega (arith, ints, on)) in
+    let s : Tile = record { a = a; b = k.inner; c = k.outer } in
+    let top = high_point h s q (A h k.inner) (subst (λ (x : Tile). InTile x (point q)) e i) (omega (arith, ints, up, on)) (omega (arith, ints)) (omega (arith, ints, on)) in
     of_same s t q e (first at_ top)
   where
     first : AtArrow (fence a a (k ∷ ks)) q → A h q ≤ℤ A h k.inner → (q ≡ a) ⊎ ((q ≡ k.inner) ⊎ (q ≡ k.outer))

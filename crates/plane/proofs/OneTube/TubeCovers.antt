@@ -17,23 +17,23 @@ use Rattle.plane.proofs.OneTube.TubeLaws.{tube_covers}
 use Rattle.plane.proofs.OneTube.ArcTubes.{triangle_to, triangle_from, tiles_in_tube, tube_in_tiles}
 
 -- a triangle of points as one of places
-pub triangle : flat.Triangle → Triangle
+pub triangle : flat.Tile → Triangle
 triangle t = record { a = point t.a; b = point t.b; c = point t.c; a_place = place_point t.a; b_place = place_point t.b; c_place = place_point t.c }
 
-pub all_triangles : List flat.Triangle → List Triangle
+pub all_triangles : List flat.Tile → List Triangle
 all_triangles [] = []
 all_triangles (t ∷ ts) = triangle t ∷ all_triangles ts
 
-pub places_of : (ts : List flat.Triangle) (z : Vector) → InSome (all_triangles ts) z → flat.InSome ts z
+pub places_of : (ts : List flat.Tile) (z : Vector) → InSome (all_triangles ts) z → flat.InSomeTile ts z
 unfolding triangle all_triangles
 places_of [] z h = absurd h.1
 places_of (t ∷ ts) z (u, inl e, h) = (t, inl refl, triangle_from t z (subst (λ (x : Triangle). InTriangle z x.a x.b x.c) e h))
 places_of (t ∷ ts) z (u, inr k, h) = let r = places_of ts z (u, k, h) in (r.0, inr r.1, r.2)
 
-pub places_in : (ts : List flat.Triangle) (z : Vector) → flat.InSome ts z → InSome (all_triangles ts) z
+pub places_in : (ts : List flat.Tile) (z : Vector) → flat.InSomeTile ts z → InSome (all_triangles ts) z
 unfolding triangle all_triangles
 places_in [] z h = absurd h.1
-places_in (t ∷ ts) z (u, inl e, h) = (triangle t, inl refl, triangle_to t z (subst (λ (x : flat.Triangle). flat.InTriangle x z) e h))
+places_in (t ∷ ts) z (u, inl e, h) = (triangle t, inl refl, triangle_to t z (subst (λ (x : flat.Tile). flat.InTile x z) e h))
 places_in (t ∷ ts) z (u, inr k, h) = let r = places_in ts z (u, k, h) in (r.0, inr r.1, r.2)
 
 -- ---- the triangles of a tube

@@ -6,8 +6,8 @@ use Rattle.plane.specs.Forms.Vectors.{Vector, Place, Same, Between, point, mix}
 use Rattle.plane.specs.Lists.{Each, Has}
 use Rattle.plane.specs.Forms.Arcs.{HalfArc, power, along, bow, seen}
 use Rattle.plane.specs.Tubes.Caps.{Cap, IsCap, InSlab, cap}
-use Rattle.plane.specs.Tubes.Bays.{InTriangle, Bay, InBays, InTube, IsTube, IsInside, IsOutside, IsOuterCorner, InnerChain, OuterChain, OnInner, OnOuter, AtEnds}
-use Rattle.plane.specs.Tubes.CapStrips.{InColumn, IsStrip, AtInner}
+use Rattle.plane.specs.Tubes.Bays.{InTriangle, Bay, InBays, InTube, IsTube, RunsInside, RunsOutside, IsOuterCorner, InnerChain, OuterChain, OnInner, OnOuter, AtEnds}
+use Rattle.plane.specs.Tubes.CapStrips.{InColumn, IsCapStrip, AtInner}
 use Rattle.plane.specs.Tubes.Regions.{seen_point, seen_bay, seen_bays}
 use Rattle.plane.proofs.Algebra.Laws.{product_positive}
 use Rattle.plane.proofs.Algebra.Scaling.{cancel_zero, product_of_zero}
@@ -85,7 +85,7 @@ corner_out : (h : HalfArc) (z : Vector) (p : Point) → IsCap (cap h) → Place 
 corner_out h z p hc hz e (inl k) = inl (power_above_same h z (point p) hc hz (omega (arith, ints)) e k)
 corner_out h z p hc hz e (inr k) = inr (ends_of h z p e k)
 
-edge_in : (h : HalfArc) (z : Vector) (p q : Point) → IsCap (cap h) → Place z → IsInside h p q → InsideOrEnd h p → InsideOrEnd h q → Between z (point p) (point q) → (power h z <ℤ pos 0) ⊎ AtEnds h z
+edge_in : (h : HalfArc) (z : Vector) (p q : Point) → IsCap (cap h) → Place z → RunsInside h p q → InsideOrEnd h p → InsideOrEnd h q → Between z (point p) (point q) → (power h z <ℤ pos 0) ⊎ AtEnds h z
 edge_in h z p q hc hz f a b w =
     let one : pos 0 <ℤ pos 1 = omega (arith, ints) in
     elim (at_end z (point p) (point q) one one w) [
@@ -93,7 +93,7 @@ edge_in h z p q hc hz f a b w =
       | inr k ↦ elim k [ inl e ↦ corner_in h z p hc hz e a | inr e ↦ corner_in h z q hc hz e b ]
     ]
 
-edge_out : (h : HalfArc) (z : Vector) (p q : Point) → IsCap (cap h) → Place z → IsOutside h p q → OutsideOrEnd h p → OutsideOrEnd h q → Between z (point p) (point q) → (pos 0 <ℤ power h z) ⊎ AtEnds h z
+edge_out : (h : HalfArc) (z : Vector) (p q : Point) → IsCap (cap h) → Place z → RunsOutside h p q → OutsideOrEnd h p → OutsideOrEnd h q → Between z (point p) (point q) → (pos 0 <ℤ power h z) ⊎ AtEnds h z
 edge_out h z p q hc hz f a b w =
     let one : pos 0 <ℤ pos 1 = omega (arith, ints) in
     elim (at_end z (point p) (point q) one one w) [
@@ -105,12 +105,12 @@ inside_to : (h : HalfArc) (v : Point) → (power h (point v) <ℤ pos 0) ⊎ (v 
 inside_to h v (inl k) = inl k
 inside_to h v (inr e) = inr (inr e)
 
-inner_in : (h : HalfArc) (z : Vector) (p : Point) (bs : List Bay) → IsCap (cap h) → Place z → InnerChain (IsInside h) p bs → Each (λ b. (power h (point b.inner) <ℤ pos 0) ⊎ (b.inner ≡ h.to)) bs → InsideOrEnd h p → OnInner z p bs → (power h z <ℤ pos 0) ⊎ AtEnds h z
+inner_in : (h : HalfArc) (z : Vector) (p : Point) (bs : List Bay) → IsCap (cap h) → Place z → InnerChain (RunsInside h) p bs → Each (λ b. (power h (point b.inner) <ℤ pos 0) ⊎ (b.inner ≡ h.to)) bs → InsideOrEnd h p → OnInner z p bs → (power h z <ℤ pos 0) ⊎ AtEnds h z
 inner_in h z p [] hc hz c e a k = absurd k
 inner_in h z p (b ∷ rest) hc hz c e a (inl k) = edge_in h z p b.inner hc hz c.0 a (inside_to h b.inner e.0) k
 inner_in h z p (b ∷ rest) hc hz c e a (inr k) = inner_in h z b.inner rest hc hz c.1 e.1 (inside_to h b.inner e.0) k
 
-outer_out : (h : HalfArc) (z : Vector) (q : Point) (bs : List Bay) → IsCap (cap h) → Place z → OuterChain (IsOutside h) q h.to bs → Each (IsOuterCorner h) bs → OutsideOrEnd h q → OnOuter z q h.to bs → (pos 0 <ℤ power h z) ⊎ AtEnds h z
+outer_out : (h : HalfArc) (z : Vector) (q : Point) (bs : List Bay) → IsCap (cap h) → Place z → OuterChain (RunsOutside h) q h.to bs → Each (IsOuterCorner h) bs → OutsideOrEnd h q → OnOuter z q h.to bs → (pos 0 <ℤ power h z) ⊎ AtEnds h z
 outer_out h z q [] hc hz c e a k = edge_out h z q h.to hc hz c a (inr (inr refl)) k
 outer_out h z q (b ∷ rest) hc hz c e a (inl k) = edge_out h z q b.outer hc hz c.0 a (inl e.0.0) k
 outer_out h z q (b ∷ rest) hc hz c e a (inr k) = outer_out h z b.outer rest hc hz c.1 e.1 (inl e.0.0) k
@@ -130,7 +130,7 @@ inner_outer_meet h bs z t hz i o = meet (inner_place h bs z t hz i) (outer_place
     meet (inr e) k = e
 
 -- ---- the chord over an inner corner that is not over it
-low_corner : (c : Cap) (z : Vector) (q p : Point) (bs : List Bay) (b : Bay) → Place z → IsStrip c q p bs → AtInner NotOver z p bs → Has b bs → z.x ≡ b.inner.x *ℤ z.n → (b.inner.y *ℤ z.n) ≤ℤ z.y → InBays p bs z
+low_corner : (c : Cap) (z : Vector) (q p : Point) (bs : List Bay) (b : Bay) → Place z → IsCapStrip c q p bs → AtInner NotOver z p bs → Has b bs → z.x ≡ b.inner.x *ℤ z.n → (b.inner.y *ℤ z.n) ≤ℤ z.y → InBays p bs z
 low_corner c z q p [] b hz h a k e l = absurd k
 low_corner c z q p (d ∷ rest) b hz h a (inr k) e l = inr (low_corner c z d.outer d.inner rest b hz h.4 a.1 k e l)
 low_corner c z q p (d ∷ rest) b hz h a (inl k) e l =

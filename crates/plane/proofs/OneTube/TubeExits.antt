@@ -6,7 +6,7 @@ use Rattle.plane.specs.declared.kinds.Point.{Point}
 use Rattle.plane.specs.Lists.{Each, Has}
 use Rattle.plane.specs.Forms.Vectors.{Vector, Place, Between, mix, point, Edge, side}
 use Rattle.plane.specs.Tubes.Bays.{Bay}
-use Rattle.plane.specs.Tubes.Windings.{arrow, Triangle, round, InTriangle, InSome, IsLeft, strips, tiles, fence, bounds}
+use Rattle.plane.specs.Tubes.Windings.{arrow, Tile, round, InTile, InSomeTile, IsLeftTile, strips, tiles, fence, bounds}
 use Rattle.plane.specs.CurveRuns.Extended.{IsOnWay}
 use Rattle.plane.proofs.Algebra.Laws.{product_nonnegative, product_positive}
 use Rattle.plane.proofs.Algebra.Ring.{at, num, plus, minus, times, vars, ring}
@@ -78,17 +78,17 @@ exit (f ∷ fs) z q g = elim (exit fs z q g.1) [
 ]
 
 -- ---- the sides of a triangle
-abbrev rotated : Triangle → Triangle
+abbrev rotated : Tile → Tile
 rotated t = record { a = t.b; b = t.c; c = t.a }
 
-rotated_left : (t : Triangle) → IsLeft t → IsLeft (rotated t)
+rotated_left : (t : Tile) → IsLeftTile t → IsLeftTile (rotated t)
 rotated_left t l = let e = area_next t in omega (arith, ints, l, e)
 
-rotated_within : (t : Triangle) (z : Vector) → IsWithin t z → IsWithin (rotated t) z
+rotated_within : (t : Tile) (z : Vector) → IsWithin t z → IsWithin (rotated t) z
 rotated_within t z w = (w.1, w.2, w.0)
 
 -- a place of the triangle on the line of its first side is on that side
-on_side_a : (t : Triangle) (z : Vector) → Place z → IsLeft t → IsWithin t z → side_a t z ≡ pos 0 → Between z (point t.a) (point t.b)
+on_side_a : (t : Tile) (z : Vector) → Place z → IsLeftTile t → IsWithin t z → side_a t z ≡ pos 0 → Between z (point t.a) (point t.b)
 on_side_a t z Z left w e =
     let s = sides_sum t z in
     let p = product_positive z.n (area t) Z left in
@@ -111,7 +111,7 @@ on_side_a t z Z left w e =
         ap (λ (v : ℤ). x *ℤ v) e ∙ ring (times (at 0) (times (at 1) (at 2))) (times (times (at 0) (at 2)) (at 1)) (vars (x ∷ n ∷ k ∷ [])) refl ∙ ap (λ (v : ℤ). v *ℤ n) g
 
 -- and back
-pub side_a_within : (t : Triangle) (z : Vector) → Place z → IsLeft t → Between z (point t.a) (point t.b) → IsWithin t z
+pub side_a_within : (t : Tile) (z : Vector) → Place z → IsLeftTile t → Between z (point t.a) (point t.b) → IsWithin t z
 side_a_within t z Z left h =
     let some = h.some in
     triangle_within t z Z left (record {
@@ -134,16 +134,16 @@ side_a_within t z Z left h =
     two : (s p t q r : ℤ) → (s *ℤ p) +ℤ (t *ℤ q) ≡ ((s *ℤ p) +ℤ (t *ℤ q)) +ℤ (pos 0 *ℤ r)
     two s p t q r = ring (plus (times (at 0) (at 1)) (times (at 2) (at 3))) (plus (plus (times (at 0) (at 1)) (times (at 2) (at 3))) (times (num (pos 0)) (at 4))) (vars (s ∷ p ∷ t ∷ q ∷ r ∷ [])) refl
 
-pub on_side_b : (t : Triangle) (z : Vector) → Place z → IsLeft t → IsWithin t z → side_b t z ≡ pos 0 → Between z (point t.b) (point t.c)
+pub on_side_b : (t : Tile) (z : Vector) → Place z → IsLeftTile t → IsWithin t z → side_b t z ≡ pos 0 → Between z (point t.b) (point t.c)
 on_side_b t z Z left w e = on_side_a (rotated t) z Z (rotated_left t left) (rotated_within t z w) e
 
-pub on_side_c : (t : Triangle) (z : Vector) → Place z → IsLeft t → IsWithin t z → side_c t z ≡ pos 0 → Between z (point t.c) (point t.a)
+pub on_side_c : (t : Tile) (z : Vector) → Place z → IsLeftTile t → IsWithin t z → side_c t z ≡ pos 0 → Between z (point t.c) (point t.a)
 on_side_c t z Z left w e = on_side_b (rotated t) z Z (rotated_left t left) (rotated_within t z w) e
 
-pub side_b_within : (t : Triangle) (z : Vector) → Place z → IsLeft t → Between z (point t.b) (point t.c) → IsWithin t z
+pub side_b_within : (t : Tile) (z : Vector) → Place z → IsLeftTile t → Between z (point t.b) (point t.c) → IsWithin t z
 side_b_within t z Z left h = let w = side_a_within (rotated t) z Z (rotated_left t left) h in (w.2, w.0, w.1)
 
-pub side_c_within : (t : Triangle) (z : Vector) → Place z → IsLeft t → Between z (point t.c) (point t.a) → IsWithin t z
+pub side_c_within : (t : Tile) (z : Vector) → Place z → IsLeftTile t → Between z (point t.c) (point t.a) → IsWithin t z
 side_c_within t z Z left h = let w = side_b_within (rotated t) z Z (rotated_left t left) h in (w.2, w.0, w.1)
 
 -- ---- one triangle: where the way leaves it
@@ -155,7 +155,7 @@ module _ (p q : Vector) (P : Place p) (Q : Place q) where
     between : Between at (point a) (point b)
     beyond : side e q <ℤ pos 0
 
-  leave : {R : Type 0} (t : Triangle) → IsLeft t → (z : Vector) → IsOnWay p q z → IsWithin t z → (IsWithin t q → R)
+  leave : {R : Type 0} (t : Tile) → IsLeftTile t → (z : Vector) → IsOnWay p q z → IsWithin t z → (IsWithin t q → R)
       → (Leaves t.a t.b (arrow t.a t.b) → R) → (Leaves t.b t.c (arrow t.b t.c) → R) → (Leaves t.c t.a (arrow t.c t.a) → R) → R
   leave {R = R} t left z on w stays a b c = elim (exit (round t) z q (w.0, (w.1, (w.2, tt)))) [
     | inl g ↦ stays (g.0, g.1.0, g.1.1.0)
@@ -189,13 +189,13 @@ module _ (p q : Vector) (P : Place p) (Q : Place q) where
 
   -- ---- the two triangles from the diagonal between v and u to that between the corners of the bay, and what stands behind it
   module _ (v u : Point) (k : Bay) (Rest : Vector → Type 0) where
-    abbrev one : Triangle
+    abbrev one : Tile
     one = record { a = u; b = v; c = k.outer }
 
-    abbrev two : Triangle
+    abbrev two : Tile
     two = record { a = v; b = k.inner; c = k.outer }
 
-    module _ (two_left : IsLeft two) (miss_inner : (y : Vector) → IsOnWay p q y → Between y (point v) (point k.inner) → ⊥)
+    module _ (two_left : IsLeftTile two) (miss_inner : (y : Vector) → IsOnWay p q y → Between y (point v) (point k.inner) → ⊥)
         (enter : (y : Vector) → Between y (point k.inner) (point k.outer) → Rest y)
         (far : (z : Vector) → IsOnWay p q z → Rest z → Rest q ⊎ Leaves k.inner k.outer (arrow k.outer k.inner)) where
       abbrev Two : Vector → Type 0
@@ -213,7 +213,7 @@ module _ (p q : Vector) (P : Place p) (Q : Place q) where
       any_two z on (inl w) = in_two z on w
       any_two z on (inr r) = from_rest z on r (λ x. in_two x.at x.on (side_b_within two x.at (way_place p q x.at P Q x.on) two_left x.between))
 
-      module _ (one_left : IsLeft one) (miss_outer : (y : Vector) → IsOnWay p q y → Between y (point k.outer) (point u) → ⊥) where
+      module _ (one_left : IsLeftTile one) (miss_outer : (y : Vector) → IsOnWay p q y → Between y (point k.outer) (point u) → ⊥) where
         abbrev One : Vector → Type 0
         One z = IsWithin one z ⊎ Two z
 
@@ -231,30 +231,30 @@ module _ (p q : Vector) (P : Place p) (Q : Place q) where
 
   -- ---- the triangles from the diagonal between v and u on, with that diagonal
   abbrev Behind : Point → Point → List Bay → Vector → Type 0
-  Behind v u ks z = InSome (strips v u ks) z ⊎ Between z (point v) (point u)
+  Behind v u ks z = InSomeTile (strips v u ks) z ⊎ Between z (point v) (point u)
 
   -- by the two triangles of the first bay
-  first_bay : (v u : Point) (k : Bay) (ks : List Bay) (z : Vector) → Place z → Each (λ t. IsLeft t) (strips v u (k ∷ ks)) → Behind v u (k ∷ ks) z
+  first_bay : (v u : Point) (k : Bay) (ks : List Bay) (z : Vector) → Place z → Each (λ t. IsLeftTile t) (strips v u (k ∷ ks)) → Behind v u (k ∷ ks) z
       → IsWithin (record { a = u; b = v; c = k.outer }) z ⊎ (IsWithin (record { a = v; b = k.inner; c = k.outer }) z ⊎ Behind k.inner k.outer ks z)
-  first_bay v u k ks z Z left (inl (t, inl e, i)) = inl (triangle_within (record { a = u; b = v; c = k.outer }) z Z left.0 (subst (λ (t : Triangle). InTriangle t z) e i))
-  first_bay v u k ks z Z left (inl (t, inr (inl e), i)) = inr (inl (triangle_within (record { a = v; b = k.inner; c = k.outer }) z Z left.1.0 (subst (λ (t : Triangle). InTriangle t z) e i)))
+  first_bay v u k ks z Z left (inl (t, inl e, i)) = inl (triangle_within (record { a = u; b = v; c = k.outer }) z Z left.0 (subst (λ (t : Tile). InTile t z) e i))
+  first_bay v u k ks z Z left (inl (t, inr (inl e), i)) = inr (inl (triangle_within (record { a = v; b = k.inner; c = k.outer }) z Z left.1.0 (subst (λ (t : Tile). InTile t z) e i)))
   first_bay v u k ks z Z left (inl (t, inr (inr m), i)) = inr (inr (inl (t, m, i)))
   first_bay v u k ks z Z left (inr b) = inl (side_a_within (record { a = u; b = v; c = k.outer }) z Z left.0 (between_back z (point v) (point u) b))
 
   -- a place behind the last diagonal of the bay, or in its triangles
-  last_in : (v u : Point) (k : Bay) (ks : List Bay) (z : Vector) → Place z → IsLeft (record { a = v; b = k.inner; c = k.outer }) → Behind k.inner k.outer ks z → InSome (strips v u (k ∷ ks)) z
+  last_in : (v u : Point) (k : Bay) (ks : List Bay) (z : Vector) → Place z → IsLeftTile (record { a = v; b = k.inner; c = k.outer }) → Behind k.inner k.outer ks z → InSomeTile (strips v u (k ∷ ks)) z
   last_in v u k ks z Z left (inl (t, m, i)) = (t, inr (inr m), i)
   last_in v u k ks z Z left (inr b) =
-      let t : Triangle = record { a = v; b = k.inner; c = k.outer } in
+      let t : Tile = record { a = v; b = k.inner; c = k.outer } in
       (t, inr (inl refl), within_triangle t z Z left (side_b_within t z Z left b))
 
-  all_bays : (v u : Point) (k : Bay) (ks : List Bay) (z : Vector) → Place z → Each (λ t. IsLeft t) (strips v u (k ∷ ks))
+  all_bays : (v u : Point) (k : Bay) (ks : List Bay) (z : Vector) → Place z → Each (λ t. IsLeftTile t) (strips v u (k ∷ ks))
       → IsWithin (record { a = u; b = v; c = k.outer }) z ⊎ (IsWithin (record { a = v; b = k.inner; c = k.outer }) z ⊎ Behind k.inner k.outer ks z) → Behind v u (k ∷ ks) z
   all_bays v u k ks z Z left (inl w) = inl (record { a = u; b = v; c = k.outer }, inl refl, within_triangle (record { a = u; b = v; c = k.outer }) z Z left.0 w)
   all_bays v u k ks z Z left (inr (inl w)) = inl (record { a = v; b = k.inner; c = k.outer }, inr (inl refl), within_triangle (record { a = v; b = k.inner; c = k.outer }) z Z left.1.0 w)
   all_bays v u k ks z Z left (inr (inr h)) = inl (last_in v u k ks z Z left.1.0 h)
 
-  behind : (v u : Point) (ks : List Bay) → Each (λ t. IsLeft t) (strips v u ks) → Misses (fence v u ks) → (z : Vector) → IsOnWay p q z → Behind v u ks z
+  behind : (v u : Point) (ks : List Bay) → Each (λ t. IsLeftTile t) (strips v u ks) → Misses (fence v u ks) → (z : Vector) → IsOnWay p q z → Behind v u ks z
       → Behind v u ks q ⊎ Leaves v u (arrow u v)
   behind v u [] left miss z on (inl s) = absurd s.1
   behind v u [] left miss z on (inr b) = absurd (miss z on (arrow v u) (inl refl) b)
@@ -267,7 +267,7 @@ module _ (p q : Vector) (P : Place p) (Q : Place q) where
       ]
 
   -- ---- the whole tube: the first triangle, and what stands behind its diagonal
-  pub kept_in : (a : Point) (ks : List Bay) → Each (λ t. IsLeft t) (tiles a ks) → Misses (bounds a ks) → InSome (tiles a ks) p → InSome (tiles a ks) q
+  pub kept_in : (a : Point) (ks : List Bay) → Each (λ t. IsLeftTile t) (tiles a ks) → Misses (bounds a ks) → InSomeTile (tiles a ks) p → InSomeTile (tiles a ks) q
   kept_in a [] left miss s = absurd s.1
   kept_in a (k ∷ ks) left miss s =
       let far = behind k.inner k.outer ks left.1 (λ y w e m b. miss y w e (inr (inr m)) b) in
@@ -276,11 +276,11 @@ module _ (p q : Vector) (P : Place p) (Q : Place q) where
         | inr x ↦ absurd (miss x.at x.on (arrow k.outer a) (inr (inl refl)) x.between)
       ]
     where
-      opened : InSome (tiles a (k ∷ ks)) p → IsWithin (record { a = a; b = k.inner; c = k.outer }) p ⊎ Behind k.inner k.outer ks p
-      opened (x, inl e, i) = inl (triangle_within (record { a = a; b = k.inner; c = k.outer }) p P left.0 (subst (λ (t : Triangle). InTriangle t p) e i))
+      opened : InSomeTile (tiles a (k ∷ ks)) p → IsWithin (record { a = a; b = k.inner; c = k.outer }) p ⊎ Behind k.inner k.outer ks p
+      opened (x, inl e, i) = inl (triangle_within (record { a = a; b = k.inner; c = k.outer }) p P left.0 (subst (λ (t : Tile). InTile t p) e i))
       opened (x, inr m, i) = inr (inl (x, m, i))
 
-      closed : IsWithin (record { a = a; b = k.inner; c = k.outer }) q ⊎ Behind k.inner k.outer ks q → InSome (tiles a (k ∷ ks)) q
+      closed : IsWithin (record { a = a; b = k.inner; c = k.outer }) q ⊎ Behind k.inner k.outer ks q → InSomeTile (tiles a (k ∷ ks)) q
       closed (inl w) = (record { a = a; b = k.inner; c = k.outer }, inl refl, within_triangle (record { a = a; b = k.inner; c = k.outer }) q Q left.0 w)
       closed (inr (inl (x, m, i))) = (x, inr m, i)
       closed (inr (inr b)) = (record { a = a; b = k.inner; c = k.outer }, inl refl, within_triangle (record { a = a; b = k.inner; c = k.outer }) q Q left.0 (side_b_within (record { a = a; b = k.inner; c = k.outer }) q Q left.0 b))

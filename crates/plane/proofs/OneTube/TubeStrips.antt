@@ -7,7 +7,7 @@ use Rattle.plane.specs.Lists.{Each, Last, Neighbours}
 use Rattle.plane.specs.Forms.Arcs.{HalfArc, chord, power, along, bow, seen}
 use Rattle.plane.specs.Tubes.Caps.{IsCap, shape, InSlab, IsOver, cap}
 use Rattle.plane.specs.Tubes.Bays.{Bay, InBays, InGaps, InTube, IsBay, AreBays, AreNext, IsTube, outward, ahead_of_to}
-use Rattle.plane.specs.Tubes.CapStrips.{IsFence, IsArch, IsDip, IsStrip}
+use Rattle.plane.specs.Tubes.CapStrips.{IsFence, IsArch, IsDip, IsCapStrip}
 use Rattle.plane.proofs.Algebra.Laws.{product_positive}
 use Rattle.plane.proofs.Caps.CapOver.{times_below}
 use Rattle.plane.proofs.Caps.Seen.{shape_below, shape_most, cap_is}
@@ -134,7 +134,7 @@ bay_high h p b rest hc r o = outer_high h b.outer hc o.1.0 (outer_least h p b re
 
 strip_from : (h : HalfArc) (q p : Point) (b : Bay) (rest : List Bay) → IsCap (cap h) → IsRest h p b rest → AreOver h p (b ∷ rest) → shape (cap h) (point (seen_point h p)) ≤ℤ pos 0
     → (seen_point h q ≡ seen_point h p) ⊎ IsDip (seen_point h q) (seen_point h p) (seen_point h b.outer) → IsFence (cap h) (seen_point h q) (seen_point h b.outer)
-    → IsStrip (cap h) (seen_point h q) (seen_point h p) (seen_bays h (b ∷ rest))
+    → IsCapStrip (cap h) (seen_point h q) (seen_point h p) (seen_bays h (b ∷ rest))
 strip_from h q p b [] hc r o low join f = (
   arch h p b hc r.are_bays.0,
   join,
@@ -169,7 +169,7 @@ tube_over h b rest t =
     let hc = tube_cap h (b ∷ rest) t in
     corners_over h h.from b rest hc (tube_rest h b rest t) (let e = along-from h in omega (arith, ints, e)) (from_over h hc)
 
-pub tube_strip : (h : HalfArc) (b : Bay) (rest : List Bay) → IsTube h (b ∷ rest) → IsStrip (cap h) (seen_point h h.from) (seen_point h h.from) (seen_bays h (b ∷ rest))
+pub tube_strip : (h : HalfArc) (b : Bay) (rest : List Bay) → IsTube h (b ∷ rest) → IsCapStrip (cap h) (seen_point h h.from) (seen_point h h.from) (seen_bays h (b ∷ rest))
 tube_strip h b rest t =
     let hc = tube_cap h (b ∷ rest) t in
     let r = tube_rest h b rest t in

@@ -7,7 +7,7 @@ use Rattle.plane.specs.Forms.Vectors.{Vector}
 use Rattle.plane.specs.Forms.Arcs.{HalfArc, bend}
 use Rattle.plane.specs.Faces.Cells.{is_positive}
 use Rattle.plane.specs.Tubes.Bays.{Bay, InTube, IsTube}
-use Rattle.plane.specs.Tubes.Windings.{IsLeft, tiles, InSome}
+use Rattle.plane.specs.Tubes.Windings.{IsLeftTile, tiles, InSomeTile}
 use Rattle.plane.specs.Tubes.Facing.{tip}
 use Rattle.plane.specs.CurveRuns.TubedRuns.{backward, first_bay, later_bays}
 use Rattle.plane.proofs.ParityLemmas.Wedges.{not_both, is_true}
@@ -41,7 +41,7 @@ turned_tip true a e b bs q =
 
 -- the triangles hold the places of the tube
 pub turned_places : (left : Bool) (a e : Point) (b : Bay) (bs : List Bay) (z : Vector) → last_inner a (b ∷ bs) ≡ e
-    → InSome (tiles (start left a e) (first_bay (bays_from left a (b ∷ bs)) ∷ later_bays (bays_from left a (b ∷ bs)))) z ↔ InTube a (b ∷ bs) z
+    → InSomeTile (tiles (start left a e) (first_bay (bays_from left a (b ∷ bs)) ∷ later_bays (bays_from left a (b ∷ bs)))) z ↔ InTube a (b ∷ bs) z
 turned_places false a e b bs z q = ((λ k. tiles_in_tube a b bs z k), (λ k. tube_in_tiles a b bs z k))
 turned_places true a e b bs z q =
     let ks = backward a (b ∷ bs) in
@@ -57,8 +57,8 @@ below (pos (suc n)) l e = absurd (not_both e)
 below (negsuc n) l e = omega (arith, ints)
 
 pub turned_left : (h : HalfArc) (b : Bay) (bs : List Bay) (left : Bool) → is_positive (bend h) ≡ left → IsTube h (b ∷ bs) → last_inner h.from (b ∷ bs) ≡ h.to
-    → Each (λ t. IsLeft t) (tiles (start left h.from h.to) (first_bay (bays_from left h.from (b ∷ bs)) ∷ later_bays (bays_from left h.from (b ∷ bs))))
+    → Each (λ t. IsLeftTile t) (tiles (start left h.from h.to) (first_bay (bays_from left h.from (b ∷ bs)) ∷ later_bays (bays_from left h.from (b ∷ bs))))
 turned_left h b bs false e t q = tiles_left h b bs (below (bend h) t.circle e) t
 turned_left h b bs true e t q =
-    subst (λ (ks : List Bay). Each (λ t. IsLeft t) (tiles h.to ks)) (sym (split_bays true h.from b bs))
+    subst (λ (ks : List Bay). Each (λ t. IsLeftTile t) (tiles h.to ks)) (sym (split_bays true h.from b bs))
     (backward_left h h.to h.from b bs (is_true (bend h) e) q t.are_bays t.are_next)

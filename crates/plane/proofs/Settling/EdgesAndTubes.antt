@@ -1,7 +1,6 @@
 -- The edges that stand for a drawing with half arcs: one for each straight, and for each half arc the bounds of its tube.
 use Rattle.std.specs.Prelude.{◌≡◌, ◌⊎◌, ℕ, ◌<◌, List, ◌∷◌, map, cond, length, pos, ◌<ℤ◌}
 use Rattle.plane.specs.declared.kinds.Curve.{Curve}
-use Rattle.plane.specs.declared.kinds.CurveKind.TheVariants as kind
 use Rattle.plane.specs.Lists.{Has, Once}
 use Rattle.plane.specs.Forms.Vectors.{Edge}
 use Rattle.plane.specs.Forms.Arcs.{HalfArc, bend}
@@ -10,7 +9,7 @@ use Rattle.plane.specs.Rule.Plans.{Plan, curve, IsStraight, IsHalfArc}
 use Rattle.plane.specs.Forms.Segments.{IsEdgeOf}
 use Rattle.plane.specs.Faces.Halves.{Half, edge_of}
 use Rattle.plane.specs.Tubes.Bays.{Bay, IsTube, IsSome}
-use Rattle.plane.specs.Tubes.Windings.{Triangle, tiles, bounds}
+use Rattle.plane.specs.Tubes.Windings.{Tile, tiles, bounds}
 use Rattle.plane.specs.Tubes.Facing.{way}
 use Rattle.plane.specs.CurveRuns.TubedRuns.{owned, half_within, third_is_left, first_edge, tube_start, tube_bays, tube_edges, first_bay, later_bays}
 
@@ -27,7 +26,7 @@ pub record DrawnTube : Type 0 where
   pub halves : List Half
 
 -- The triangles of the tube.
-abbrev pub tiles_of : DrawnTube → List Triangle
+abbrev pub tiles_of : DrawnTube → List Tile
 tiles_of t = tiles t.arc.from (t.bay ∷ t.bays)
 
 -- It is a tube of the curve, with at least two bays, and its bounds are edges with numbers below m, each once.

@@ -10,7 +10,7 @@ use Rattle.plane.specs.Forms.Meets.{IsEnd, Disjoint, Touch}
 use Rattle.plane.specs.Rule.BadPairs.{IsEndOf, HaveSameEnds}
 use Rattle.plane.specs.Faces.Halves.{Half, edge_of, twin}
 use Rattle.plane.specs.Tubes.Bays.{Bay}
-use Rattle.plane.specs.Tubes.Windings.{Triangle, InTriangle, IsCornerOf}
+use Rattle.plane.specs.Tubes.Windings.{Tile, InTile, IsCornerOf}
 use Rattle.plane.proofs.Settling.EdgesAndTubes.{EdgeList, tiles_of}
 
 -- That all half arcs have tubes is part of what makes them the edges of the drawing.
@@ -18,7 +18,7 @@ pub record IsSettled (d : Plan) (l : EdgeList) : Type 0 where
   -- Every two edges share no place, or one end and nothing else.
   pub meet : (e f : ℕ) → e < l.edges → f < l.edges → (e ≡ f → ⊥) → Disjoint (l.edge e) (l.edge f) ⊎ Touch (l.edge e) (l.edge f)
   -- No end of an edge lies in a triangle of a tube except as a corner of it.
-  pub enter : (e : ℕ) → e < l.edges → (p : Point) → IsEnd (l.edge e) p → (i : ℕ) → IsHalfArc d i → (t : Triangle) → Has t (tiles_of (l.tube i)) → InTriangle t (point p) → IsCornerOf t p
+  pub enter : (e : ℕ) → e < l.edges → (p : Point) → IsEnd (l.edge e) p → (i : ℕ) → IsHalfArc d i → (t : Tile) → Has t (tiles_of (l.tube i)) → InTile t (point p) → IsCornerOf t p
   -- A corner of a tube other than the ends of its half arc is an end of that tube's edges alone.
   pub own : (i : ℕ) → IsHalfArc d i → (h : Half) → Has h (l.tube i).halves → (p : Point) → IsEnd (l.edge (edge_of h)) p → IsEndOf (curve d i) p ⊎ ((e : ℕ) → e < l.edges → IsEnd (l.edge e) p → l.owner e ≡ i)
   -- Where a straight joins the ends of a half arc, the inner corners of the tube but the half arc's ends stand strictly over the chord.

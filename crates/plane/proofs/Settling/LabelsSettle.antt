@@ -18,7 +18,7 @@ use Rattle.plane.specs.Faces.Labels.{Labels}
 use Rattle.plane.specs.Faces.Halves.{Half, edge_of}
 use Rattle.plane.specs.Tubes.Bays.{Bay}
 use Rattle.plane.specs.Tubes.Bays as one
-use Rattle.plane.specs.Tubes.Windings.{Triangle, InTriangle, InSome, tiles, IsCornerOf}
+use Rattle.plane.specs.Tubes.Windings.{Tile, InTile, InSomeTile, tiles, IsCornerOf}
 use Rattle.plane.specs.CurveRuns.Extended.{Tubes, AreTubes}
 use Rattle.plane.specs.CurveRuns.TubedRuns.{IsTubedRun, AreTubeLabels, half_within, tubes, MeetsArc}
 use Rattle.plane.specs.CurveRuns.Levels.{AreWide, IsSettledRun}
@@ -42,7 +42,7 @@ use Rattle.plane.proofs.Covers.CurvePlaces.{no_kind}
 use Rattle.plane.proofs.Settling.DrawnTubes.{same_ends}
 use Rattle.plane.proofs.Settling.SettledRuns.{half_corner, corner_arrow}
 
-in_bays : (a : Point) (bs : List Bay) (z : Vector) → InSome (tiles a bs) z → one.InTube a bs z
+in_bays : (a : Point) (bs : List Bay) (z : Vector) → InSomeTile (tiles a bs) z → one.InTube a bs z
 in_bays a [] z h = absurd h.1
 in_bays a (b ∷ bs) z h = tiles_in_tube a b bs z h
 
@@ -60,7 +60,7 @@ module _ (d : Plan) (bays : ℕ → List Bay) (m : ℕ) (E : ℕ → Edge) (step
   all : AreTubes r lab T (MeetsArc d)
   all = are_tubes w d bays m E steps lab within inside outside swept is L
 
-  enter : (e : ℕ) → e < m → (p : Point) → IsEnd (E e) p → (i : ℕ) → i < length d.curves → (curve d i).kind ≡ kind.HalfArc → (t : Triangle) → Has t (tiles (curve d i).from (bays i)) → InTriangle t (point p) → IsCornerOf t p
+  enter : (e : ℕ) → e < m → (p : Point) → IsEnd (E e) p → (i : ℕ) → i < length d.curves → (curve d i).kind ≡ kind.HalfArc → (t : Tile) → Has t (tiles (curve d i).from (bays i)) → InTile t (point p) → IsCornerOf t p
   enter e k p x i there bent t n within_t =
       let h : IsHalfArc d i = record { there = there; kind = bent } in
       let c = tube_of w d bays m E steps lab within inside outside swept is L i there bent in
@@ -68,7 +68,7 @@ module _ (d : Plan) (bays : ℕ → List Bay) (m : ℕ) (E : ℕ → Edge) (step
       let q = sym j.2 in
       let in_c = (tube_places w d bays m E steps lab within inside outside swept is L c.0 c.1 (point (r.step j.0).at)).1
       (subst (λ (y : ℕ). one.InTube (curve d y).from (bays y) (point (r.step j.0).at)) (sym c.2)
-      (in_bays (curve d i).from (bays i) (point (r.step j.0).at) (t, n, subst (λ (y : Point). InTriangle t (point y)) q within_t))) in
+      (in_bays (curve d i).from (bays i) (point (r.step j.0).at) (t, n, subst (λ (y : Point). InTile t (point y)) q within_t))) in
       let g = event_corner r whole lab L.matched (T.label c.0) (T.first c.0) (T.bay c.0) (T.bays c.0) (T.halves c.0) (all.tube c.0 c.1) j.0 j.1 in_c in
       let fits = (all.tube c.0 c.1).faced.fits g.0 g.1 in
       let own = tube_owner w d bays m E steps lab within inside outside swept is L c.0 c.1 g.0 g.1 ∙ c.2 in

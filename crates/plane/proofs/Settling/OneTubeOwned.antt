@@ -9,7 +9,7 @@ use Rattle.plane.specs.Rule.Curves.{arc}
 use Rattle.plane.specs.Rule.Plans.{Plan, curve}
 use Rattle.plane.specs.Forms.Meets.{IsEnd, Disjoint, Touch}
 use Rattle.plane.specs.Tubes.Bays.{Bay, IsTube}
-use Rattle.plane.specs.Tubes.Windings.{Triangle, InTriangle, tiles, IsCornerOf}
+use Rattle.plane.specs.Tubes.Windings.{Tile, InTile, tiles, IsCornerOf}
 use Rattle.plane.specs.CurveRuns.TubedRuns.{Owned, edges_of, edge_list, no_edge, owned, Connects, first_edge}
 use Rattle.plane.proofs.TubedRuns.EdgeNumbers.{from_at, group_at, group_of}
 use Rattle.plane.proofs.TubedRuns.OwnedEdges.{no_curve}
@@ -57,8 +57,8 @@ module _ (d : Plan) (bays : ℕ → List Bay) where
       edges_meet i (curve d i) (bays i) x.place y.place a b t x.fits y.fits (λ q. other (omega (arith, q, nx, ny)))
       (subst (λ (o : Owned). Connects a o.from o.to) x.is ka) (subst (λ (o : Owned). Connects b o.from o.to) y.is kb)
 
-  pub own_edges_enter : (i e : ℕ) (a : Edge) (p : Point) (t : Triangle) → (curve d i).kind ≡ kind.HalfArc → IsTube (arc (curve d i)) (bays i) → e < length (edge_list bays 0 d.curves)
-      → (owned d bays e).curve ≡ i → Connects a (owned d bays e).from (owned d bays e).to → IsEnd a p → Has t (tiles (curve d i).from (bays i)) → InTriangle t (point p) → IsCornerOf t p
+  pub own_edges_enter : (i e : ℕ) (a : Edge) (p : Point) (t : Tile) → (curve d i).kind ≡ kind.HalfArc → IsTube (arc (curve d i)) (bays i) → e < length (edge_list bays 0 d.curves)
+      → (owned d bays e).curve ≡ i → Connects a (owned d bays e).from (owned d bays e).to → IsEnd a p → Has t (tiles (curve d i).from (bays i)) → InTile t (point p) → IsCornerOf t p
   own_edges_enter i e a p t bent is l o k end has there =
       let x = place_of i e bent l o in
       own_corners i (curve d i) (bays i) x.place a p t is x.fits (subst (λ (y : Owned). Connects a y.from y.to) x.is k) end has there

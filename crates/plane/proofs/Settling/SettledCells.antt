@@ -10,7 +10,7 @@ use Rattle.plane.specs.Runs.Steps.{Step, WeighedRun}
 use Rattle.plane.specs.Faces.Replays.{Replay, replay, IsOffEdges}
 use Rattle.plane.specs.Faces.Cells.{sector}
 use Rattle.plane.specs.Faces.Halves.{Half, under, over, edge_of, twin, Beside}
-use Rattle.plane.specs.Tubes.Windings.{Triangle, IsLeft, bounds}
+use Rattle.plane.specs.Tubes.Windings.{Tile, IsLeftTile, bounds}
 use Rattle.plane.specs.Tubes.Facing.{way}
 use Rattle.plane.specs.CurveRuns.Extended.{IsOnWay}
 use Rattle.plane.proofs.Settling.EdgesAndTubes.{tiles_of, EdgeList, IsEdgeList}
@@ -71,7 +71,7 @@ way_between : (E : ℕ → Edge) (g : Half) (v : Vector) → Between v (point (E
 way_between E (over e) v b = b
 way_between E (under e) v b = between_back v (point (E e).low) (point (E e).high) b
 
-side_in : (e : Edge) (t : Triangle) (z : Vector) → IsSideOf e t → Place z → IsLeft t → Between z (point e.low) (point e.high) → IsWithin t z
+side_in : (e : Edge) (t : Tile) (z : Vector) → IsSideOf e t → Place z → IsLeftTile t → Between z (point e.low) (point e.high) → IsWithin t z
 side_in e t z (inl s) Z left b = side_a_within t z Z left (subst (λ (f : Edge). Between z (point f.low) (point f.high)) s b)
 side_in e t z (inr (inl s)) Z left b = side_b_within t z Z left (subst (λ (f : Edge). Between z (point f.low) (point f.high)) s b)
 side_in e t z (inr (inr s)) Z left b = side_c_within t z Z left (subst (λ (f : Edge). Between z (point f.low) (point f.high)) s b)
@@ -257,7 +257,7 @@ module _ (d : Plan) (l : EdgeList) (is : IsEdgeList d l) (settled : IsSettled d 
     pub left_inside : Inside d l is settled w steps swept i s
     left_inside =
         let t = bound_side (l.tube i).arc.from (l.tube i).bay (l.tube i).bays (way l.edge g) has_bound in
-        let left = each_has (λ t. IsLeft t) (tiles_of (l.tube i)) t.0 (all_left d l is settled w steps swept i h) t.1 in
+        let left = each_has (λ t. IsLeftTile t) (tiles_of (l.tube i)) t.0 (all_left d l is settled w steps swept i h) t.1 in
         let within = side_in (way l.edge g) t.0 a.z t.2 Z left on_bound in
         let n = near_inside t.0 (way l.edge g) a.z s t.2 Z a.s_place left within line_zero no_low no_high a.left in
         let y = mix n.0 a.z (pos 1) s in

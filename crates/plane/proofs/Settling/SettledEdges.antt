@@ -15,7 +15,7 @@ use Rattle.plane.specs.Runs.Steps.{Step, WeighedRun}
 use Rattle.plane.specs.Faces.Replays.{Replay, replay}
 use Rattle.plane.specs.Faces.Halves.{Half, edge_of}
 use Rattle.plane.specs.Tubes.Bays.{Bay}
-use Rattle.plane.specs.Tubes.Windings.{arrow, Triangle, InTriangle, InSome, IsLeft, IsTiled, tiles, bounds, IsCornerOf}
+use Rattle.plane.specs.Tubes.Windings.{arrow, Tile, InTile, InSomeTile, IsLeftTile, IsTiled, tiles, bounds, IsCornerOf}
 use Rattle.plane.specs.Tubes.Facing.{way}
 use Rattle.plane.specs.CurveRuns.Extended.{IsOnWay}
 use Rattle.plane.proofs.Settling.EdgesAndTubes.{DrawnTube, tiles_of, EdgeList, IsEdgeList}
@@ -97,8 +97,8 @@ above_mix k s a m t b n hs ht some ha hb =
     omega (arith, ints, x, y, f, some)
 
 -- ---- corners of tubes are in them
-pub corner_within : (t : Triangle) (q : Point) → IsCornerOf t q → InTriangle t (point q)
-corner_within t q (inl e) = subst (λ (p : Point). InTriangle t (point p)) (sym e) (record {
+pub corner_within : (t : Tile) (q : Point) → IsCornerOf t q → InTile t (point q)
+corner_within t q (inl e) = subst (λ (p : Point). InTile t (point p)) (sym e) (record {
   of_a = pos 1;
   of_b = pos 0;
   of_c = pos 0;
@@ -108,7 +108,7 @@ corner_within t q (inl e) = subst (λ (p : Point). InTriangle t (point p)) (sym 
   some = omega (arith, ints);
   is = record { x = omega (arith, ints); y = omega (arith, ints) };
 })
-corner_within t q (inr (inl e)) = subst (λ (p : Point). InTriangle t (point p)) (sym e) (record {
+corner_within t q (inr (inl e)) = subst (λ (p : Point). InTile t (point p)) (sym e) (record {
   of_a = pos 0;
   of_b = pos 1;
   of_c = pos 0;
@@ -118,7 +118,7 @@ corner_within t q (inr (inl e)) = subst (λ (p : Point). InTriangle t (point p))
   some = omega (arith, ints);
   is = record { x = omega (arith, ints); y = omega (arith, ints) };
 })
-corner_within t q (inr (inr e)) = subst (λ (p : Point). InTriangle t (point p)) (sym e) (record {
+corner_within t q (inr (inr e)) = subst (λ (p : Point). InTile t (point p)) (sym e) (record {
   of_a = pos 0;
   of_b = pos 0;
   of_c = pos 1;
@@ -129,12 +129,12 @@ corner_within t q (inr (inr e)) = subst (λ (p : Point). InTriangle t (point p))
   is = record { x = omega (arith, ints); y = omega (arith, ints) };
 })
 
-side_corner : (e : Edge) (t : Triangle) (q : Point) → IsSideOf e t → IsEnd e q → IsCornerOf t q
+side_corner : (e : Edge) (t : Tile) (q : Point) → IsSideOf e t → IsEnd e q → IsCornerOf t q
 side_corner e t q (inl s) i = elim (subst (λ (f : Edge). IsEnd f q) s i) [ inl x ↦ inl (sym x) | inr x ↦ inr (inl (sym x)) ]
 side_corner e t q (inr (inl s)) i = elim (subst (λ (f : Edge). IsEnd f q) s i) [ inl x ↦ inr (inl (sym x)) | inr x ↦ inr (inr (sym x)) ]
 side_corner e t q (inr (inr s)) i = elim (subst (λ (f : Edge). IsEnd f q) s i) [ inl x ↦ inr (inr (sym x)) | inr x ↦ inl (sym x) ]
 
-pub bound_in : (a : Point) (k : Bay) (ks : List Bay) (e : Edge) (q : Point) → Has e (bounds a (k ∷ ks)) → IsEnd e q → InSome (tiles a (k ∷ ks)) (point q)
+pub bound_in : (a : Point) (k : Bay) (ks : List Bay) (e : Edge) (q : Point) → Has e (bounds a (k ∷ ks)) → IsEnd e q → InSomeTile (tiles a (k ∷ ks)) (point q)
 bound_in a k ks e q m i = let s = bound_side a k ks e m in (s.0, s.1, corner_within s.0 q (side_corner e s.0 q s.2 i))
 
 -- ---- one edge, two curves
@@ -167,9 +167,9 @@ module _ (d : Plan) (l : EdgeList) (is : IsEdgeList d l) (settled : IsSettled d 
   whole = swept_whole w l.edges l.edge steps swept
 
   abbrev pub Inside : ℕ → Vector → Type 0
-  Inside i z = InSome (tiles_of (l.tube i)) z
+  Inside i z = InSomeTile (tiles_of (l.tube i)) z
 
-  pub all_left : (i : ℕ) → IsHalfArc d i → Each (λ t. IsLeft t) (tiles_of (l.tube i))
+  pub all_left : (i : ℕ) → IsHalfArc d i → Each (λ t. IsLeftTile t) (tiles_of (l.tube i))
   all_left i h = let t = is.tubes i h in tiles_left (l.tube i).arc (l.tube i).bay (l.tube i).bays t.right t.tube
 
   pub all_tiled : (i : ℕ) → IsHalfArc d i → IsTiled w (tiles_of (l.tube i))

@@ -11,7 +11,7 @@ use Rattle.plane.specs.Faces.Replays.{Replay, replay, IsOffEdges, reach}
 use Rattle.plane.specs.Faces.Cells.{Sector, IsSector, corner, sector, Linked, IsFree, JoinedByEdges, arrives, goes}
 use Rattle.plane.specs.Faces.Halves.{Half, under, over, edge_of, twin, Beside}
 use Rattle.plane.specs.Faces.Classes.{Connected, Touches, IsFaces}
-use Rattle.plane.specs.Tubes.Windings.{Triangle, IsLeft, bounds, lead}
+use Rattle.plane.specs.Tubes.Windings.{Tile, IsLeftTile, bounds, lead}
 use Rattle.plane.specs.CurveRuns.Extended.{IsOnWay}
 use Rattle.plane.proofs.Settling.EdgesAndTubes.{tiles_of, EdgeList, IsEdgeList}
 use Rattle.plane.proofs.Settling.EdgesSettled.{IsSettled}
@@ -122,7 +122,7 @@ module _ (d : Plan) (l : EdgeList) (is : IsEdgeList d l) (settled : IsSettled d 
       wall_faces i h f fits x b.s_place b.s_off b.s_beside (linked_in i h s x a.s_place b.s_place a.s_off b.s_off k (left_inside d l is settled w steps swept i h g m s o a))
 
   -- ---- the tube is bounded: before all events there is none of it
-  lead_sum : (t : Triangle) (v : Vector) → (pos 0 ≤ℤ side_a t v) × (pos 0 ≤ℤ side_b t v) × (pos 0 ≤ℤ side_c t v) → pos 0 <ℤ ((side_a t v +ℤ side_b t v) +ℤ side_c t v)
+  lead_sum : (t : Tile) (v : Vector) → (pos 0 ≤ℤ side_a t v) × (pos 0 ≤ℤ side_b t v) × (pos 0 ≤ℤ side_c t v) → pos 0 <ℤ ((side_a t v +ℤ side_b t v) +ℤ side_c t v)
       → pos 0 <ℤ lead w t.a v → pos 0 <ℤ lead w t.b v → pos 0 <ℤ lead w t.c v → ⊥
   lead_sum t v s some a b c =
       let e = sides_lead w t v in
@@ -134,7 +134,7 @@ module _ (d : Plan) (l : EdgeList) (is : IsEdgeList d l) (settled : IsSettled d 
   none_before : (i : ℕ) → IsHalfArc d i → (v : Vector) → Place v → ((j : ℕ) → j < r.steps → sweep w v <ℤ (reach r j *ℤ v.n)) → In i v → ⊥
   none_before i h v V before (t, m, inside) =
       let tube = is.tubes i h in
-      let left = each_has (λ t. IsLeft t) (tiles_of (l.tube i)) t (all_left d l is settled w steps swept i h) m in
+      let left = each_has (λ t. IsLeftTile t) (tiles_of (l.tube i)) t (all_left d l is settled w steps swept i h) m in
       let c = tile_corners (l.tube i).arc.from ((l.tube i).bay ∷ (l.tube i).bays) t m in
       let s = triangle_within t v V left inside in
       let sum = sides_sum t v in

@@ -12,7 +12,7 @@ use Rattle.plane.specs.Faces.Halves.{Half, under, over, edge_of, twin}
 use Rattle.plane.specs.Faces.Classes.{Next}
 use Rattle.plane.specs.Faces.Directions.{Direction, origin, direction, TurnsLeft, Comes, IsClockwiseNext}
 use Rattle.plane.specs.Tubes.Bays.{Bay}
-use Rattle.plane.specs.Tubes.Windings.{arrow, back, Triangle, IsLeft}
+use Rattle.plane.specs.Tubes.Windings.{arrow, back, Tile, IsLeftTile}
 use Rattle.plane.specs.Tubes.Facing.{way}
 use Rattle.plane.proofs.Settling.EdgesAndTubes.{EdgeList, IsEdgeList}
 use Rattle.plane.proofs.Settling.EdgesSettled.{IsSettled}
@@ -58,8 +58,8 @@ way_twin E (over e) = refl
 way_twin E (under e) = refl
 
 -- ---- a place near the corner in the direction of e
-module _ (a k o e : Point) (left : IsLeft (record { a = a; b = k; c = o })) (first : pos 0 <ℤ side (arrow a k) (point e)) (last : pos 0 <ℤ side (arrow o a) (point e)) where
-  abbrev t : Triangle
+module _ (a k o e : Point) (left : IsLeftTile (record { a = a; b = k; c = o })) (first : pos 0 <ℤ side (arrow a k) (point e)) (last : pos 0 <ℤ side (arrow o a) (point e)) where
+  abbrev t : Tile
   t = record { a = a; b = k; c = o }
 
   pub weight : ℤ
@@ -134,7 +134,7 @@ module _ (d : Plan) (l : EdgeList) (is : IsEdgeList d l) (settled : IsSettled d 
     meet : (way l.edge o).high ≡ (way l.edge g).low
     meet = sym (ap (λ (e : Edge). e.high) way_o) ∙ ap (λ (e : Edge). e.low) way_g
 
-    left : IsLeft (record { a = a; b = k.inner; c = k.outer })
+    left : IsLeftTile (record { a = a; b = k.inner; c = k.outer })
     left = (all_left d l is settled w steps swept i h).0
 
     -- directions at the corner

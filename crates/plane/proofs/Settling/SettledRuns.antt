@@ -14,7 +14,7 @@ use Rattle.plane.specs.Faces.Replays.{replay, no_step}
 use Rattle.plane.specs.Faces.Halves.{Half, edge_of}
 use Rattle.plane.specs.Tubes.Bays.{Bay, IsSome, IsTube}
 use Rattle.plane.specs.Tubes.Bays as one
-use Rattle.plane.specs.Tubes.Windings.{Triangle, InTriangle, InSome, tiles, bounds, IsCornerOf}
+use Rattle.plane.specs.Tubes.Windings.{Tile, InTile, InSomeTile, tiles, bounds, IsCornerOf}
 use Rattle.plane.specs.CurveRuns.TubedRuns.{Part, whole, inner, outer, Owned, chain, inner_corners, outer_corners, owned, Connects, IsTubedRun, third_is_left, inward, half_within, first_edge, tube_start, tube_bays, tube_edges, first_bay, later_bays, backward}
 use Rattle.plane.proofs.Settling.EdgesAndTubes.{tiles_of, EdgeList, IsEdgeList, level}
 use Rattle.plane.proofs.Settling.EdgesSettled.{IsSettled}
@@ -167,14 +167,14 @@ module _ (d : Plan) (bays : ℕ → List Bay) (m : ℕ) (E : ℕ → Edge) (step
         (within k.edge, x.0, subst (λ (n : ℕ). IsEnd (E n) p) (sym x.1) k.end)
 
     -- the triangles from the one end and from the other have the same places
-    own_place : (p : Point) → InSome (tiles_of (l.tube i)) (point p) ↔ InSome (tiles c.from bs) (point p)
+    own_place : (p : Point) → InSomeTile (tiles_of (l.tube i)) (point p) ↔ InSomeTile (tiles c.from bs) (point p)
     own_place p =
         let b = some_bay d bays m E steps is i h.there h.kind in
         split bs b.0 b.1 b.2 (ends_at d bays m E steps is i h.there h.kind)
       where
         split : (ks : List Bay) (b : Bay) (rest : List Bay) → ks ≡ b ∷ rest → last_inner c.from ks ≡ c.to
-            → InSome (tiles (tube_start c) (first_bay (tube_bays c ks) ∷ later_bays (tube_bays c ks))) (point p) ↔ InSome (tiles c.from ks) (point p)
-        split ks b rest e = subst (λ (ks : List Bay). last_inner c.from ks ≡ c.to → InSome (tiles (tube_start c) (first_bay (tube_bays c ks) ∷ later_bays (tube_bays c ks))) (point p) ↔ InSome (tiles c.from ks) (point p)) (sym e)
+            → InSomeTile (tiles (tube_start c) (first_bay (tube_bays c ks) ∷ later_bays (tube_bays c ks))) (point p) ↔ InSomeTile (tiles c.from ks) (point p)
+        split ks b rest e = subst (λ (ks : List Bay). last_inner c.from ks ≡ c.to → InSomeTile (tiles (tube_start c) (first_bay (tube_bays c ks) ∷ later_bays (tube_bays c ks))) (point p) ↔ InSomeTile (tiles c.from ks) (point p)) (sym e)
             (λ q.
             let x = turned_places (third_is_left c) c.from c.to b rest (point p) q in
             ((λ a. tube_in_tiles c.from b rest (point p) (x.0 a)), (λ a. x.1 (tiles_in_tube c.from b rest (point p) a))))
@@ -185,7 +185,7 @@ module _ (d : Plan) (bays : ℕ → List Bay) (m : ℕ) (E : ℕ → Edge) (step
     pub some : IsSome bs
     some = (is.tube i h.there h.kind).some
 
-    corner_of : (t : Triangle) (p : Point) (es : List Edge) → IsCornerOf t p → AtArrow es t.a → AtArrow es t.b → AtArrow es t.c → AtArrow es p
+    corner_of : (t : Tile) (p : Point) (es : List Edge) → IsCornerOf t p → AtArrow es t.a → AtArrow es t.b → AtArrow es t.c → AtArrow es p
     corner_of t p es (inl e) a b c = subst (AtArrow es) (sym e) a
     corner_of t p es (inr (inl e)) a b c = subst (AtArrow es) (sym e) b
     corner_of t p es (inr (inr e)) a b c = subst (AtArrow es) (sym e) c
@@ -215,7 +215,7 @@ module _ (d : Plan) (bays : ℕ → List Bay) (m : ℕ) (E : ℕ → Edge) (step
           end_event (replay u.weight m E steps) (swept_whole u.weight m E steps u.swept) e p k x
 
   module _ (settled : IsSettledRun d bays m E) where
-    enter : (e : ℕ) → e < m → (p : Point) → IsEnd (E e) p → (i : ℕ) → IsHalfArc d i → (t : Triangle) → Has t (tiles_of (l.tube i)) → InTriangle t (point p) → IsCornerOf t p
+    enter : (e : ℕ) → e < m → (p : Point) → IsEnd (E e) p → (i : ℕ) → IsHalfArc d i → (t : Tile) → Has t (tiles_of (l.tube i)) → InTile t (point p) → IsCornerOf t p
     enter e k p x i h t n inside =
         let u = (own_place i h p).0 (t, n, inside) in
         let q = settled.enter e k p x i h.there h.kind u.0 u.1 u.2 in

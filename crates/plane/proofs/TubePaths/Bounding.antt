@@ -7,12 +7,12 @@ use Rattle.plane.specs.Forms.Vectors.{Vector, Place, Between, point, Edge, rise,
 use Rattle.plane.specs.Faces.Replays.{Replay}
 use Rattle.plane.specs.Faces.Halves.{Half, under, over, edge_of}
 use Rattle.plane.specs.Faces.Labels.{Labels}
-use Rattle.plane.specs.Tubes.Windings.{arrow, Triangle, round, InTriangle, Bay, strips, tiles, fence, bounds, InSome}
+use Rattle.plane.specs.Tubes.Windings.{arrow, Tile, round, InTile, Bay, strips, tiles, fence, bounds, InSomeTile}
 use Rattle.plane.specs.Tubes.Facing.{way, IsDrawnTube}
 use Rattle.plane.proofs.Linear.Signs.{on_between, between_back}
 
 -- each bound is an arrow of a triangle
-strips_bound : (p u : Point) (ks : List Bay) (e : Edge) → Has e (fence p u ks) → ((t : Triangle) × Has t (strips p u ks) × Has e (round t)) ⊎ (e ≡ arrow p u)
+strips_bound : (p u : Point) (ks : List Bay) (e : Edge) → Has e (fence p u ks) → ((t : Tile) × Has t (strips p u ks) × Has e (round t)) ⊎ (e ≡ arrow p u)
 strips_bound p u [] e (inl h) = inr h
 strips_bound p u [] e (inr h) = absurd h
 strips_bound p u (k ∷ ks) e (inl h) = inl (_, inr (inl refl), inl h)
@@ -22,7 +22,7 @@ strips_bound p u (k ∷ ks) e (inr (inr h)) = elim (strips_bound k.inner k.outer
   | inr q ↦ inl (_, inr (inl refl), inr (inl q))
 ]
 
-tube_bound : (a : Point) (k : Bay) (ks : List Bay) (e : Edge) → Has e (bounds a (k ∷ ks)) → (t : Triangle) × Has t (tiles a (k ∷ ks)) × Has e (round t)
+tube_bound : (a : Point) (k : Bay) (ks : List Bay) (e : Edge) → Has e (bounds a (k ∷ ks)) → (t : Tile) × Has t (tiles a (k ∷ ks)) × Has e (round t)
 tube_bound a k ks e (inl h) = (_, inl refl, inl h)
 tube_bound a k ks e (inr (inl h)) = (_, inl refl, inr (inr (inl h)))
 tube_bound a k ks e (inr (inr h)) = elim (strips_bound k.inner k.outer ks e h) [
@@ -31,7 +31,7 @@ tube_bound a k ks e (inr (inr h)) = elim (strips_bound k.inner k.outer ks e h) [
 ]
 
 -- a place of an arrow is in the triangle
-arrow_in : (t : Triangle) (e : Edge) (z : Vector) → Has e (round t) → Between z (point e.low) (point e.high) → InTriangle t z
+arrow_in : (t : Tile) (e : Edge) (z : Vector) → Has e (round t) → Between z (point e.low) (point e.high) → InTile t z
 arrow_in t e z (inl q) h =
     let b = subst (λ (f : Edge). Between z (point f.low) (point f.high)) q h in
     let s = b.some in
@@ -93,7 +93,7 @@ way_between w E (under e) z b = between_back z _ _ b
 
 -- a place of an edge of the tube is in the tube
 pub wall_in : (r : Replay) (lab : Labels) (t : ℕ) (a : Point) (b : Bay) (bs : List Bay) (hs : List Half) → IsDrawnTube r lab t a b bs hs → (h : Half) → Has h hs → (z : Vector) → Place z
-    → pos 0 <ℤ rise r.weight (r.edge (edge_of h)) → On r.weight (r.edge (edge_of h)) z → InSome (tiles a (b ∷ bs)) z
+    → pos 0 <ℤ rise r.weight (r.edge (edge_of h)) → On r.weight (r.edge (edge_of h)) z → InSomeTile (tiles a (b ∷ bs)) z
 wall_in r lab t a b bs hs tube h m z Z up on =
     let e = way r.edge h in
     let i = tube_bound a b bs e (subst (λ (es : List Edge). Has e es) (sym tube.bounds) (way_in (way r.edge) h hs m)) in

@@ -7,7 +7,7 @@ use Rattle.plane.specs.Faces.Cells.{Sector, IsSector, corner, sector, Linked, la
 use Rattle.plane.specs.Faces.Halves.{Half, mark, twin, Beside, IsMatched}
 use Rattle.plane.specs.Faces.Labels.{Labels}
 use Rattle.plane.specs.Faces.Classes.{Touches, Lead, AreLeads}
-use Rattle.plane.specs.CurveRuns.Extended.{Tubes, InTube, AreTubes, HasLabel}
+use Rattle.plane.specs.CurveRuns.Extended.{Tubes, InTubeAt, AreTubes, HasLabel}
 use Rattle.plane.proofs.TubePaths.PieceWords.{Side, inner_side, outer_side, IsOnSide, side_label, AreSides, CurvePath, IsCurveOuter}
 use Rattle.plane.proofs.TubePaths.PieceWords as paths
 use Rattle.plane.proofs.Strips.OneStrip.{linked_join}
@@ -42,7 +42,7 @@ module _ (r : Replay) (whole : IsWhole r) (lab : Labels) (matched : IsMatched r 
     pub label : label_of lab r (sector r o) ≡ l
     pub path : CurvePath r T Meets z o
 
-  side_seat : (c : ℕ) → c < T.count → (s : Side) (z : Vector) → Place z → InTube T c z → IsOnSide T c s z → (o : Vector) × IsSeat z (side_label T c s) o
+  side_seat : (c : ℕ) → c < T.count → (s : Side) (z : Vector) → Place z → InTubeAt T c z → IsOnSide T c s z → (o : Vector) × IsSeat z (side_label T c s) o
   side_seat c l s z Z i k =
       let w = sides.wall c l s in
       let o = way_out r whole lab matched T Meets tubes sides c l s w.0 w.1 z Z i k in (

@@ -10,7 +10,7 @@ use Rattle.plane.specs.Faces.Labels.{Labels, last_label}
 use Rattle.plane.specs.Faces.Cells.{label_of}
 use Rattle.plane.specs.Tubes.Windings.{tiles}
 use Rattle.plane.specs.Tubes.Facing.{IsDrawnTube}
-use Rattle.plane.specs.CurveRuns.Extended.{Tubes, InTube, AtArcEnd, IsWall, AreTubes, HasLabel, IsOnWay, IsFreeOfCurves}
+use Rattle.plane.specs.CurveRuns.Extended.{Tubes, InTubeAt, AtArcEnd, IsWall, AreTubes, HasLabel, IsOnWay, IsFreeOfCurves}
 use Rattle.plane.proofs.Algebra.Ring.{at, num, plus, minus, times, vars, ring}
 use Rattle.plane.proofs.ListLemmas.Lists.{has_append}
 use Rattle.plane.proofs.Linear.Vectors.{side-mix}
@@ -42,16 +42,16 @@ IsAtWall lab T c h z = ((mark lab (twin h) ≡ T.inner c) × (T.form c z <ℤ po
 pub record IsKeeping (r : Replay) (lab : Labels) (T : Tubes) (p q : Vector) : Type 0 where
   pub tube : (c : ℕ) → c < T.count → IsDrawnTube r lab (T.label c) (T.first c) (T.bay c) (T.bays c) (T.halves c)
   pub straights : (z : Vector) → IsOnWay p q z → (e : ℕ) → e < r.edges → On r.weight (r.edge e) z → (c : ℕ) × (c < T.count) × (h : Half) × Has h (T.halves c) × (edge_of h ≡ e)
-  pub one : (c d : ℕ) (z : Vector) → c < T.count → d < T.count → IsOnWay p q z → InTube T c z → InTube T d z → c ≡ d
+  pub one : (c d : ℕ) (z : Vector) → c < T.count → d < T.count → IsOnWay p q z → InTubeAt T c z → InTubeAt T d z → c ≡ d
   pub walls : (c : ℕ) (z : Vector) (h : Half) → c < T.count → IsOnWay p q z → Has h (T.halves c) → On r.weight (r.edge (edge_of h)) z → IsAtWall lab T c h z
-  pub circle : (c : ℕ) (z : Vector) → c < T.count → IsOnWay p q z → InTube T c z → T.form c z ≡ pos 0 → ⊥
-  pub kept : (c : ℕ) (u v : Vector) → c < T.count → IsOnWay p q u → IsOnWay p q v → ((s t : ℤ) → pos 0 ≤ℤ s → pos 0 ≤ℤ t → pos 0 <ℤ (s +ℤ t) → InTube T c (mix s u t v)) → T.form c u <ℤ pos 0 → pos 0 <ℤ T.form c v → ⊥
+  pub circle : (c : ℕ) (z : Vector) → c < T.count → IsOnWay p q z → InTubeAt T c z → T.form c z ≡ pos 0 → ⊥
+  pub kept : (c : ℕ) (u v : Vector) → c < T.count → IsOnWay p q u → IsOnWay p q v → ((s t : ℤ) → pos 0 ≤ℤ s → pos 0 ≤ℤ t → pos 0 <ℤ (s +ℤ t) → InTubeAt T c (mix s u t v)) → T.form c u <ℤ pos 0 → pos 0 <ℤ T.form c v → ⊥
 
 -- ---- the walk
 module _ (r : Replay) (whole : IsWhole r) (lab : Labels) (matched : IsMatched r lab) (T : Tubes) (p q : Vector) (P : Place p) (Q : Place q) (keeps : IsKeeping r lab T p q) where
   -- each place of the segment has a label
   pub place_label : (z : Vector) → IsOnWay p q z → (l : ℕ) × HasLabel r lab T z l
-  place_label z w = elim (look_fitting (λ c. InTube T c z) T.count (λ c l. decide_in_some r.weight z (tiles (T.first c) (T.bay c ∷ T.bays c)) Z (keeps.tube c l).tiled)) [
+  place_label z w = elim (look_fitting (λ c. InTubeAt T c z) T.count (λ c l. decide_in_some r.weight z (tiles (T.first c) (T.bay c ∷ T.bays c)) Z (keeps.tube c l).tiled)) [
     | inl h ↦ by_lt_z (T.form h.0 z) (pos 0)
         (λ (k : T.form h.0 z <ℤ pos 0). (T.inner h.0, inl (h.0, h.1, h.2, inl (k, refl))))
         (λ (k : pos 0 ≤ℤ T.form h.0 z). by_lt_z (pos 0) (T.form h.0 z)
@@ -63,7 +63,7 @@ module _ (r : Replay) (whole : IsWhole r) (lab : Labels) (matched : IsMatched r 
       Z : Place z
       Z = way_place p q z P Q w
 
-      off : ((c : ℕ) × (c < T.count) × InTube T c z → ⊥) → IsOffEdges r z
+      off : ((c : ℕ) × (c < T.count) × InTubeAt T c z → ⊥) → IsOffEdges r z
       off n e l on =
           let s = keeps.straights z w e l on in
           let on2 : On r.weight (r.edge (edge_of s.2)) z = subst (λ (d : ℕ). On r.weight (r.edge d) z) (sym s.4) on in
@@ -104,7 +104,7 @@ module _ (r : Replay) (whole : IsWhole r) (lab : Labels) (matched : IsMatched r 
             ]
 
     -- in a tube the place's side tells its label
-    tube_side : (c : ℕ) (z : Vector) (l : ℕ) → c < T.count → IsOnWay p q z → InTube T c z → HasLabel r lab T z l → ((T.form c z <ℤ pos 0) × (l ≡ T.inner c)) ⊎ ((pos 0 <ℤ T.form c z) × (l ≡ T.outer c))
+    tube_side : (c : ℕ) (z : Vector) (l : ℕ) → c < T.count → IsOnWay p q z → InTubeAt T c z → HasLabel r lab T z l → ((T.form c z <ℤ pos 0) × (l ≡ T.inner c)) ⊎ ((pos 0 <ℤ T.form c z) × (l ≡ T.outer c))
     tube_side c z l lc w i (inl h) = subst (λ (d : ℕ). ((T.form d z <ℤ pos 0) × (l ≡ T.inner d)) ⊎ ((pos 0 <ℤ T.form d z) × (l ≡ T.outer d))) (keeps.one h.0 c z h.1 lc w h.2 i) h.3
     tube_side c z l lc w i (inr h) = absurd (h.0 c lc i)
 
@@ -120,7 +120,7 @@ module _ (r : Replay) (whole : IsWhole r) (lab : Labels) (matched : IsMatched r 
         V : Place v
         V = way_place p q v P Q wv
 
-        inside : (c : ℕ) → c < T.count → T.label c ≡ last_label lab 0 lower → (z : Vector) → Place z → IsClose r k lower upper z → InTube T c z
+        inside : (c : ℕ) → c < T.count → T.label c ≡ last_label lab 0 lower → (z : Vector) → Place z → IsClose r k lower upper z → InTubeAt T c z
         inside c lc e z Z close = close_in_tube r whole lab matched (T.label c) (T.first c) (T.bay c) (T.bays c) (T.halves c) (keeps.tube c lc) k lower upper z Z close (sym e)
 
         sides : (c : ℕ) → c < T.count → T.label c ≡ last_label lab 0 lower → ((T.form c u <ℤ pos 0) × (l ≡ T.inner c)) ⊎ ((pos 0 <ℤ T.form c u) × (l ≡ T.outer c))
@@ -243,7 +243,7 @@ module _ (r : Replay) (whole : IsWhole r) (lab : Labels) (matched : IsMatched r 
   not_end : (c : ℕ) (z : Vector) → c < T.count → IsOnWay p q z → AtArcEnd T c z → ⊥
   not_end c z l w h = free.arcs c l z z w w (tubes.ends c l z (way_place p q z P Q w) h)
 
-  one_tube : (c d : ℕ) (z : Vector) → c < T.count → d < T.count → IsOnWay p q z → InTube T c z → InTube T d z → c ≡ d
+  one_tube : (c d : ℕ) (z : Vector) → c < T.count → d < T.count → IsOnWay p q z → InTubeAt T c z → InTubeAt T d z → c ≡ d
   one_tube c d z lc ld w hc hd = elim (decide_number c d) [
     | inl e ↦ e
     | inr n ↦ absurd (not_end c z lc w (common_place r whole lab matched (T.label c) (T.first c) (T.bay c) (T.bays c) (T.halves c) (T.label d) (T.first d) (T.bay d) (T.bays d) (T.halves d)

@@ -8,7 +8,7 @@ use Rattle.plane.specs.Faces.Cells.{sector, IsFree}
 use Rattle.plane.specs.Faces.Halves.{Half, edge_of, IsMatched}
 use Rattle.plane.specs.Faces.Labels.{Labels}
 use Rattle.plane.specs.Tubes.Windings.{tiles}
-use Rattle.plane.specs.CurveRuns.Extended.{Tubes, InTube, AtArcEnd, AreTubes, IsOnWay, IsFreeOfCurves}
+use Rattle.plane.specs.CurveRuns.Extended.{Tubes, InTubeAt, AtArcEnd, AreTubes, IsOnWay, IsFreeOfCurves}
 use Rattle.plane.proofs.Linear.Clear.{clear_start, on_same}
 use Rattle.plane.proofs.Strips.ToTheRight.{off_start, off_end}
 use Rattle.plane.proofs.Strips.OneStrip.{segment_linked}
@@ -21,13 +21,13 @@ use Rattle.plane.proofs.Windings.Ways.{way_mix, way_place}
 
 module _ (r : Replay) (whole : IsWhole r) (lab : Labels) (matched : IsMatched r lab) (T : Tubes) (Meets : ℕ → Vector → Vector → Type 0) (tubes : AreTubes r lab T Meets)
     -- a segment that hits a half arc has a place in its tube
-    (cover : (c : ℕ) → c < T.count → (u v : Vector) → Place u → Place v → Meets c u v → (z : Vector) × IsOnWay u v z × InTube T c z) where
+    (cover : (c : ℕ) → c < T.count → (u v : Vector) → Place u → Place v → Meets c u v → (z : Vector) × IsOnWay u v z × InTubeAt T c z) where
   module _ (p q : Vector) (P : Place p) (Q : Place q) where
     between : (u v z : Vector) → IsOnWay p q u → IsOnWay p q v → IsOnWay u v z → IsOnWay p q z
     between u v z a b w = subst (λ (x : Vector). IsOnWay p q x) (sym w.is) (way_mix p q u v w.s w.t w.s_least w.t_least w.some a b)
 
     -- within tube c, off its half arc
-    module _ (c : ℕ) (fits : c < T.count) (within : (z : Vector) → IsOnWay p q z → InTube T c z) (misses : (u v : Vector) → IsOnWay p q u → IsOnWay p q v → Meets c u v → ⊥) where
+    module _ (c : ℕ) (fits : c < T.count) (within : (z : Vector) → IsOnWay p q z → InTubeAt T c z) (misses : (u v : Vector) → IsOnWay p q u → IsOnWay p q v → Meets c u v → ⊥) where
       no_end : (z : Vector) → IsOnWay p q z → AtArcEnd T c z → ⊥
       no_end z w h = misses z z w w (tubes.ends c fits z (way_place p q z P Q w) h)
 
@@ -68,7 +68,7 @@ module _ (r : Replay) (whole : IsWhole r) (lab : Labels) (matched : IsMatched r 
       }
 
     -- off the edges, from a place in no tube
-    pub outside_free : IsFree r p q → ((c : ℕ) → c < T.count → InTube T c p → ⊥) → IsFreeOfCurves r T Meets p q
+    pub outside_free : IsFree r p q → ((c : ℕ) → c < T.count → InTubeAt T c p → ⊥) → IsFreeOfCurves r T Meets p q
     outside_free free none = record {
       straights = λ z w e l on. absurd (free e l (hit z w e on));
       arcs = λ c l u v a b meets.

@@ -5,7 +5,7 @@ use Rattle.plane.specs.Forms.Vectors.{Vector, Place, Same, mix, On}
 use Rattle.plane.specs.Faces.Replays.{Replay}
 use Rattle.plane.specs.Faces.Halves.{Half, twin, edge_of, mark}
 use Rattle.plane.specs.Faces.Labels.{Labels}
-use Rattle.plane.specs.CurveRuns.Extended.{Tubes, InTube, AtArcEnd, IsOnWay, IsFreeOfCurves}
+use Rattle.plane.specs.CurveRuns.Extended.{Tubes, InTubeAt, AtArcEnd, IsOnWay, IsFreeOfCurves}
 
 -- strictly inside the circle of a half arc, or strictly outside
 pub data Side : Type 0 where
@@ -34,12 +34,12 @@ pub data PathIn (P : Vector → Type 0) : Vector → Vector → Type 0 where
 
 -- the place is in the tube, on that side
 abbrev pub IsInSide : Tubes → ℕ → Side → Vector → Type 0
-IsInSide T c s z = InTube T c z × IsOnSide T c s z
+IsInSide T c s z = InTubeAt T c z × IsOnSide T c s z
 
 -- what is known of the sides; Meets c p q: the segment from p to q hits the half arc of tube c
 pub record AreSides (r : Replay) (lab : Labels) (T : Tubes) (Meets : ℕ → Vector → Vector → Type 0) : Type 0 where
   -- a segment that hits a half arc has a place in its tube, and is not on one side
-  pub covers : (c : ℕ) → c < T.count → (u v : Vector) → Place u → Place v → Meets c u v → (z : Vector) × IsOnWay u v z × InTube T c z
+  pub covers : (c : ℕ) → c < T.count → (u v : Vector) → Place u → Place v → Meets c u v → (z : Vector) × IsOnWay u v z × InTubeAt T c z
   pub misses : (c : ℕ) → c < T.count → (s : Side) (p q : Vector) → Place p → Place q → ((z : Vector) → IsOnWay p q z → IsOnSide T c s z) → Meets c p q → ⊥
   -- equal places are on one side, and a place of a side can be left a bit in each direction
   pub same : (c : ℕ) → c < T.count → (s : Side) (z v : Vector) → Place z → Place v → Same z v → IsOnSide T c s z → IsOnSide T c s v
@@ -47,7 +47,7 @@ pub record AreSides (r : Replay) (lab : Labels) (T : Tubes) (Meets : ℕ → Vec
       → (n : ℤ) × (pos 0 ≤ℤ n) × ((z : Vector) → IsOnWay x (mix n x (pos 1) y) z → IsOnSide T c s z)
   -- each side has an edge, and within the tube it is one piece
   pub wall : (c : ℕ) → c < T.count → (s : Side) → (h : Half) × IsSideWall r lab T c s h
-  pub whole : (c : ℕ) → c < T.count → (s : Side) (p q : Vector) → Place p → Place q → InTube T c p → InTube T c q → IsOnSide T c s p → IsOnSide T c s q → PathIn (IsInSide T c s) p q
+  pub whole : (c : ℕ) → c < T.count → (s : Side) (p q : Vector) → Place p → Place q → InTubeAt T c p → InTubeAt T c q → IsOnSide T c s p → IsOnSide T c s q → PathIn (IsInSide T c s) p q
 
 -- a list of places from p to q whose segments hit no curve
 pub data CurvePath (r : Replay) (T : Tubes) (Meets : ℕ → Vector → Vector → Type 0) : Vector → Vector → Type 0 where

@@ -6,7 +6,7 @@ use Rattle.plane.specs.Forms.Vectors.{Vector, Place, On}
 use Rattle.plane.specs.Faces.Replays.{Replay}
 use Rattle.plane.specs.Faces.Halves.{Half, edge_of, IsMatched}
 use Rattle.plane.specs.Faces.Labels.{Labels}
-use Rattle.plane.specs.CurveRuns.Extended.{Tubes, InTube, AtArcEnd, IsWall, AreTubes, HasLabel, IsOnWay}
+use Rattle.plane.specs.CurveRuns.Extended.{Tubes, InTubeAt, AtArcEnd, IsWall, AreTubes, HasLabel, IsOnWay}
 use Rattle.plane.proofs.Windings.CommonPlaces.{decide_number, common_place}
 use Rattle.plane.proofs.Windings.Whole.{IsWhole}
 use Rattle.plane.proofs.Windings.Ways.{way_place}
@@ -23,12 +23,12 @@ module _ (r : Replay) (whole : IsWhole r) (lab : Labels) (matched : IsMatched r 
     not_end : (d : ℕ) (z : Vector) → d < T.count → (d ≡ c → ⊥) → IsOnWay p q z → AtArcEnd T d z → ⊥
     not_end d z k n w h = free.arcs d k n z z w w (tubes.ends d k z (way_place p q z P Q w) h)
 
-    parted : (d e : ℕ) (z : Vector) → d < T.count → e < T.count → (d ≡ e → ⊥) → (d ≡ c → ⊥) → IsOnWay p q z → InTube T d z → InTube T e z → ⊥
+    parted : (d e : ℕ) (z : Vector) → d < T.count → e < T.count → (d ≡ e → ⊥) → (d ≡ c → ⊥) → IsOnWay p q z → InTubeAt T d z → InTubeAt T e z → ⊥
     parted d e z ld le n other w hd he = not_end d z ld other w
         (common_place r whole lab matched (T.label d) (T.first d) (T.bay d) (T.bays d) (T.halves d) (T.label e) (T.first e) (T.bay e) (T.bays e) (T.halves e)
         (tubes.tube d ld) (tubes.tube e le) (tubes.labels d e ld le n) (tubes.apart d e ld le n) (tubes.clean d ld) z (way_place p q z P Q w) hd he)
 
-    pub one_tube : (d e : ℕ) (z : Vector) → d < T.count → e < T.count → IsOnWay p q z → InTube T d z → InTube T e z → d ≡ e
+    pub one_tube : (d e : ℕ) (z : Vector) → d < T.count → e < T.count → IsOnWay p q z → InTubeAt T d z → InTubeAt T e z → d ≡ e
     one_tube d e z ld le w hd he = elim (decide_number d e) [
       | inl k ↦ k
       | inr n ↦ elim (decide_number d c) [
@@ -121,5 +121,5 @@ module _ (r : Replay) (whole : IsWhole r) (lab : Labels) (matched : IsMatched r 
       }
 
       -- from an end of the segment to a place in the tube
-      pub label_there : (k : ℕ) → InTube T c q → HasLabel r lab T p k → k ≡ T.inner c
+      pub label_there : (k : ℕ) → InTubeAt T c q → HasLabel r lab T p k → k ≡ T.inner c
       label_there k there hp = label_along r whole lab matched U p q P Q keeps k (T.inner c) (relabel p k hp) (inl (c, l, there, inl (own_low c q refl, refl)))

@@ -16,7 +16,7 @@ use Rattle.plane.specs.Faces.Cells as cells
 use Rattle.plane.specs.Faces.Labels.{Labels}
 use Rattle.plane.specs.Faces.Halves.{Half, twin, Beside}
 use Rattle.plane.specs.Tubes.Bays.{Bay}
-use Rattle.plane.specs.CurveRuns.Extended.{Tubes, InTube, AreTubes}
+use Rattle.plane.specs.CurveRuns.Extended.{Tubes, InTubeAt, AreTubes}
 use Rattle.plane.proofs.TubePaths.PieceWords.{Side, inner_side, outer_side, IsOnSide, AreSides, CurvePath, IsCurveOuter}
 use Rattle.plane.proofs.TubePaths.PieceWords as paths
 use Rattle.plane.specs.CurveRuns.TubedRuns.{inner, outer, owned, IsTubedRun, AreTubeLabels, arc_at, tubes, MeetsArc}
@@ -66,26 +66,26 @@ module _ (w : ℤ) (d : Plan) (bays : ℕ → List Bay) (m : ℕ) (E : ℕ → E
   pub record IsBeyond (x : ℕ) (z o : Vector) : Type 0 where
     pub place : Place o
     pub off : IsOffEdges r o
-    pub in_none : (c : ℕ) → c < T.count → InTube T c o → ⊥
+    pub in_none : (c : ℕ) → c < T.count → InTubeAt T c o → ⊥
     pub beside : Beside r (twin (within x)) (sector r o)
     pub joined : Joined d z o
 
-  beyond : (c : ℕ) → c < T.count → (s : Side) (x : ℕ) → x < m → (owned d bays x).curve ≡ arc_at d c → (owned d bays x).part ≡ part_of s → (z : Vector) → Place z → InTube T c z → IsOnSide T c s z → rule.IsOff d z
+  beyond : (c : ℕ) → c < T.count → (s : Side) (x : ℕ) → x < m → (owned d bays x).curve ≡ arc_at d c → (owned d bays x).part ≡ part_of s → (z : Vector) → Place z → InTubeAt T c z → IsOnSide T c s z → rule.IsOff d z
       → (o : Vector) × IsBeyond x z o
   beyond c l s x lx own part z Z i k none =
       let o = way_out r whole lab L.matched T (MeetsArc d) all sides c l s (within x) (part_wall w d bays m E steps lab within inside outside swept is L c l s x lx own part) z Z i k in
       (o.0, record { place = o.1.place; off = o.1.off; in_none = o.1.outside; beside = o.1.beside; joined = curves_joined z o.0 Z none o.1.path })
 
-  pub beyond_inner : (c : ℕ) → c < T.count → (x : ℕ) → x < m → (owned d bays x).curve ≡ arc_at d c → (owned d bays x).part ≡ inner → (z : Vector) → Place z → InTube T c z → power (arc (curve d (arc_at d c))) z <ℤ pos 0
+  pub beyond_inner : (c : ℕ) → c < T.count → (x : ℕ) → x < m → (owned d bays x).curve ≡ arc_at d c → (owned d bays x).part ≡ inner → (z : Vector) → Place z → InTubeAt T c z → power (arc (curve d (arc_at d c))) z <ℤ pos 0
       → (o : Vector) × IsBeyond x z o
   beyond_inner c l x lx own part z Z i k = beyond c l inner_side x lx own part z Z i k (label_off w d bays m E steps lab within inside outside swept is L z Z (T.inner c) (inl (c, l, i, inl (k, refl))))
 
-  pub beyond_outer : (c : ℕ) → c < T.count → (x : ℕ) → x < m → (owned d bays x).curve ≡ arc_at d c → (owned d bays x).part ≡ outer → (z : Vector) → Place z → InTube T c z → pos 0 <ℤ power (arc (curve d (arc_at d c))) z
+  pub beyond_outer : (c : ℕ) → c < T.count → (x : ℕ) → x < m → (owned d bays x).curve ≡ arc_at d c → (owned d bays x).part ≡ outer → (z : Vector) → Place z → InTubeAt T c z → pos 0 <ℤ power (arc (curve d (arc_at d c))) z
       → (o : Vector) × IsBeyond x z o
   beyond_outer c l x lx own part z Z i k = beyond c l outer_side x lx own part z Z i k (label_off w d bays m E steps lab within inside outside swept is L z Z (T.outer c) (inl (c, l, i, inr (k, refl))))
 
   -- ---- outside the tubes
-  pub joined_outside : (p q : Vector) → Place p → Place q → IsOffEdges r p → ((c : ℕ) → c < T.count → InTube T c p → ⊥) → cells.JoinedByEdges r p q → Joined d p q
+  pub joined_outside : (p q : Vector) → Place p → Place q → IsOffEdges r p → ((c : ℕ) → c < T.count → InTubeAt T c p → ⊥) → cells.JoinedByEdges r p q → Joined d p q
   joined_outside p q P Q off out j =
       curves_joined p q P (label_off w d bays m E steps lab within inside outside swept is L p P (label_of lab r (sector r p)) (inr (out, off, refl)))
       (joined_path r whole lab L.matched T (MeetsArc d) all sides p q j P Q off out)

@@ -10,7 +10,7 @@ use Rattle.plane.specs.Faces.Halves.{Half}
 use Rattle.plane.specs.Faces.Labels.{Labels}
 use Rattle.plane.specs.Tubes.Bays.{Bay, IsTube}
 use Rattle.plane.specs.Tubes.Bays as one
-use Rattle.plane.specs.CurveRuns.Extended.{Tubes, InTube, IsOnWay}
+use Rattle.plane.specs.CurveRuns.Extended.{Tubes, InTubeAt, IsOnWay}
 use Rattle.plane.proofs.TubePaths.PieceWords.{Side, inner_side, outer_side, IsOnSide, IsSideWall, PathIn, IsInSide, AreSides}
 use Rattle.plane.specs.CurveRuns.TubedRuns.{Part, inner, outer, owned, IsTubedRun, AreTubeLabels, arc_at, tubes, MeetsArc}
 use Rattle.plane.proofs.HalfArcs.ArcHits.{hits_arc}
@@ -43,10 +43,10 @@ module _ (w : ℤ) (d : Plan) (bays : ℕ → List Bay) (m : ℕ) (E : ℕ → E
     t : IsTube h (bays i)
     t = is.tube i (arc_fits w d bays m E steps lab within inside outside swept is L c l) (arc_bent w d bays m E steps lab within inside outside swept is L c l)
 
-    to_one : (z : Vector) → InTube T c z → one.InTube h.from (bays i) z
+    to_one : (z : Vector) → InTubeAt T c z → one.InTube h.from (bays i) z
     to_one z k = (tube_places w d bays m E steps lab within inside outside swept is L c l z).0 k
 
-    from_one : (z : Vector) → one.InTube h.from (bays i) z → InTube T c z
+    from_one : (z : Vector) → one.InTube h.from (bays i) z → InTubeAt T c z
     from_one z k = (tube_places w d bays m E steps lab within inside outside swept is L c l z).1 k
 
     -- an edge of the part
@@ -78,7 +78,7 @@ module _ (w : ℤ) (d : Plan) (bays : ℕ → List Bay) (m : ℕ) (E : ℕ → E
     near inner_side x y k = near_inside h x y k
     near outer_side x y k = near_outside h x y k
 
-    piece : (s : Side) (p q : Vector) → Place p → Place q → InTube T c p → InTube T c q → IsOnSide T c s p → IsOnSide T c s q → PathIn (IsInSide T c s) p q
+    piece : (s : Side) (p q : Vector) → Place p → Place q → InTubeAt T c p → InTubeAt T c q → IsOnSide T c s p → IsOnSide T c s q → PathIn (IsInSide T c s) p q
     piece inner_side p q P Q a b x y = path_more (Inner h (bays i)) (IsInSide T c inner_side) (λ z k. (from_one z k.0, k.1)) p q (inner_part h (bays i) p q t P Q (to_one p a, x) (to_one q b, y))
     piece outer_side p q P Q a b x y = path_more (Outer h (bays i)) (IsInSide T c outer_side) (λ z k. (from_one z k.0, k.1)) p q (outer_part h (bays i) p q t P Q (to_one p a, x) (to_one q b, y))
 

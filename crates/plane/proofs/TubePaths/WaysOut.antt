@@ -9,7 +9,7 @@ use Rattle.plane.specs.Faces.Cells as cells
 use Rattle.plane.specs.Faces.Halves.{Half, under, over, edge_of, twin, mark, Beside, IsMatched}
 use Rattle.plane.specs.Faces.Labels.{Labels}
 use Rattle.plane.specs.Tubes.Windings.{tiles}
-use Rattle.plane.specs.CurveRuns.Extended.{Tubes, InTube, AtArcEnd, AreTubes, IsOnWay, IsFreeOfCurves}
+use Rattle.plane.specs.CurveRuns.Extended.{Tubes, InTubeAt, AtArcEnd, AreTubes, IsOnWay, IsFreeOfCurves}
 use Rattle.plane.proofs.TubePaths.PieceWords.{Side, IsOnSide, side_label, IsSideWall, PathIn, IsInSide, AreSides, CurvePath}
 use Rattle.plane.proofs.TubePaths.PieceWords as paths
 use Rattle.plane.proofs.Algebra.Ring.{at, plus, times, vars, ring}
@@ -39,7 +39,7 @@ way_back p q z w = let s = w.some in record { s = w.t; t = w.s; s_least = w.t_le
 
 module _ (r : Replay) (whole : IsWhole r) (lab : Labels) (matched : IsMatched r lab) (T : Tubes) (Meets : ℕ → Vector → Vector → Type 0) (tubes : AreTubes r lab T Meets) (sides : AreSides r lab T Meets) where
   abbrev pub Outside : Vector → Type 0
-  Outside z = (c : ℕ) → c < T.count → InTube T c z → ⊥
+  Outside z = (c : ℕ) → c < T.count → InTubeAt T c z → ⊥
 
   -- ---- paths
   pub path_join : (p q v : Vector) → CurvePath r T Meets p q → CurvePath r T Meets q v → CurvePath r T Meets p v
@@ -61,7 +61,7 @@ module _ (r : Replay) (whole : IsWhole r) (lab : Labels) (matched : IsMatched r 
   path_back _ _ P (paths.leads p x q X f j) = path_join q x p (path_back x q X j) (paths.leads x p p P (free_back p x f) (paths.ends p p refl))
 
   -- ---- within a tube, on one side
-  pub side_free : (c : ℕ) → c < T.count → (s : Side) (p q : Vector) → Place p → Place q → ((z : Vector) → IsOnWay p q z → InTube T c z × IsOnSide T c s z) → IsFreeOfCurves r T Meets p q
+  pub side_free : (c : ℕ) → c < T.count → (s : Side) (p q : Vector) → Place p → Place q → ((z : Vector) → IsOnWay p q z → InTubeAt T c z × IsOnSide T c s z) → IsFreeOfCurves r T Meets p q
   side_free c l s p q P Q h = inside_free r whole lab matched T Meets tubes sides.covers p q P Q c l (λ z w. (h z w).0)
       (λ u v a b. sides.misses c l s u v (way_place p q u P Q a) (way_place p q v P Q b) (λ z w. (h z (way_within p q u v z a b w)).1))
 
@@ -91,10 +91,10 @@ module _ (r : Replay) (whole : IsWhole r) (lab : Labels) (matched : IsMatched r 
   pub free_label : (p q : Vector) → Place p → Place q → IsFree r p q → label_of lab r (sector r p) ≡ label_of lab r (sector r q)
   free_label p q P Q f = linked_label r whole.run whole.law lab matched (sector r p) (sector r q) (segment_linked r whole.run whole.law p q P Q f)
 
-  pub tube_label_of : (d : ℕ) → d < T.count → (z : Vector) → Place z → IsOffEdges r z → InTube T d z → label_of lab r (sector r z) ≡ T.label d
+  pub tube_label_of : (d : ℕ) → d < T.count → (z : Vector) → Place z → IsOffEdges r z → InTubeAt T d z → label_of lab r (sector r z) ≡ T.label d
   tube_label_of d l z Z off i = (in_tube r whole.run whole.law whole.once lab matched (T.label d) (T.first d) (T.bay d) (T.bays d) (T.halves d) (tubes.tube d l) z Z off).0 i
 
-  pub label_tube : (d : ℕ) → d < T.count → (z : Vector) → Place z → IsOffEdges r z → label_of lab r (sector r z) ≡ T.label d → InTube T d z
+  pub label_tube : (d : ℕ) → d < T.count → (z : Vector) → Place z → IsOffEdges r z → label_of lab r (sector r z) ≡ T.label d → InTubeAt T d z
   label_tube d l z Z off i = (in_tube r whole.run whole.law whole.once lab matched (T.label d) (T.first d) (T.bay d) (T.bays d) (T.halves d) (tubes.tube d l) z Z off).1 i
 
   -- o is outside the tubes, in a cell beside g, and joined to z
@@ -107,7 +107,7 @@ module _ (r : Replay) (whole : IsWhole r) (lab : Labels) (matched : IsMatched r 
 
   -- Arc12
   module _ (c : ℕ) (l : c < T.count) (s : Side) (h : Half) (wall : IsSideWall r lab T c s h) where
-    beyond : (x o : Vector) → IsExit r h x o → (z : Vector) → Place z → InTube T c z → IsOnSide T c s z → IsBeside (twin h) z o
+    beyond : (x o : Vector) → IsExit r h x o → (z : Vector) → Place z → InTubeAt T c z → IsOnSide T c s z → IsBeside (twin h) z o
     beyond x o e z Z in_z side_z = record {
       place = O;
       off = e.off;
@@ -136,7 +136,7 @@ module _ (r : Replay) (whole : IsWhole r) (lab : Labels) (matched : IsMatched r 
         side_x : IsOnSide T c s x
         side_x = elim (wall.places x X e.on) [ inl k ↦ k | inr k ↦ absurd (not_end k) ]
 
-        in_x : InTube T c x
+        in_x : InTubeAt T c x
         in_x = wall_in r lab (T.label c) (T.first c) (T.bay c) (T.bays c) (T.halves c) (tubes.tube c l) h wall.has x X (whole.run.rise (edge_of h) fits) e.on
 
         o_label : label_of lab r (sector r o) ≡ mark lab (twin h)
@@ -169,7 +169,7 @@ module _ (r : Replay) (whole : IsWhole r) (lab : Labels) (matched : IsMatched r 
         straights : (v : Vector) → IsOnWay x y v → (f : ℕ) → f < r.edges → On r.weight (r.edge f) v → (d : ℕ) × (d < T.count) × (g : Half) × Has g (T.halves d) × (edge_of g ≡ f)
         straights v w f lf on = (c, l, h, wall.has, sym (e.only v (longer v w) f lf on))
 
-        other : (d : ℕ) → d < T.count → (c ≡ d → ⊥) → (v : Vector) → IsOnWay x o v → InTube T d v → ⊥
+        other : (d : ℕ) → d < T.count → (c ≡ d → ⊥) → (v : Vector) → IsOnWay x o v → InTubeAt T d v → ⊥
         other d ld n v w i = by_lt_z (pos 0) w.t
             (λ (k : pos 0 <ℤ w.t).
             let V = way_place x o v X O w in
@@ -188,7 +188,7 @@ module _ (r : Replay) (whole : IsWhole r) (lab : Labels) (matched : IsMatched r 
           | inr n ↦ (let k = sides.covers d ld u v (way_place x y u X Y a) (way_place x y v X Y b) hit in other d ld n k.0 (longer k.0 (way_within x y u v k.0 a b k.1)) k.2)
         ]
 
-    pub way_out : (z : Vector) → Place z → InTube T c z → IsOnSide T c s z → (o : Vector) × IsBeside (twin h) z o
+    pub way_out : (z : Vector) → Place z → InTubeAt T c z → IsOnSide T c s z → (o : Vector) × IsBeside (twin h) z o
     way_out z Z i k = let e = exit r whole.run whole.law h ((tubes.tube c l).faced.fits h wall.has) in (e.1, beyond e.0 e.1 e.2 z Z i k)
 
   -- ---- Arc13

@@ -11,7 +11,7 @@ use Rattle.plane.specs.Rule.Plans.{Plan, curve}
 use Rattle.plane.specs.Runs.Steps.{Step}
 use Rattle.plane.specs.Tubes.Bays.{Bay, IsTube, OnInner, OnOuter, AtEnds}
 use Rattle.plane.specs.Tubes.Bays as one
-use Rattle.plane.specs.Tubes.Windings.{tiles, InSome}
+use Rattle.plane.specs.Tubes.Windings.{tiles, InSomeTile}
 use Rattle.plane.specs.Tubes.Facing.{tip}
 use Rattle.plane.specs.CurveRuns.TubedRuns.{whole, inner, outer, Owned, chain, inner_corners, outer_corners, edges_of, no_edge, owned, IsOfTube, IsTubedRun, third_is_left, first_edge, tube_start, tube_bays, first_bay, later_bays}
 use Rattle.plane.proofs.TubedRuns.EdgeNumbers.{IsFrom, from_front, from_back, from_at, group_at, group_fits, group_of, IsIn, chain_length, chain_owner, inner_length, arc_length, arc_inner, arc_outer}
@@ -172,6 +172,6 @@ module _ (d : Plan) (bays : ℕ → List Bay) (m : ℕ) (E : ℕ → Edge) (step
     ends_at_arc P h = either_back (third_is_left c) P (elim h [ inl k ↦ inl k | inr k ↦ inr (subst P its_tip k) ])
 
     -- ---- places
-    pub its_places : (z : Vector) → InSome (tiles (tube_start c) (first_bay (tube_bays c bs) ∷ later_bays (tube_bays c bs))) z ↔ one.InTube c.from bs z
-    its_places z = with_bay (λ ks. InSome (tiles (tube_start c) (first_bay (tube_bays c ks) ∷ later_bays (tube_bays c ks))) z ↔ one.InTube c.from ks z)
+    pub its_places : (z : Vector) → InSomeTile (tiles (tube_start c) (first_bay (tube_bays c bs) ∷ later_bays (tube_bays c bs))) z ↔ one.InTube c.from bs z
+    its_places z = with_bay (λ ks. InSomeTile (tiles (tube_start c) (first_bay (tube_bays c ks) ∷ later_bays (tube_bays c ks))) z ↔ one.InTube c.from ks z)
         (λ b rest e. turned_places (third_is_left c) c.from c.to b rest z (subst (λ (ks : List Bay). last_inner c.from ks ≡ c.to) e ends_at))

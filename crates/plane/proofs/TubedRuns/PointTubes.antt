@@ -22,7 +22,7 @@ use Rattle.plane.specs.Faces.PlacedPoints.{IsLocated}
 use Rattle.plane.specs.Tubes.Bays.{Bay}
 use Rattle.plane.specs.Tubes.Bays as one
 use Rattle.plane.specs.Tubes.Windings.{tiles}
-use Rattle.plane.specs.CurveRuns.Extended.{Tubes, InTube, AreTubes}
+use Rattle.plane.specs.CurveRuns.Extended.{Tubes, InTubeAt, AreTubes}
 use Rattle.plane.specs.CurveRuns.TubedRuns.{whole, owned, IsOfTube, IsTubedRun, AreTubeLabels, half_within, tube_label, arc_at, tubes, MeetsArc}
 use Rattle.plane.specs.CurveRuns.FacedTubes.{faced, IsFirstOn, LiesInTube}
 use Rattle.plane.proofs.Linear.EdgePlaces.{place_point}
@@ -86,7 +86,7 @@ module _ (w : ℤ) (d : Plan) (bays : ℕ → List Bay) (m : ℕ) (E : ℕ → E
 
   module _ (z : Vector) (Z : Place z) where
     -- where an edge of another curve meets a tube, an edge of the tube meets it
-    touched : (c : ℕ) → c < T.count → (e : ℕ) → e < m → ((owned d bays e).curve ≡ arc_at d c → ⊥) → On w (E e) z → InTube T c z → (x : ℕ) × (x < m) × ((owned d bays x).curve ≡ arc_at d c) × On w (E x) z
+    touched : (c : ℕ) → c < T.count → (e : ℕ) → e < m → ((owned d bays e).curve ≡ arc_at d c → ⊥) → On w (E e) z → InTubeAt T c z → (x : ℕ) × (x < m) × ((owned d bays x).curve ≡ arc_at d c) × On w (E x) z
     touched c lc e le n on inner = elim (look_below (λ k. Same z (point (r.step k).at)) r.steps (λ k. decide_same z (point (r.step k).at))) [
       | inr none ↦ absurd (edge_outside r run_whole lab L.matched (T.label c) (T.first c) (T.bay c) (T.bays c) (T.halves c) (all.tube c lc) e z le not_its Z (λ k l s. none (k, l, s)) on inner)
       | inl s ↦
@@ -130,21 +130,21 @@ module _ (w : ℤ) (d : Plan) (bays : ℕ → List Bay) (m : ℕ) (E : ℕ → E
     ]
 
     -- ---- in a tube
-    on_arc : (c : ℕ) → c < T.count → InTube T c z → power (arc (curve d (arc_at d c))) z ≡ pos 0 → IsOn (curve d (arc_at d c)) z
+    on_arc : (c : ℕ) → c < T.count → InTubeAt T c z → power (arc (curve d (arc_at d c))) z ≡ pos 0 → IsOn (curve d (arc_at d c)) z
     on_arc c lc inner y =
         (hits_alone (curve d (arc_at d c)) z Z).0 (hits_bent w d bays m E steps lab within inside outside swept is L (arc_at d c) z z (arc_bent w d bays m E steps lab within inside outside swept is L c lc) (all.circle c lc z Z inner y))
 
-    off_arc : (c : ℕ) → c < T.count → InTube T c z → (power (arc (curve d (arc_at d c))) z ≡ pos 0 → ⊥) → IsOff d z
+    off_arc : (c : ℕ) → c < T.count → InTubeAt T c z → (power (arc (curve d (arc_at d c))) z ≡ pos 0 → ⊥) → IsOff d z
     off_arc c lc inner n = from_tube w d bays m E steps lab within inside outside swept is L z Z c lc inner (by_lt_z (power (arc (curve d (arc_at d c))) z) (pos 0) (λ l. inl l)
         (λ (k : pos 0 ≤ℤ power (arc (curve d (arc_at d c))) z). by_lt_z (pos 0) (power (arc (curve d (arc_at d c))) z) (λ l. inr l) (λ (j : power (arc (curve d (arc_at d c))) z ≤ℤ pos 0). absurd (n (omega (arith, ints, k, j))))))
 
-    on_tube : (e : ℕ) → e < m → (c : ℕ) → c < T.count → (owned d bays e).curve ≡ arc_at d c → On w (E e) z → InTube T c z
+    on_tube : (e : ℕ) → e < m → (c : ℕ) → c < T.count → (owned d bays e).curve ≡ arc_at d c → On w (E e) z → InTubeAt T c z
     on_tube e le c lc q on =
         let h = edge_in_tube w d bays m E steps lab within inside outside swept is L c lc e le q in
         wall_in r lab (T.label c) (T.first c) (T.bay c) (T.bays c) (T.halves c) (all.tube c lc) (within e) h.0 z Z (subst (λ (x : ℕ). pos 0 <ℤ rise w (E x)) (sym h.1) (swept.rises e le)) (subst (λ (x : ℕ). On w (E x) z) (sym h.1) on)
 
   -- a point in the tube of half arc i
-  lies : (i : ℕ) → i < length d.curves → (curve d i).kind ≡ kind.HalfArc → (v : Point) → ((c : ℕ) → c < T.count → arc_at d c ≡ i → InTube T c (point v)) → ((j : ℕ) → j < i → j < length d.curves → IsOn (curve d j) (point v) → ⊥) → LiesInTube d bays i v
+  lies : (i : ℕ) → i < length d.curves → (curve d i).kind ≡ kind.HalfArc → (v : Point) → ((c : ℕ) → c < T.count → arc_at d c ≡ i → InTubeAt T c (point v)) → ((j : ℕ) → j < i → j < length d.curves → IsOn (curve d j) (point v) → ⊥) → LiesInTube d bays i v
   lies i fits bent v inner lesser =
       let c = tube_of w d bays m E steps lab within inside outside swept is L i fits bent in
       let there = inner c.0 c.1 c.2 in
@@ -195,7 +195,7 @@ module _ (w : ℤ) (d : Plan) (bays : ℕ → List Bay) (m : ℕ) (E : ℕ → E
     cell_label : (e : ℕ) → AtBefore (r.list k) i e → label_of lab r (sector r z) ≡ lab.above e
     cell_label e b = ap (label_of lab r) q.1 ∙ label_before lab 0 i (r.list k) e b
 
-    tube_label_is : (c : ℕ) → c < T.count → InTube T c z → label_of lab r (sector r z) ≡ T.label c
+    tube_label_is : (c : ℕ) → c < T.count → InTubeAt T c z → label_of lab r (sector r z) ≡ T.label c
     tube_label_is c lc inner = (in_tube r run_whole.run run_whole.law run_whole.once lab L.matched (T.label c) (T.first c) (T.bay c) (T.bays c) (T.halves c) (all.tube c lc) z Z q.0).0 inner
 
     one_number : (n a b l : ℕ) → l ≡ suc (n + a) → l ≡ suc (n + b) → b ≡ a
@@ -216,7 +216,7 @@ module _ (w : ℤ) (d : Plan) (bays : ℕ → List Bay) (m : ℕ) (E : ℕ → E
           let same : within e ≡ half_within d bays E e = one_faces d bays E e (half_within d bays E e) (within e) (is.run.edges e le) (faces d bays m E steps is e le of_tube.part) (L.faces e le of_tube.part) in
           cell_label e b ∙ ap (mark lab) (of_tube.is ∙ sym same) ∙ L.within_label e le of_tube.part ∙ ap (tube_label d) of_tube.curve
 
-      in_its : (x : ℕ) → x < T.count → arc_at d x ≡ c → InTube T x z
+      in_its : (x : ℕ) → x < T.count → arc_at d x ≡ c → InTubeAt T x z
       in_its x lx y = (in_tube r run_whole.run run_whole.law run_whole.once lab L.matched (T.label x) (T.first x) (T.bay x) (T.bays x) (T.halves x) (all.tube x lx) z Z q.0).1 (label_is ∙ ap (tube_label d) (sym y))
 
       -- on no other curve
@@ -248,7 +248,7 @@ module _ (w : ℤ) (d : Plan) (bays : ℕ → List Bay) (m : ℕ) (E : ℕ → E
       too_great : (n a l : ℕ) → l ≡ suc (n + a) → l ≤ n → ⊥
       too_great n a l y h = omega (arith, y, h)
 
-      no_tube : (c : ℕ) → c < T.count → InTube T c z → ⊥
+      no_tube : (c : ℕ) → c < T.count → InTubeAt T c z → ⊥
       no_tube c lc inner = too_great (length d.points) (arc_at d c) (label_of lab r (sector r z)) (tube_label_is c lc inner) low_label
 
       pub cell_off : IsOff d z

@@ -15,9 +15,9 @@ use Rattle.plane.specs.Faces.Halves.{Half, under, over, twin, edge_of, mark}
 use Rattle.plane.specs.Faces.Labels.{Labels}
 use Rattle.plane.specs.Tubes.Bays.{Bay, IsTube, OnInner, OnOuter, AtEnds}
 use Rattle.plane.specs.Tubes.Bays as one
-use Rattle.plane.specs.Tubes.Windings.{IsLeft, tiles, bounds, IsTiled}
+use Rattle.plane.specs.Tubes.Windings.{IsLeftTile, tiles, bounds, IsTiled}
 use Rattle.plane.specs.Tubes.Facing.{way, IsDrawnTube, IsClean, tip}
-use Rattle.plane.specs.CurveRuns.Extended.{Tubes, IsOnWay, InTube, AtArcEnd, AreTubes}
+use Rattle.plane.specs.CurveRuns.Extended.{Tubes, IsOnWay, InTubeAt, AtArcEnd, AreTubes}
 use Rattle.plane.specs.CurveRuns.TubedRuns.{Part, whole, inner, outer, Owned, chain, inner_corners, outer_corners, owned, Connects, IsOfTube, IsTubedRun, tube_label, third_is_left, AreTubeLabels, arc_at, first_edge, tube_start, tube_bays, tube_edges, first_bay, later_bays, tubes, MeetsArc}
 use Rattle.plane.proofs.Linear.Signs.{on_between, between_back}
 use Rattle.plane.proofs.Runs.Numbered.{swept_run}
@@ -129,7 +129,7 @@ module _ (w : ℤ) (d : Plan) (bays : ℕ → List Bay) (m : ℕ) (E : ℕ → E
 
     its_tiles : IsTiled w (tiles (tube_start c) (first_bay (tube_bays c bs) ∷ later_bays (tube_bays c bs)))
     its_tiles = tiled r run (tube_start c) (first_bay (tube_bays c bs) ∷ later_bays (tube_bays c bs)) halves its_bounds half_fits
-        (with_bay (λ ks. Each (λ x. IsLeft x) (tiles (tube_start c) (first_bay (tube_bays c ks) ∷ later_bays (tube_bays c ks))))
+        (with_bay (λ ks. Each (λ x. IsLeftTile x) (tiles (tube_start c) (first_bay (tube_bays c ks) ∷ later_bays (tube_bays c ks))))
         (λ b rest e. turned_left (arc c) b rest (third_is_left c) refl (subst (λ (ks : List Bay). IsTube (arc c) ks) e t) (subst (λ (ks : List Bay). last_inner c.from ks ≡ c.to) e ends_at)))
 
     too_great : (a n j : ℕ) → a ≡ suc (n + j) → a ≤ n → ⊥
@@ -324,7 +324,7 @@ module _ (w : ℤ) (d : Plan) (bays : ℕ → List Bay) (m : ℕ) (E : ℕ → E
   pub tube_owner : (c : ℕ) → c < T.count → (h : Half) → Has h (T.halves c) → (f (edge_of h)).curve ≡ arc_at d c
   tube_owner c l h k = half_curve (arc_at d c) (arc_fits c l) (arc_bent c l) h k
 
-  pub tubes_cover : (c : ℕ) → c < T.count → (u v : Vector) → Place u → Place v → MeetsArc d c u v → (z : Vector) × IsOnWay u v z × InTube T c z
+  pub tubes_cover : (c : ℕ) → c < T.count → (u v : Vector) → Place u → Place v → MeetsArc d c u v → (z : Vector) × IsOnWay u v z × InTubeAt T c z
   tubes_cover c l u v U V h = arc_covered d bays m E steps is (arc_at d c) (arc_fits c l) (arc_bent c l) u v U V h
 
   -- an end of tube c is one of its half arc
@@ -332,5 +332,5 @@ module _ (w : ℤ) (d : Plan) (bays : ℕ → List Bay) (m : ℕ) (E : ℕ → E
   arc_end c l z h = edges.ends_at_arc d bays m E steps is (arc_at d c) (arc_fits c l) (arc_bent c l) (λ p. Same z (point p)) h
 
   -- the places of tube c are those of the triangles of its half arc's tube
-  pub tube_places : (c : ℕ) → c < T.count → (z : Vector) → InTube T c z ↔ one.InTube (curve d (arc_at d c)).from (bays (arc_at d c)) z
+  pub tube_places : (c : ℕ) → c < T.count → (z : Vector) → InTubeAt T c z ↔ one.InTube (curve d (arc_at d c)).from (bays (arc_at d c)) z
   tube_places c l z = edges.its_places d bays m E steps is (arc_at d c) (arc_fits c l) (arc_bent c l) z

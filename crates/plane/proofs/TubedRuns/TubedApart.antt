@@ -18,7 +18,7 @@ use Rattle.plane.specs.Faces.Labels.{Labels}
 use Rattle.plane.specs.Tubes.Bays.{Bay}
 use Rattle.plane.specs.Tubes.Bays as one
 use Rattle.plane.specs.Tubes.Windings.{tiles}
-use Rattle.plane.specs.CurveRuns.Extended.{Tubes, InTube, AtArcEnd, AreTubes}
+use Rattle.plane.specs.CurveRuns.Extended.{Tubes, InTubeAt, AtArcEnd, AreTubes}
 use Rattle.plane.specs.CurveRuns.TubedRuns.{owned, IsTubedRun, AreTubeLabels, arc_at, tubes, MeetsArc}
 use Rattle.plane.proofs.Covers.CurveEdges.{controls_from}
 use Rattle.plane.proofs.Covers.StraightCovers.{flat, in_flat, flat_covers, straights_apart_is}
@@ -66,7 +66,7 @@ module _ (w : ℤ) (d : Plan) (bays : ℕ → List Bay) (m : ℕ) (E : ℕ → E
   all = are_tubes w d bays m E steps lab within inside outside swept is L
 
   -- a place in the triangles of a half arc is in its tube
-  to_tube : (i c : ℕ) → c < T.count → arc_at d c ≡ i → (z : Vector) → InSome (triangles (curve d i).from (bays i)) z → InTube T c z
+  to_tube : (i c : ℕ) → c < T.count → arc_at d c ≡ i → (z : Vector) → InSome (triangles (curve d i).from (bays i)) z → InTubeAt T c z
   to_tube i c l e z h = (tube_places w d bays m E steps lab within inside outside swept is L c l z).1
       (subst (λ (j : ℕ). one.InTube (curve d j).from (bays j) z) (sym e) ((triangle_places (curve d i).from (bays i) z).0 h))
 
@@ -85,7 +85,7 @@ module _ (w : ℤ) (d : Plan) (bays : ℕ → List Bay) (m : ℕ) (E : ℕ → E
 
   -- ---- a straight and a half arc
   module _ (i j : ℕ) (li : i < length d.curves) (lj : j < length d.curves) (n : i ≡ j → ⊥) (ei : (curve d i).kind ≡ kind.Straight) (ej : (curve d j).kind ≡ kind.HalfArc) where
-    pub straight_arc : (x c : ℕ) → x < m → (owned d bays x).curve ≡ i → IsEdgeOf (E x) (curve d i) → c < T.count → arc_at d c ≡ j → (z : Vector) → Place z → On w (E x) z → InTube T c z → IsControl (curve d i) z × IsControl (curve d j) z
+    pub straight_arc : (x c : ℕ) → x < m → (owned d bays x).curve ≡ i → IsEdgeOf (E x) (curve d i) → c < T.count → arc_at d c ≡ j → (z : Vector) → Place z → On w (E x) z → InTubeAt T c z → IsControl (curve d i) z × IsControl (curve d j) z
     straight_arc x c lx ox edge lc at_c z Z on in_c =
         elim (look_below (λ k. Same z (point (r.step k).at)) r.steps (λ k. decide_same z (point (r.step k).at))) [
           | inr none ↦ absurd (edge_outside r whole lab L.matched (T.label c) (T.first c) (T.bay c) (T.bays c) (T.halves c) (all.tube c lc) x z lx not_its Z (λ k l s. none (k, l, s)) on in_c)
@@ -122,7 +122,7 @@ module _ (w : ℤ) (d : Plan) (bays : ℕ → List Bay) (m : ℕ) (E : ℕ → E
         }
 
   -- ---- two half arcs
-  pub one_end : (i c e : ℕ) → c < T.count → e < T.count → (c ≡ e → ⊥) → arc_at d c ≡ i → (z : Vector) → Place z → InTube T c z → InTube T e z → IsControl (curve d i) z
+  pub one_end : (i c e : ℕ) → c < T.count → e < T.count → (c ≡ e → ⊥) → arc_at d c ≡ i → (z : Vector) → Place z → InTubeAt T c z → InTubeAt T e z → IsControl (curve d i) z
   one_end i c e lc le n q z Z hc he = end_of i c lc q z
       (common_place r whole lab L.matched (T.label c) (T.first c) (T.bay c) (T.bays c) (T.halves c) (T.label e) (T.first e) (T.bay e) (T.bays e) (T.halves e)
       (all.tube c lc) (all.tube e le) (all.labels c e lc le n) (all.apart c e lc le n) (all.clean c lc) z Z hc he)

@@ -13,7 +13,7 @@ use Rattle.plane.specs.Faces.Halves.{Half}
 use Rattle.plane.specs.Faces.Labels.{Labels}
 use Rattle.plane.specs.Tubes.Bays.{Bay, IsTube, AtEnds}
 use Rattle.plane.specs.Tubes.Bays as one
-use Rattle.plane.specs.CurveRuns.Extended.{Tubes, IsOnWay, InTube, HasLabel}
+use Rattle.plane.specs.CurveRuns.Extended.{Tubes, IsOnWay, InTubeAt, HasLabel}
 use Rattle.plane.specs.CurveRuns.TubedRuns.{IsTubedRun, AreTubeLabels, arc_at, tubes}
 use Rattle.plane.proofs.Linear.Clear.{on_same}
 use Rattle.plane.proofs.FaceLemmas.Drawn.{hits_edge}
@@ -60,7 +60,7 @@ module _ (w : ℤ) (d : Plan) (bays : ℕ → List Bay) (m : ℕ) (E : ℕ → E
     tube : (c : ℕ) × (c < T.count) × (arc_at d c ≡ i)
     tube = tube_of w d bays m E steps lab within inside outside swept is L i l bent
 
-    in_tube : (z : Vector) → IsOnWay p q z → InTube T tube.0 z
+    in_tube : (z : Vector) → IsOnWay p q z → InTubeAt T tube.0 z
     in_tube z k = (tube_places w d bays m E steps lab within inside outside swept is L tube.0 tube.1 z).1 (subst (λ (j : ℕ). one.InTube (curve d j).from (bays j) z) (sym tube.2) (x.there z k))
 
     p_label : HasLabel r lab T p (inside i)

@@ -12,7 +12,7 @@ use Rattle.plane.specs.Rule.Plans.{Plan, curve}
 use Rattle.plane.specs.Runs.Steps.{Step}
 use Rattle.plane.specs.Tubes.Bays.{Bay, IsTube, OnInner, OnOuter, AtEnds}
 use Rattle.plane.specs.Tubes.Bays as one
-use Rattle.plane.specs.Tubes.Windings.{tiles, InSome}
+use Rattle.plane.specs.Tubes.Windings.{tiles, InSomeTile}
 use Rattle.plane.specs.Tubes.Facing.{way, tip}
 use Rattle.plane.specs.CurveRuns.Extended.{IsOnWay}
 use Rattle.plane.specs.CurveRuns.TubedRuns.{IsTubedRun, tube_start, tube_bays, first_bay, later_bays}
@@ -36,7 +36,7 @@ module _ (d : Plan) (bays : ℕ → List Bay) (m : ℕ) (E : ℕ → Edge) (step
     t : IsTube (arc c) bs
     t = edges.t d bays m E steps is i l bent
 
-    its_places : (z : Vector) → InSome (tiles (tube_start c) (first_bay (tube_bays c bs) ∷ later_bays (tube_bays c bs))) z ↔ one.InTube c.from bs z
+    its_places : (z : Vector) → InSomeTile (tiles (tube_start c) (first_bay (tube_bays c bs) ∷ later_bays (tube_bays c bs))) z ↔ one.InTube c.from bs z
     its_places = edges.its_places d bays m E steps is i l bent
 
     ends_at_arc : (P : Point → Type 0) → P (tube_start c) ⊎ P (tip (first_bay (tube_bays c bs)) (later_bays (tube_bays c bs))) → P c.from ⊎ P c.to
@@ -68,11 +68,11 @@ module _ (d : Plan) (bays : ℕ → List Bay) (m : ℕ) (E : ℕ → Edge) (step
       | inr e ↦ place_hits z Z (on_half_arc_same (arc c) (point c.to) z (omega (arith, ints)) Z (same_sym z (point c.to) e) (to_on (arc c)))
     ]
 
-    pub circle_hits : (z : Vector) → Place z → InSome (tiles (tube_start c) (first_bay (tube_bays c bs) ∷ later_bays (tube_bays c bs))) z → power (arc c) z ≡ pos 0 → HitsHalfArc (arc c) z z
+    pub circle_hits : (z : Vector) → Place z → InSomeTile (tiles (tube_start c) (first_bay (tube_bays c bs) ∷ later_bays (tube_bays c bs))) z → power (arc c) z ≡ pos 0 → HitsHalfArc (arc c) z z
     circle_hits z Z k e = place_hits z Z (record { circle = e; away = tube_away (arc c) bs z t Z ((its_places z).0 k) (omega (arith, ints, e)) })
 
     pub side_kept : (p q : Vector) → Place p → Place q
-        → ((s u : ℤ) → pos 0 ≤ℤ s → pos 0 ≤ℤ u → pos 0 <ℤ (s +ℤ u) → InSome (tiles (tube_start c) (first_bay (tube_bays c bs) ∷ later_bays (tube_bays c bs))) (mix s p u q))
+        → ((s u : ℤ) → pos 0 ≤ℤ s → pos 0 ≤ℤ u → pos 0 <ℤ (s +ℤ u) → InSomeTile (tiles (tube_start c) (first_bay (tube_bays c bs) ∷ later_bays (tube_bays c bs))) (mix s p u q))
         → (HitsHalfArc (arc c) p q → ⊥) → power (arc c) p <ℤ pos 0 → pos 0 <ℤ power (arc c) q → ⊥
     side_kept p q P Q way miss a b =
         let start_way = way_start p q in
@@ -86,7 +86,7 @@ module _ (d : Plan) (bays : ℕ → List Bay) (m : ℕ) (E : ℕ → Edge) (step
 
     -- a segment that hits the half arc has a place in the tube
     pub arc_covered : (p q : Vector) → Place p → Place q → HitsHalfArc (arc c) p q
-        → (z : Vector) × IsOnWay p q z × InSome (tiles (tube_start c) (first_bay (tube_bays c bs) ∷ later_bays (tube_bays c bs))) z
+        → (z : Vector) × IsOnWay p q z × InSomeTile (tiles (tube_start c) (first_bay (tube_bays c bs) ∷ later_bays (tube_bays c bs))) z
     arc_covered p q P Q h =
         let i = tube_covers (arc c) bs p q t P Q (hits_arc (arc c) p q P Q h) in
         let b = i.between in (

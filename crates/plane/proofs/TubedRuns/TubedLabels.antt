@@ -13,7 +13,7 @@ use Rattle.plane.specs.Faces.Cells.{sector}
 use Rattle.plane.specs.Faces.Halves.{Half, under, over, edge_of}
 use Rattle.plane.specs.Faces.Labels.{Labels}
 use Rattle.plane.specs.Tubes.Bays.{Bay}
-use Rattle.plane.specs.Tubes.Windings.{Triangle, InTriangle, tiles, InSome}
+use Rattle.plane.specs.Tubes.Windings.{Tile, InTile, tiles, InSomeTile}
 use Rattle.plane.specs.Tubes.Facing.{way, IsDrawnTube}
 use Rattle.plane.specs.CurveRuns.Extended.{Tubes, AreTubes, HasLabel}
 use Rattle.plane.specs.CurveRuns.TubedRuns.{IsTubedRun, AreTubeLabels, tubes, MeetsArc}
@@ -34,7 +34,7 @@ use Rattle.plane.proofs.TubedRuns.RunTubes.{are_tubes}
 use Rattle.plane.proofs.TubedRuns.TubedCurves.{clear_free}
 
 -- ---- a place to the left of the corners of a triangle is not in it
-not_left : (b : ℤ) (t : Triangle) (z : Vector) → Place z → (b ≤ℤ t.a.x) × (b ≤ℤ t.b.x) × (b ≤ℤ t.c.x) → InTriangle t z → z.x <ℤ (b *ℤ z.n) → ⊥
+not_left : (b : ℤ) (t : Tile) (z : Vector) → Place z → (b ≤ℤ t.a.x) × (b ≤ℤ t.b.x) × (b ≤ℤ t.c.x) → InTile t z → z.x <ℤ (b *ℤ z.n) → ⊥
 not_left b t z Z h i left =
     let i1 = times_le i.of_a b t.a.x i.a_least h.0 in
     let i2 = times_le i.of_b b t.b.x i.b_least h.1 in
@@ -65,7 +65,7 @@ module _ (r : Replay) (lab : Labels) (b : ℤ) (ends_after : (e : ℕ) → e < r
   each_after (h ∷ hs) f e (inl q) = subst (λ (x : Edge). After x.low) (sym q) (way_after h (f h (inl refl)))
   each_after (h ∷ hs) f e (inr m) = each_after hs (λ g n. f g (inr n)) e m
 
-  pub left_of_tube : (t : ℕ) (a : Point) (k : Bay) (ks : List Bay) (hs : List Half) → IsDrawnTube r lab t a k ks hs → (z : Vector) → Place z → z.x <ℤ (b *ℤ z.n) → InSome (tiles a (k ∷ ks)) z → ⊥
+  pub left_of_tube : (t : ℕ) (a : Point) (k : Bay) (ks : List Bay) (hs : List Half) → IsDrawnTube r lab t a k ks hs → (z : Vector) → Place z → z.x <ℤ (b *ℤ z.n) → InSomeTile (tiles a (k ∷ ks)) z → ⊥
   left_of_tube t a k ks hs tube z Z left i =
       let corners = tiles_corners After a (k ∷ ks) (λ e m. each_after hs tube.faced.fits e (subst (λ (es : List Edge). Has e es) tube.bounds m)) in
       not_left b i.0 z Z (each_has (λ t. After t.a × After t.b × After t.c) (tiles a (k ∷ ks)) i.0 corners i.1) i.2 left

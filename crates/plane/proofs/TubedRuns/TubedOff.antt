@@ -14,7 +14,7 @@ use Rattle.plane.specs.Faces.Halves.{Half}
 use Rattle.plane.specs.Faces.Labels.{Labels}
 use Rattle.plane.specs.Tubes.Bays.{Bay}
 use Rattle.plane.specs.Tubes.Windings.{tiles}
-use Rattle.plane.specs.CurveRuns.Extended.{Tubes, IsOnWay, InTube, HasLabel}
+use Rattle.plane.specs.CurveRuns.Extended.{Tubes, IsOnWay, InTubeAt, HasLabel}
 use Rattle.plane.specs.CurveRuns.TubedRuns.{IsTubedRun, AreTubeLabels, arc_at, tubes}
 use Rattle.plane.proofs.FaceLemmas.Drawn.{on_edge}
 use Rattle.plane.proofs.Covers.HalfArcPlaces.{from_on, to_on, on_half_arc_same}
@@ -56,7 +56,7 @@ module _ (w : ℤ) (d : Plan) (bays : ℕ → List Bay) (m : ℕ) (E : ℕ → E
     end_of_arc c s k = not_on c s (end_power (arc (curve d (arc_at d c))) z Z k)
 
     -- a place of a half arc is in its tube
-    pub in_its_tube : (i : ℕ) → i < length d.curves → (curve d i).kind ≡ kind.HalfArc → IsOn (curve d i) z → (c : ℕ) × (c < T.count) × (arc_at d c ≡ i) × InTube T c z
+    pub in_its_tube : (i : ℕ) → i < length d.curves → (curve d i).kind ≡ kind.HalfArc → IsOn (curve d i) z → (c : ℕ) × (c < T.count) × (arc_at d c ≡ i) × InTubeAt T c z
     in_its_tube i l e on =
         let c = tube_of w d bays m E steps lab within inside outside swept is L i l e in
         let hit = bent_hits w d bays m E steps lab within inside outside swept is L i z z e ((hits_alone (curve d i) z Z).1 on) in
@@ -72,7 +72,7 @@ module _ (w : ℤ) (d : Plan) (bays : ℕ → List Bay) (m : ℕ) (E : ℕ → E
             one : (s t x n : ℤ) → ((s *ℤ x) +ℤ (t *ℤ x)) *ℤ n ≡ x *ℤ ((s *ℤ n) +ℤ (t *ℤ n))
             one s t x n = ring (times (plus (times (at 0) (at 2)) (times (at 1) (at 2))) (at 3)) (times (at 2) (plus (times (at 0) (at 3)) (times (at 1) (at 3)))) (vars (s ∷ t ∷ x ∷ n ∷ [])) refl
 
-    pub from_tube : (c : ℕ) → c < T.count → InTube T c z → HasSide c → IsOff d z
+    pub from_tube : (c : ℕ) → c < T.count → InTubeAt T c z → HasSide c → IsOff d z
     from_tube c lc inner side i l on = elim (decide_kind (curve d i).kind) [
       | inl e ↦
           let x = straight_edge d bays m E steps is i l e in

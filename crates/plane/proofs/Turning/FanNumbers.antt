@@ -10,7 +10,7 @@ use Rattle.plane.specs.Lists.{Has, Once}
 use Rattle.plane.specs.Runs.Steps.{Step, GoodStep, Run}
 use Rattle.plane.specs.Faces.Replays.{no_step, replay}
 use Rattle.plane.specs.Faces.Halves.{Half, under, over, edge_of, twin, number, half_of}
-use Rattle.plane.specs.Faces.Classes.{outward, inward, fan, IsFirst, IsLast, Follows, FollowsRound, Next}
+use Rattle.plane.specs.Faces.Classes.{starting_halves, ending_halves, fan, IsFirst, IsLast, Follows, FollowsRound, Next}
 use Rattle.plane.specs.Faces.Directions.{origin}
 use Rattle.plane.specs.Faces.FanNumbers.{twin_number, fan_numbers, place_before, TurnsRound}
 use Rattle.plane.proofs.ListLemmas.Lists.{has_front, has_back, has_append, neighbours_map}
@@ -123,14 +123,14 @@ round_is s g h = (
 )
 
 -- ---- what the fan holds
-has_outward : (h : Half) (es : List ℕ) → Has h (outward es) → (e : ℕ) × Has e es × (h ≡ over e)
+has_outward : (h : Half) (es : List ℕ) → Has h (starting_halves es) → (e : ℕ) × Has e es × (h ≡ over e)
 has_outward h [] i = absurd i
 has_outward h (e ∷ es) (inl q) = (e, inl refl, q)
 has_outward h (e ∷ es) (inr i) = let (d, j, q) = has_outward h es i in (d, inr j, q)
 
-has_inward : (h : Half) (es : List ℕ) → Has h (inward es) → (e : ℕ) × Has e es × (h ≡ under e)
+has_inward : (h : Half) (es : List ℕ) → Has h (ending_halves es) → (e : ℕ) × Has e es × (h ≡ under e)
 has_inward h [] i = absurd i
-has_inward h (e ∷ es) i = elim (has_append h (inward es) (under e ∷ []) i) [
+has_inward h (e ∷ es) i = elim (has_append h (ending_halves es) (under e ∷ []) i) [
   | inl j ↦ (let (d, k, q) = has_inward h es j in (d, inr k, q))
   | inr j ↦ elim j [ inl q ↦ (e, inl refl, q) | inr n ↦ absurd n ]
 ]
@@ -143,14 +143,14 @@ over_not_under : (d e : ℕ) → over d ≡ under e → ⊥
 unfolding is_over
 over_not_under d e q = subst is_over q tt
 
-outward_once : (es : List ℕ) → Once es → Once (outward es)
+outward_once : (es : List ℕ) → Once es → Once (starting_halves es)
 outward_once [] o = tt
 outward_once (e ∷ es) o = ((λ i. let (d, j, q) = has_outward (over e) es i in o.0 (subst (λ (x : ℕ). Has x es) (sym (ap edge_of q)) j)), outward_once es o.1)
 
-inward_once : (es : List ℕ) → Once es → Once (inward es)
+inward_once : (es : List ℕ) → Once es → Once (ending_halves es)
 inward_once [] o = tt
 inward_once (e ∷ es) o =
-    once_append (inward es) (under e ∷ []) (inward_once es o.1) ((λ i. i), tt)
+    once_append (ending_halves es) (under e ∷ []) (inward_once es o.1) ((λ i. i), tt)
     (λ h i j. elim j [
       | inl q ↦ (let (d, k, p) = has_inward h es i in o.0 (subst (λ (x : ℕ). Has x es) (sym (ap edge_of (sym q ∙ p))) k))
       | inr n ↦ n
@@ -158,21 +158,21 @@ inward_once (e ∷ es) o =
 
 fan_once : (s : Step) → Once s.starting → Once s.ending → Once (fan s)
 fan_once s a b =
-    once_append (outward s.starting) (inward s.ending) (outward_once s.starting a) (inward_once s.ending b)
+    once_append (starting_halves s.starting) (ending_halves s.ending) (outward_once s.starting a) (inward_once s.ending b)
     (λ h i j. let (d, k, p) = has_outward h s.starting i in let (e, l, q) = has_inward h s.ending j in over_not_under d e (sym p ∙ q))
 
 pub fan_is : (m : ℕ) (E : ℕ → Edge) (s : Step) → GoodStep m E s → (h : Half) → Has h (fan s) ↔ ((edge_of h < m) × (origin E h ≡ s.at))
 fan_is m E s good h = ((λ i. only h i), (λ a. all h a.0 a.1))
   where
     only : (h : Half) → Has h (fan s) → (edge_of h < m) × (origin E h ≡ s.at)
-    only h i = elim (has_append h (outward s.starting) (inward s.ending) i) [
+    only h i = elim (has_append h (starting_halves s.starting) (ending_halves s.ending) i) [
       | inl j ↦ (let (e, k, q) = has_outward h s.starting j in subst (λ (x : Half). (edge_of x < m) × (origin E x ≡ s.at)) (sym q) (good.starting_only e k))
       | inr j ↦ (let (e, k, q) = has_inward h s.ending j in subst (λ (x : Half). (edge_of x < m) × (origin E x ≡ s.at)) (sym q) (good.ending_only e k))
     ]
 
     all : (h : Half) → edge_of h < m → origin E h ≡ s.at → Has h (fan s)
-    all (under e) l q = has_back (under e) (outward s.starting) (inward s.ending) (inward_has e s.ending (good.ending_all e l q))
-    all (over e) l q = has_front (over e) (outward s.starting) (inward s.ending) (outward_has e s.starting (good.starting_all e l q))
+    all (under e) l q = has_back (under e) (starting_halves s.starting) (ending_halves s.ending) (inward_has e s.ending (good.ending_all e l q))
+    all (over e) l q = has_front (over e) (starting_halves s.starting) (ending_halves s.ending) (outward_has e s.starting (good.starting_all e l q))
 
 module _ (m : ℕ) (E : ℕ → Edge) (s : Step) (edges : (e : ℕ) → e < m → Before (E e).low (E e).high) (good : GoodStep m E s) where
   starting_once : Once s.starting
@@ -199,49 +199,49 @@ in_numbers s h i =
     (k, omega (arith, l, n), number_at (fan s) k ∙ ap number e)
 
 -- ---- the numbers as a program writes them
-outward_length : (es : List ℕ) → length (outward es) ≡ length es
+outward_length : (es : List ℕ) → length (starting_halves es) ≡ length es
 outward_length [] = refl
 outward_length (e ∷ es) = ap (λ (n : ℕ). suc n) (outward_length es)
 
-inward_length : (es : List ℕ) → length (inward es) ≡ length es
+inward_length : (es : List ℕ) → length (ending_halves es) ≡ length es
 inward_length [] = refl
-inward_length (e ∷ es) = let a = inward_length es in let b = length-append (inward es) (under e ∷ []) in omega (arith, a, b)
+inward_length (e ∷ es) = let a = inward_length es in let b = length-append (ending_halves es) (under e ∷ []) in omega (arith, a, b)
 
 pub fan_length : (s : Step) → length (fan_numbers s) ≡ length s.starting + length s.ending
 fan_length s =
     let n = length-map (fan s) number in
-    let a = length-append (outward s.starting) (inward s.ending) in
+    let a = length-append (starting_halves s.starting) (ending_halves s.ending) in
     let b = outward_length s.starting in
     let c = inward_length s.ending in
     omega (arith, n, a, b, c)
 
-outward_at : (es : List ℕ) (i : ℕ) → i < length es → nth (outward es) i ≡ over (slice_index es i)
+outward_at : (es : List ℕ) (i : ℕ) → i < length es → nth (starting_halves es) i ≡ over (slice_index es i)
 outward_at [] i l = absurd (omega (arith, l))
 outward_at (e ∷ es) zero l = refl
 outward_at (e ∷ es) (suc i) l = outward_at es i (omega (arith, l))
 
-inward_at : (es : List ℕ) (i j : ℕ) → i + suc j ≡ length es → nth (inward es) i ≡ under (slice_index es j)
+inward_at : (es : List ℕ) (i j : ℕ) → i + suc j ≡ length es → nth (ending_halves es) i ≡ under (slice_index es j)
 inward_at [] i j q = absurd (omega (arith, q))
 inward_at (e ∷ es) i zero q =
     let n = inward_length es in
-    let at : i ≡ length (inward es) = omega (arith, q, n) in
-    ap (λ (k : ℕ). nth (inward es ++ (under e ∷ [])) k) at ∙ get_or-append_seam (inward es) (under e) [] (under 0)
+    let at : i ≡ length (ending_halves es) = omega (arith, q, n) in
+    ap (λ (k : ℕ). nth (ending_halves es ++ (under e ∷ [])) k) at ∙ get_or-append_seam (ending_halves es) (under e) [] (under 0)
 inward_at (e ∷ es) i (suc j) q =
     let n = inward_length es in
-    get_or_append_left (inward es) (under e ∷ []) (under 0) i (omega (arith, q, n)) ∙ inward_at es i j (omega (arith, q))
+    get_or_append_left (ending_halves es) (under e ∷ []) (under 0) i (omega (arith, q, n)) ∙ inward_at es i j (omega (arith, q))
 
 pub over_at : (s : Step) (i : ℕ) → i < length s.starting → slice_index (fan_numbers s) i ≡ 2 * slice_index s.starting i + 1
 over_at s i l =
     let n = outward_length s.starting in
-    let e = number_at (fan s) i ∙ ap number (get_or_append_left (outward s.starting) (inward s.ending) (under 0) i (omega (arith, l, n)) ∙ outward_at s.starting i l) in
+    let e = number_at (fan s) i ∙ ap number (get_or_append_left (starting_halves s.starting) (ending_halves s.ending) (under 0) i (omega (arith, l, n)) ∙ outward_at s.starting i l) in
     omega (arith, e)
 
 pub under_at : (s : Step) (i j : ℕ) → i + suc j ≡ length s.ending → slice_index (fan_numbers s) (length s.starting + i) ≡ 2 * slice_index s.ending j
 under_at s i j q =
     let n = outward_length s.starting in
-    let place : length s.starting + i ≡ length (outward s.starting) + i = omega (arith, n) in
-    let e = ap (λ (k : ℕ). slice_index (fan_numbers s) k) place ∙ number_at (fan s) (length (outward s.starting) + i)
-    ∙ ap number (get_or-append-add (outward s.starting) (inward s.ending) i (under 0) ∙ inward_at s.ending i j q) in
+    let place : length s.starting + i ≡ length (starting_halves s.starting) + i = omega (arith, n) in
+    let e = ap (λ (k : ℕ). slice_index (fan_numbers s) k) place ∙ number_at (fan s) (length (starting_halves s.starting) + i)
+    ∙ ap number (get_or-append-add (starting_halves s.starting) (ending_halves s.ending) i (under 0) ∙ inward_at s.ending i j q) in
     omega (arith, e)
 
 -- ---- a run

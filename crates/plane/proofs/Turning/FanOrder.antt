@@ -8,7 +8,7 @@ use Rattle.plane.specs.Forms.Vectors.{point, sweep, gap, Before}
 use Rattle.plane.specs.Runs.Steps.{Turns}
 use Rattle.plane.specs.Faces.Replays.{Replay, IsRun, IsLawful}
 use Rattle.plane.specs.Faces.Halves.{Half, under, over, edge_of, twin}
-use Rattle.plane.specs.Faces.Classes.{outward, inward, fan, Next}
+use Rattle.plane.specs.Faces.Classes.{starting_halves, ending_halves, fan, Next}
 use Rattle.plane.specs.Faces.Directions.{origin, direction, IsRight, IsLeft, Comes, IsClockwiseNext}
 use Rattle.plane.proofs.ListLemmas.Lists.{each_has, each_append, last_from, first_from, neighbours_append, neighbours_front, neighbours_back, joint_from, has_front, has_back}
 use Rattle.plane.proofs.Strips.Centres.{inside_some}
@@ -16,25 +16,25 @@ use Rattle.plane.proofs.Turning.Directions.{precedes_join, is_first, is_last, fo
 use Rattle.plane.proofs.Turning.FanTurns.{starting_turn, ending_turn}
 
 -- ---- the fan as a list
-pub outward_has : (e : ℕ) (es : List ℕ) → Has e es → Has (over e) (outward es)
+pub outward_has : (e : ℕ) (es : List ℕ) → Has e es → Has (over e) (starting_halves es)
 outward_has e [] h = absurd h
 outward_has e (d ∷ es) (inl q) = inl (ap over q)
 outward_has e (d ∷ es) (inr h) = inr (outward_has e es h)
 
-pub inward_has : (e : ℕ) (es : List ℕ) → Has e es → Has (under e) (inward es)
+pub inward_has : (e : ℕ) (es : List ℕ) → Has e es → Has (under e) (ending_halves es)
 inward_has e [] h = absurd h
-inward_has e (d ∷ es) (inl q) = has_back (under e) (inward es) (under d ∷ []) (inl (ap under q))
-inward_has e (d ∷ es) (inr h) = has_front (under e) (inward es) (under d ∷ []) (inward_has e es h)
+inward_has e (d ∷ es) (inl q) = has_back (under e) (ending_halves es) (under d ∷ []) (inl (ap under q))
+inward_has e (d ∷ es) (inr h) = has_front (under e) (ending_halves es) (under d ∷ []) (inward_has e es h)
 
-outward_each : (P : Half → Type 0) (es : List ℕ) → ((e : ℕ) → Has e es → P (over e)) → Each P (outward es)
+outward_each : (P : Half → Type 0) (es : List ℕ) → ((e : ℕ) → Has e es → P (over e)) → Each P (starting_halves es)
 outward_each P [] f = tt
 outward_each P (e ∷ es) f = (f e (inl refl), outward_each P es (λ d h. f d (inr h)))
 
-inward_each : (P : Half → Type 0) (es : List ℕ) → ((e : ℕ) → Has e es → P (under e)) → Each P (inward es)
+inward_each : (P : Half → Type 0) (es : List ℕ) → ((e : ℕ) → Has e es → P (under e)) → Each P (ending_halves es)
 inward_each P [] f = tt
-inward_each P (e ∷ es) f = each_append P (inward es) (under e ∷ []) (inward_each P es (λ d h. f d (inr h))) (f e (inl refl), tt)
+inward_each P (e ∷ es) f = each_append P (ending_halves es) (under e ∷ []) (inward_each P es (λ d h. f d (inr h))) (f e (inl refl), tt)
 
-outward_order : (R : Half → Half → Type 0) (S : ℕ → ℕ → Type 0) (es : List ℕ) → ((a b : ℕ) → Has a es → Has b es → S a b → R (over a) (over b)) → Neighbours S es → Neighbours R (outward es)
+outward_order : (R : Half → Half → Type 0) (S : ℕ → ℕ → Type 0) (es : List ℕ) → ((a b : ℕ) → Has a es → Has b es → S a b → R (over a) (over b)) → Neighbours S es → Neighbours R (starting_halves es)
 outward_order R S [] f n = tt
 outward_order R S (a ∷ []) f n = (tt, tt)
 outward_order R S (a ∷ (b ∷ es)) f n = (f a b (inl refl) (inr (inl refl)) n.0, outward_order R S (b ∷ es) (λ c d h k. f c d (inr h) (inr k)) n.1)
@@ -44,12 +44,12 @@ last_snoc P [] x p = p
 last_snoc P (y ∷ []) x p = p
 last_snoc P (y ∷ (z ∷ zs)) x p = last_snoc P (z ∷ zs) x p
 
-inward_order : (R : Half → Half → Type 0) (S : ℕ → ℕ → Type 0) (es : List ℕ) → ((a b : ℕ) → Has a es → Has b es → S a b → R (under b) (under a)) → Neighbours S es → Neighbours R (inward es)
+inward_order : (R : Half → Half → Type 0) (S : ℕ → ℕ → Type 0) (es : List ℕ) → ((a b : ℕ) → Has a es → Has b es → S a b → R (under b) (under a)) → Neighbours S es → Neighbours R (ending_halves es)
 inward_order R S [] f n = tt
 inward_order R S (a ∷ []) f n = (tt, tt)
 inward_order R S (a ∷ (b ∷ es)) f n =
-    neighbours_append R (inward (b ∷ es)) (under a ∷ []) (inward_order R S (b ∷ es) (λ c d h k. f c d (inr h) (inr k)) n.1)
-    (last_snoc (λ x. R x (under a)) (inward es) (under b) (f a b (inl refl) (inr (inl refl)) n.0)) (tt, tt)
+    neighbours_append R (ending_halves (b ∷ es)) (under a ∷ []) (inward_order R S (b ∷ es) (λ c d h k. f c d (inr h) (inr k)) n.1)
+    (last_snoc (λ x. R x (under a)) (ending_halves es) (under b) (f a b (inl refl) (inr (inl refl)) n.0)) (tt, tt)
 
 module _ (r : Replay) (run : IsRun r) (law : IsLawful r)
     (turns : (k : ℕ) → k < r.steps → Neighbours (Turns r.edge) (r.step k).starting) (ahead : (e : ℕ) → e < r.edges → Before (r.edge e).low (r.edge e).high) where
@@ -73,14 +73,14 @@ module _ (r : Replay) (run : IsRun r) (law : IsLawful r)
       split (inl h) = inl (omega (arith, ints, h))
       split (inr h) = let x = h.0 in let y = h.1 in inr (omega (arith, ints, x), omega (arith, ints, y))
 
-  starting_order : (k : ℕ) → k < r.steps → Neighbours (Comes r.edge) (outward (r.step k).starting)
+  starting_order : (k : ℕ) → k < r.steps → Neighbours (Comes r.edge) (starting_halves (r.step k).starting)
   starting_order k l = outward_order (Comes r.edge) (Turns r.edge) (r.step k).starting
       (λ a b ha hb t. inr (
         inl (over_right a (starting_fits k a l ha), over_right b (starting_fits k b l hb)),
         starting_turn (r.edge a) (r.edge b) (run.starting k l a ha ∙ sym (run.starting k l b hb)) t,
       )) (turns k l)
 
-  ending_order : (k : ℕ) → k < r.steps → Neighbours (Comes r.edge) (inward (r.step k).ending)
+  ending_order : (k : ℕ) → k < r.steps → Neighbours (Comes r.edge) (ending_halves (r.step k).ending)
   ending_order k l =
       let z = inside_some r run k (omega arith) in
       let s = r.step k in
@@ -98,10 +98,10 @@ module _ (r : Replay) (run : IsRun r) (law : IsLawful r)
   pub fan_sorted : (k : ℕ) → k < r.steps → Neighbours (Comes r.edge) (fan (r.step k))
   fan_sorted k l =
       let s = r.step k in
-      neighbours_append (Comes r.edge) (outward s.starting) (inward s.ending) (starting_order k l)
-      (joint_from (Comes r.edge) (λ x. IsRight (direction r.edge x)) (λ y. IsLeft (direction r.edge y)) (outward s.starting) (inward s.ending) (λ x y hx hy p q. inl (p, q))
-      (last_from (λ x. IsRight (direction r.edge x)) (outward s.starting) (outward_each (λ x. IsRight (direction r.edge x)) s.starting (λ e h. over_right e (starting_fits k e l h))))
-      (first_from (λ y. IsLeft (direction r.edge y)) (inward s.ending) (inward_each (λ y. IsLeft (direction r.edge y)) s.ending (λ e h. under_left e (ending_fits k e l h)))))
+      neighbours_append (Comes r.edge) (starting_halves s.starting) (ending_halves s.ending) (starting_order k l)
+      (joint_from (Comes r.edge) (λ x. IsRight (direction r.edge x)) (λ y. IsLeft (direction r.edge y)) (starting_halves s.starting) (ending_halves s.ending) (λ x y hx hy p q. inl (p, q))
+      (last_from (λ x. IsRight (direction r.edge x)) (starting_halves s.starting) (outward_each (λ x. IsRight (direction r.edge x)) s.starting (λ e h. over_right e (starting_fits k e l h))))
+      (first_from (λ y. IsLeft (direction r.edge y)) (ending_halves s.ending) (inward_each (λ y. IsLeft (direction r.edge y)) s.ending (λ e h. under_left e (ending_fits k e l h)))))
       (ending_order k l)
 
   -- all half-edges of the fan start at its event
@@ -109,14 +109,14 @@ module _ (r : Replay) (run : IsRun r) (law : IsLawful r)
   fan_start k l h m =
       let s = r.step k in
       let P : Half → Type 0 = λ x. origin r.edge x ≡ s.at in
-      each_has P (fan s) h (each_append P (outward s.starting) (inward s.ending) (outward_each P s.starting (λ e n. run.starting k l e n)) (inward_each P s.ending (λ e n. run.ending k l e n))) m
+      each_has P (fan s) h (each_append P (starting_halves s.starting) (ending_halves s.ending) (outward_each P s.starting (λ e n. run.starting k l e n)) (inward_each P s.ending (λ e n. run.ending k l e n))) m
 
   -- all half-edges of the fan are edges of the run
   fan_fits : (k : ℕ) → k < r.steps → (h : Half) → Has h (fan (r.step k)) → edge_of h < r.edges
   fan_fits k l h m =
       let s = r.step k in
       let P : Half → Type 0 = λ x. edge_of x < r.edges in
-      each_has P (fan s) h (each_append P (outward s.starting) (inward s.ending) (outward_each P s.starting (λ e n. starting_fits k e l n)) (inward_each P s.ending (λ e n. ending_fits k e l n))) m
+      each_has P (fan s) h (each_append P (starting_halves s.starting) (ending_halves s.ending) (outward_each P s.starting (λ e n. starting_fits k e l n)) (inward_each P s.ending (λ e n. ending_fits k e l n))) m
 
   pub next_fits : (h g : Half) → Next r h g → (edge_of g < r.edges) × (edge_of (twin h) < r.edges)
   next_fits h g n =

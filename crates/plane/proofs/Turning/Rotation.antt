@@ -4,7 +4,7 @@ use Rattle.std.proofs.Common.{◌≡◌, ℕ, suc, ◌+◌, ◌<◌, ◌≤◌, 
 use Rattle.plane.specs.Faces.Replays.{Replay, IsRun, IsLawful}
 use Rattle.plane.specs.Faces.Cells.{Sector, IsSector, Linked, stays, onward, back}
 use Rattle.plane.specs.Faces.Halves.{Half, under, over, twin, At, Beside}
-use Rattle.plane.specs.Faces.Classes.{outward, inward, fan, IsFirst, IsLast, Follows, FollowsRound, Next}
+use Rattle.plane.specs.Faces.Classes.{starting_halves, ending_halves, fan, IsFirst, IsLast, Follows, FollowsRound, Next}
 use Rattle.plane.proofs.Strips.OneStrip.{linked_back, linked_join}
 use Rattle.plane.proofs.Strips.Joins.{lengths_before, lengths_after}
 use Rattle.plane.proofs.Turning.ListPlaces.{at_front, at_back}
@@ -67,7 +67,7 @@ module _ (r : Replay) (k : ℕ) (fits : k ≤ r.steps) where
   is_cell : (n : ℕ) → n ≤ length (r.list k) → IsSector r (cell_of k n)
   is_cell n l = record { strip = fits; index = l }
 
-  goes_outward : (n t : ℕ) (es : List ℕ) → t ≡ n + length es → t ≤ length (r.list k) → StandsFrom r k n es → Goes r (cell_of k n) (outward es) (cell_of k t)
+  goes_outward : (n t : ℕ) (es : List ℕ) → t ≡ n + length es → t ≤ length (r.list k) → StandsFrom r k n es → Goes r (cell_of k n) (starting_halves es) (cell_of k t)
   goes_outward n t [] q l s = stays _ _ (ap (cell_of k) (omega arith))
   goes_outward n t (e ∷ es) q l s =
       let a = s 0 n e (omega arith) refl in (
@@ -81,11 +81,11 @@ module _ (r : Replay) (k : ℕ) (fits : k ≤ r.steps) where
         goes_outward (suc n) t es (omega arith) l (λ j m d h b. s (suc j) m d (omega arith) b),
       )
 
-  goes_inward : (n t : ℕ) (es : List ℕ) → t ≡ n + length es → t ≤ length (r.list k) → StandsFrom r k n es → Goes r (cell_of k t) (inward es) (cell_of k n)
+  goes_inward : (n t : ℕ) (es : List ℕ) → t ≡ n + length es → t ≤ length (r.list k) → StandsFrom r k n es → Goes r (cell_of k t) (ending_halves es) (cell_of k n)
   goes_inward n t [] q l s = stays _ _ (ap (cell_of k) (omega arith))
   goes_inward n t (e ∷ es) q l s =
       let a = s 0 n e (omega arith) refl in
-      goes_append r (cell_of k t) (cell_of k (suc n)) (cell_of k n) (inward es) (under e ∷ [])
+      goes_append r (cell_of k t) (cell_of k (suc n)) (cell_of k n) (ending_halves es) (under e ∷ [])
       (goes_inward (suc n) t es (omega arith) l (λ j m d h b. s (suc j) m d (omega arith) b))
       (cell_of k (suc n), cell_of k n, is_cell (suc n) (omega arith), is_cell n (omega arith), stays _ _ refl, a, a, stays _ _ refl)
 
@@ -106,9 +106,9 @@ module _ (r : Replay) (run : IsRun r) (law : IsLawful r) where
       let bottom : Linked r (cell_of k b) (cell_of (suc k) b) =
       onward _ (cell_of (suc k) b) _ (inl record { fits = l; next = refl; low = omega arith; kept = refl }) (stays _ _ refl) in
       let low = cell_of (suc k) b in
-      goes_append r low (cell_of (suc k) (b + length s.starting)) low (outward s.starting) (inward s.ending) one
-      (goes_from r (cell_of (suc k) (b + length s.starting)) (cell_of k (b + length s.ending)) low (inward s.ending) top
-      (goes_to (cell_of k (b + length s.ending)) (cell_of k b) low (inward s.ending) two bottom))
+      goes_append r low (cell_of (suc k) (b + length s.starting)) low (starting_halves s.starting) (ending_halves s.ending) one
+      (goes_from r (cell_of (suc k) (b + length s.starting)) (cell_of k (b + length s.ending)) low (ending_halves s.ending) top
+      (goes_to (cell_of k (b + length s.ending)) (cell_of k b) low (ending_halves s.ending) two bottom))
     where
       goes_to : (c d e : Sector) (xs : List Half) → Goes r c xs d → Linked r d e → Goes r c xs e
       goes_to c d e [] g l = linked_join r c d e g l

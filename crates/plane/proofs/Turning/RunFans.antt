@@ -8,7 +8,7 @@ use Rattle.plane.specs.Forms.Vectors.{point, Edge, side, sweep}
 use Rattle.plane.specs.Runs.Steps.{Step, after, Turns, IsReplay, Run, WeighedRun}
 use Rattle.plane.specs.Faces.Replays.{Replay, IsRun, IsLawful, replay}
 use Rattle.plane.specs.Faces.Halves.{Half, under, over, edge_of, twin}
-use Rattle.plane.specs.Faces.Classes.{outward, inward, fan, Next}
+use Rattle.plane.specs.Faces.Classes.{starting_halves, ending_halves, fan, Next}
 use Rattle.plane.specs.Faces.Directions.{origin, IsClockwiseNext}
 use Rattle.plane.proofs.ListLemmas.Lists.{has_front, has_back, has_three}
 use Rattle.plane.proofs.Linear.Vectors.{side-low, side-high, rise-is}
@@ -65,8 +65,8 @@ module _ (r : Replay) (run : IsRun r) (law : IsLawful r) where
       ]
 
   pub fan_all : (k : ℕ) → k < r.steps → (x : Half) → edge_of x < r.edges → origin r.edge x ≡ (r.step k).at → Has x (fan (r.step k))
-  fan_all k l (under e) f q = let s = r.step k in has_back (under e) (outward s.starting) (inward s.ending) (inward_has e s.ending (finishes k e l f q))
-  fan_all k l (over e) f q = let s = r.step k in has_front (over e) (outward s.starting) (inward s.ending) (outward_has e s.starting (starts k e l f q))
+  fan_all k l (under e) f q = let s = r.step k in has_back (under e) (starting_halves s.starting) (ending_halves s.ending) (inward_has e s.ending (finishes k e l f q))
+  fan_all k l (over e) f q = let s = r.step k in has_front (over e) (starting_halves s.starting) (ending_halves s.ending) (outward_has e s.starting (starts k e l f q))
 
 -- ---- over a run
 pub turns_at : (m : ℕ) (E : ℕ → Edge) (now : List ℕ) (steps : List Step) (k : ℕ) → IsReplay m E now steps → k < length steps → Neighbours (Turns E) (nth steps k).starting

@@ -8,7 +8,7 @@ use Rattle.plane.specs.Forms.Vectors.{Vector, Place, Same, point, Edge, side, sw
 use Rattle.plane.specs.Faces.Replays.{Replay}
 use Rattle.plane.specs.Faces.Halves.{Half, edge_of, IsMatched}
 use Rattle.plane.specs.Faces.Labels.{Labels}
-use Rattle.plane.specs.Tubes.Windings.{Triangle, Bay, weighed, tiles, InSome}
+use Rattle.plane.specs.Tubes.Windings.{Tile, Bay, weighed, tiles, InSomeTile}
 use Rattle.plane.specs.Tubes.Facing.{IsDrawnTube, IsClean, tip}
 use Rattle.plane.proofs.Algebra.Scaling.{cancel_le}
 use Rattle.plane.proofs.Algebra.Ring.{at, times, vars, ring}
@@ -31,7 +31,7 @@ same_from z v u Z a b = record { x = one z.x z.n v.x v.n u.x u.n Z a.x b.x; y = 
         let g = cancel_le n (q *ℤ m) (p *ℤ k) N (omega (arith, ints, a, b, c, d, e)) in
         omega (arith, ints, f, g)
 
-pub in_some_same : (ts : List Triangle) (z v : Vector) → Place z → Same z v → InSome ts z → InSome ts v
+pub in_some_same : (ts : List Tile) (z v : Vector) → Place z → Same z v → InSomeTile ts z → InSomeTile ts v
 in_some_same ts z v Z h s =
     let i = s.2 in (
       s.0,
@@ -73,7 +73,7 @@ AreApart gs hs = (g h : Half) → Has g gs → Has h hs → edge_of g ≡ edge_o
 module _ (r : Replay) (whole : IsWhole r) (lab : Labels) (matched : IsMatched r lab) where
   pub common_place : (t : ℕ) (a : Point) (b : Bay) (bs : List Bay) (hs : List Half) (u : ℕ) (c : Point) (d : Bay) (ds : List Bay) (gs : List Half)
       → IsDrawnTube r lab t a b bs hs → IsDrawnTube r lab u c d ds gs → (t ≡ u → ⊥) → AreApart hs gs → IsClean r a b bs hs
-      → (z : Vector) → Place z → InSome (tiles a (b ∷ bs)) z → InSome (tiles c (d ∷ ds)) z → Same z (point a) ⊎ Same z (point (tip b bs))
+      → (z : Vector) → Place z → InSomeTile (tiles a (b ∷ bs)) z → InSomeTile (tiles c (d ∷ ds)) z → Same z (point a) ⊎ Same z (point (tip b bs))
   common_place t a b bs hs u c d ds gs one two differ apart clean z Z in_one in_two =
       elim (look_below (λ j. Same z (point (r.step j).at)) r.steps (λ j. decide_same z (point (r.step j).at))) [
         | inl s ↦ event s.0 s.1 s.2

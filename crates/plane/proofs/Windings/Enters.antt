@@ -9,7 +9,7 @@ use Rattle.plane.specs.Faces.Replays.{Replay, IsStrip, reach}
 use Rattle.plane.specs.Faces.Cells.{strip}
 use Rattle.plane.specs.Faces.Halves.{Half, under, edge_of, IsMatched}
 use Rattle.plane.specs.Faces.Labels.{Labels, Match, last_label}
-use Rattle.plane.specs.Tubes.Windings.{Bay, tiles, InSome}
+use Rattle.plane.specs.Tubes.Windings.{Bay, tiles, InSomeTile}
 use Rattle.plane.specs.Tubes.Facing.{IsDrawnTube, IsTubeCorner}
 use Rattle.plane.proofs.ListLemmas.Lists.{has_back, has_append, has_three}
 use Rattle.plane.proofs.Linear.Vectors.{rise-is, side-low, side-high}
@@ -163,7 +163,7 @@ module _ (r : Replay) (whole : IsWhole r) (lab : Labels) (matched : IsMatched r 
 
   module _ (t : ℕ) (a : Point) (b : Bay) (bs : List Bay) (hs : List Half) (tube : IsDrawnTube r lab t a b bs hs) where
     -- a place of an edge that is none of the tube's, other than an event, is not in the tube
-    pub edge_outside : (f : ℕ) (z : Vector) → f < r.edges → ((h : Half) → Has h hs → edge_of h ≡ f → ⊥) → Place z → IsPlain z → On r.weight (r.edge f) z → InSome (tiles a (b ∷ bs)) z → ⊥
+    pub edge_outside : (f : ℕ) (z : Vector) → f < r.edges → ((h : Half) → Has h hs → edge_of h ≡ f → ⊥) → Place z → IsPlain z → On r.weight (r.edge f) z → InSomeTile (tiles a (b ∷ bs)) z → ⊥
     edge_outside f z l other Z plain on inside =
         let k = strip r z in
         let s = strip_is r whole.run z Z in
@@ -191,7 +191,7 @@ module _ (r : Replay) (whole : IsWhole r) (lab : Labels) (matched : IsMatched r 
         (x, inl refl, tube.faced.only (under x) l (sym up.0 ∙ q))
 
     -- an event in the tube is a corner of it
-    pub event_corner : (k : ℕ) → k < r.steps → InSome (tiles a (b ∷ bs)) (point (r.step k).at) → IsTubeCorner r hs (r.step k).at
+    pub event_corner : (k : ℕ) → k < r.steps → InSomeTile (tiles a (b ∷ bs)) (point (r.step k).at) → IsTubeCorner r hs (r.step k).at
     event_corner k l inside =
         let v = (r.step k).at in
         elim (look Half (λ h. IsEnd (r.edge (edge_of h)) v) hs (λ h. decide_either _ _ (decide_point (r.edge (edge_of h)).low v) (decide_point (r.edge (edge_of h)).high v))) [

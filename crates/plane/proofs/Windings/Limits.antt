@@ -9,7 +9,7 @@ use Rattle.plane.specs.Faces.Cells.{sector, sector_at, strip}
 use Rattle.plane.specs.Faces.Halves.{Half, IsMatched}
 use Rattle.plane.specs.Faces.Labels.{Labels, last_label}
 use Rattle.plane.specs.Faces.Cells.{label_of}
-use Rattle.plane.specs.Tubes.Windings.{Triangle, IsLeft, IsSteep, Bay, tiles, InTriangle, InSome, IsTiled}
+use Rattle.plane.specs.Tubes.Windings.{Tile, IsLeftTile, IsSteep, Bay, tiles, InTile, InSomeTile, IsTiled}
 use Rattle.plane.specs.Tubes.Facing.{IsDrawnTube}
 use Rattle.plane.proofs.Algebra.Scaling.{times_le}
 use Rattle.plane.proofs.ListLemmas.Lists.{each_has, has_front}
@@ -30,10 +30,10 @@ use Rattle.plane.proofs.FaceLemmas.SmallSteps.{near}
 
 -- ---- a list of triangles is closed
 -- from some number on, no place near z is within the triangles
-record IsFar (z y : Vector) (ts : List Triangle) : Type 0 where
+record IsFar (z y : Vector) (ts : List Tile) : Type 0 where
   from : ℤ
   least : pos 0 ≤ℤ from
-  far : (n : ℤ) → from ≤ℤ n → (t : Triangle) → Has t ts → IsWithin t (near n z y) → ⊥
+  far : (n : ℤ) → from ≤ℤ n → (t : Tile) → Has t ts → IsWithin t (near n z y) → ⊥
 
 -- a side below 0 at z is below 0 near z
 far_side : (z y : Vector) (e : Edge) → side e z <ℤ pos 0 → (m : ℤ) × (pos 0 ≤ℤ m) × ((n : ℤ) → m ≤ℤ n → pos 0 ≤ℤ side e (near n z y) → ⊥)
@@ -60,19 +60,19 @@ far_side z y e h = by_lt_z (pos 0) (side e y)
     minus_one : (n : ℤ) → n *ℤ (pos 0 -ℤ pos 1) ≡ pos 0 -ℤ n
     minus_one n = omega (arith, ints)
 
-decide_within : (t : Triangle) (z : Vector) → IsWithin t z ⊎ ((side_a t z <ℤ pos 0) ⊎ ((side_b t z <ℤ pos 0) ⊎ (side_c t z <ℤ pos 0)))
+decide_within : (t : Tile) (z : Vector) → IsWithin t z ⊎ ((side_a t z <ℤ pos 0) ⊎ ((side_b t z <ℤ pos 0) ⊎ (side_c t z <ℤ pos 0)))
 decide_within t z =
     by_lt_z (side_a t z) (pos 0) (λ l. inr (inl l)) (λ a.
     by_lt_z (side_b t z) (pos 0) (λ l. inr (inr (inl l))) (λ b.
     by_lt_z (side_c t z) (pos 0) (λ l. inr (inr (inr l))) (λ c. inl (a, b, c))))
 
-far_one : (t : Triangle) (z y : Vector) → (side_a t z <ℤ pos 0) ⊎ ((side_b t z <ℤ pos 0) ⊎ (side_c t z <ℤ pos 0)) → (m : ℤ) × (pos 0 ≤ℤ m) × ((n : ℤ) → m ≤ℤ n → IsWithin t (near n z y) → ⊥)
+far_one : (t : Tile) (z y : Vector) → (side_a t z <ℤ pos 0) ⊎ ((side_b t z <ℤ pos 0) ⊎ (side_c t z <ℤ pos 0)) → (m : ℤ) × (pos 0 ≤ℤ m) × ((n : ℤ) → m ≤ℤ n → IsWithin t (near n z y) → ⊥)
 far_one t z y (inl h) = let f = far_side z y _ h in (f.0, f.1, λ n k w. f.2 n k w.0)
 far_one t z y (inr (inl h)) = let f = far_side z y _ h in (f.0, f.1, λ n k w. f.2 n k w.1)
 far_one t z y (inr (inr h)) = let f = far_side z y _ h in (f.0, f.1, λ n k w. f.2 n k w.2)
 
 -- z is within one of the triangles, or they are far from it
-within_or_far : (z y : Vector) (ts : List Triangle) → ((t : Triangle) × Has t ts × IsWithin t z) ⊎ IsFar z y ts
+within_or_far : (z y : Vector) (ts : List Tile) → ((t : Tile) × Has t ts × IsWithin t z) ⊎ IsFar z y ts
 within_or_far z y [] = inr (record { from = pos 0; least = omega (arith, ints); far = λ n k t m w. m })
 within_or_far z y (t ∷ ts) = elim (within_or_far z y ts) [
   | inl h ↦ inl (h.0, inr h.1, h.2)
@@ -86,14 +86,14 @@ within_or_far z y (t ∷ ts) = elim (within_or_far z y ts) [
           from = f.from +ℤ g.0;
           least = omega (arith, ints, a, b);
           far = λ n k u m w. elim m [
-            | inl q ↦ g.2 n (omega (arith, ints, a, k)) (subst (λ (x : Triangle). IsWithin x (near n z y)) q w)
+            | inl q ↦ g.2 n (omega (arith, ints, a, k)) (subst (λ (x : Tile). IsWithin x (near n z y)) q w)
             | inr i ↦ f.far n (omega (arith, ints, b, k)) u i w
           ];
         })
   ]
 ]
 
-pub tiles_closed : (w : ℤ) (z y : Vector) (ts : List Triangle) → Place z → Place y → IsTiled w ts → ((n : ℤ) → pos 0 ≤ℤ n → InSome ts (near n z y)) → InSome ts z
+pub tiles_closed : (w : ℤ) (z y : Vector) (ts : List Tile) → Place z → Place y → IsTiled w ts → ((n : ℤ) → pos 0 ≤ℤ n → InSomeTile ts (near n z y)) → InSomeTile ts z
 tiles_closed w z y ts Z Y tiled h = elim (within_or_far z y ts) [
   | inl k ↦ (k.0, k.1, within_triangle k.0 z Z (left k.0 k.1) k.2)
   | inr f ↦
@@ -101,22 +101,22 @@ tiles_closed w z y ts Z Y tiled h = elim (within_or_far z y ts) [
       absurd (f.far f.from (omega (arith, ints)) i.0 i.1 (triangle_within i.0 (near f.from z y) (near_place f.from z y f.least Z Y) (left i.0 i.1) i.2))
 ]
   where
-    left : (t : Triangle) → Has t ts → IsLeft t
-    left t m = (each_has (λ u. IsLeft u × IsSteep w u) ts t tiled m).0
+    left : (t : Tile) → Has t ts → IsLeftTile t
+    left t m = (each_has (λ u. IsLeftTile u × IsSteep w u) ts t tiled m).0
 
-not_within : (t : Triangle) (z : Vector) → (side_a t z <ℤ pos 0) ⊎ ((side_b t z <ℤ pos 0) ⊎ (side_c t z <ℤ pos 0)) → IsWithin t z → ⊥
+not_within : (t : Tile) (z : Vector) → (side_a t z <ℤ pos 0) ⊎ ((side_b t z <ℤ pos 0) ⊎ (side_c t z <ℤ pos 0)) → IsWithin t z → ⊥
 not_within t z (inl h) w = let x = w.0 in omega (arith, ints, x, h)
 not_within t z (inr (inl h)) w = let x = w.1 in omega (arith, ints, x, h)
 not_within t z (inr (inr h)) w = let x = w.2 in omega (arith, ints, x, h)
 
-pub decide_in_some : (w : ℤ) (z : Vector) (ts : List Triangle) → Place z → IsTiled w ts → Decided (InSome ts z)
+pub decide_in_some : (w : ℤ) (z : Vector) (ts : List Tile) → Place z → IsTiled w ts → Decided (InSomeTile ts z)
 decide_in_some w z [] Z h = inr (λ s. s.1)
 decide_in_some w z (t ∷ ts) Z h = elim (decide_in_some w z ts Z h.1) [
   | inl s ↦ inl (s.0, inr s.1, s.2)
   | inr n ↦ elim (decide_within t z) [
     | inl k ↦ inl (t, inl refl, within_triangle t z Z h.0.0 k)
     | inr k ↦ inr (λ s. elim s.1 [
-      | inl q ↦ not_within t z k (triangle_within t z Z h.0.0 (subst (λ (x : Triangle). InTriangle x z) q s.2))
+      | inl q ↦ not_within t z k (triangle_within t z Z h.0.0 (subst (λ (x : Tile). InTile x z) q s.2))
       | inr m ↦ n (s.0, m, s.2)
     ])
   ]
@@ -144,7 +144,7 @@ inside_strip r k z h i = record { fits = h; from = λ (j : ℕ) (a : j < k). let
 module _ (r : Replay) (whole : IsWhole r) (lab : Labels) (matched : IsMatched r lab) where
   -- a place in the closure of a cell with the tube's label is in the tube
   pub close_in_tube : (t : ℕ) (a : Point) (b : Bay) (bs : List Bay) (hs : List Half) → IsDrawnTube r lab t a b bs hs
-      → (k : ℕ) (lower upper : List ℕ) (z : Vector) → Place z → IsClose r k lower upper z → last_label lab 0 lower ≡ t → InSome (tiles a (b ∷ bs)) z
+      → (k : ℕ) (lower upper : List ℕ) (z : Vector) → Place z → IsClose r k lower upper z → last_label lab 0 lower ≡ t → InSomeTile (tiles a (b ∷ bs)) z
   close_in_tube t a b bs hs tube k lower upper z Z close label =
       let c = centre r whole.run whole.law (record { strip = k; index = length lower })
       (record { strip = close.fits; index = subst (λ (es : List ℕ). length lower ≤ length es) (sym close.is) (length_fits lower upper) }) in

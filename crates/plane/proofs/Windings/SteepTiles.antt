@@ -7,7 +7,7 @@ use Rattle.plane.specs.Forms.Vectors.{Vector, point, Edge, side, sweep}
 use Rattle.plane.specs.Faces.Replays.{Replay, IsRun, reach}
 use Rattle.plane.specs.Faces.Halves.{Half, under, over, edge_of}
 use Rattle.plane.specs.Tubes.Bays.{Bay}
-use Rattle.plane.specs.Tubes.Windings.{arrow, Triangle, IsLeft, IsSteep, IsTiled, strips, tiles, fence, bounds}
+use Rattle.plane.specs.Tubes.Windings.{arrow, Tile, IsLeftTile, IsSteep, IsTiled, strips, tiles, fence, bounds}
 use Rattle.plane.specs.Tubes.Facing.{way}
 use Rattle.plane.proofs.Algebra.Ring.{at, num, minus, times, vars, ring}
 use Rattle.plane.proofs.Linear.Vectors.{side-low, side-high}
@@ -15,7 +15,7 @@ use Rattle.plane.proofs.Windings.Under.{by_order}
 
 -- ---- what holds where bounds begin holds at all corners
 module _ (Q : Point → Type 0) where
-  abbrev HasCorners : Triangle → Type 0
+  abbrev HasCorners : Tile → Type 0
   HasCorners t = Q t.a × Q t.b × Q t.c
 
   starts : (p u : Point) (ks : List Bay) → ((e : Edge) → Has e (fence p u ks) → Q e.low) → Q p
@@ -47,13 +47,13 @@ side_flat p z =
 not_flat : (s : ℤ) → pos 0 <ℤ s → s ≡ pos 0 → ⊥
 not_flat s l e = omega (arith, ints, l, e)
 
-ab_differ : (t : Triangle) → IsLeft t → t.a ≡ t.b → ⊥
+ab_differ : (t : Tile) → IsLeftTile t → t.a ≡ t.b → ⊥
 ab_differ t l e = not_flat _ l (ap (λ (p : Point). side (arrow t.a p) (point t.c)) (sym e) ∙ side_flat t.a (point t.c))
 
-bc_differ : (t : Triangle) → IsLeft t → t.b ≡ t.c → ⊥
+bc_differ : (t : Tile) → IsLeftTile t → t.b ≡ t.c → ⊥
 bc_differ t l e = not_flat _ l (ap (λ (p : Point). side (arrow t.a t.b) (point p)) (sym e) ∙ side-high (arrow t.a t.b))
 
-ca_differ : (t : Triangle) → IsLeft t → t.c ≡ t.a → ⊥
+ca_differ : (t : Tile) → IsLeftTile t → t.c ≡ t.a → ⊥
 ca_differ t l e = not_flat _ l (ap (λ (p : Point). side (arrow t.a t.b) (point p)) e ∙ side-low (arrow t.a t.b))
 
 -- ---- events
@@ -80,19 +80,19 @@ module _ (r : Replay) (run : IsRun r) where
   way_event (under e) l = run.ends e l
   way_event (over e) l = run.begins e l
 
-  steep : (t : Triangle) → IsLeft t → IsEvent t.a × IsEvent t.b × IsEvent t.c → IsSteep r.weight t
+  steep : (t : Tile) → IsLeftTile t → IsEvent t.a × IsEvent t.b × IsEvent t.c → IsSteep r.weight t
   steep t l h = record {
     ab = λ e. ab_differ t l (event_level t.a t.b h.0 h.1 e);
     bc = λ e. bc_differ t l (event_level t.b t.c h.1 h.2 e);
     ca = λ e. ca_differ t l (event_level t.c t.a h.2 h.0 e);
   }
 
-  all_steep : (ts : List Triangle) → Each (λ t. IsLeft t) ts → Each (λ t. IsEvent t.a × IsEvent t.b × IsEvent t.c) ts → IsTiled r.weight ts
+  all_steep : (ts : List Tile) → Each (λ t. IsLeftTile t) ts → Each (λ t. IsEvent t.a × IsEvent t.b × IsEvent t.c) ts → IsTiled r.weight ts
   all_steep [] l h = tt
   all_steep (t ∷ ts) l h = ((l.0, steep t l.0 h.0), all_steep ts l.1 h.1)
 
   -- where the bounds are half-edges of the run, and the triangles turn left
-  pub tiled : (a : Point) (ks : List Bay) (hs : List Half) → bounds a ks ≡ map (way r.edge) hs → ((h : Half) → Has h hs → edge_of h < r.edges) → Each (λ t. IsLeft t) (tiles a ks) → IsTiled r.weight (tiles a ks)
+  pub tiled : (a : Point) (ks : List Bay) (hs : List Half) → bounds a ks ≡ map (way r.edge) hs → ((h : Half) → Has h hs → edge_of h < r.edges) → Each (λ t. IsLeftTile t) (tiles a ks) → IsTiled r.weight (tiles a ks)
   tiled a ks hs e fits left = all_steep (tiles a ks) left (tiles_corners IsEvent a ks (λ f m. begin f hs fits (subst (λ (es : List Edge). Has f es) e m)))
     where
       begin : (f : Edge) (gs : List Half) → ((h : Half) → Has h gs → edge_of h < r.edges) → Has f (map (way r.edge) gs) → IsEvent f.low

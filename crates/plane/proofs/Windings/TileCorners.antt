@@ -7,7 +7,7 @@ use Rattle.plane.specs.Forms.Meets.{IsEnd}
 use Rattle.plane.specs.Faces.Replays.{Replay}
 use Rattle.plane.specs.Faces.Halves.{Half, under, over, edge_of}
 use Rattle.plane.specs.Tubes.Bays.{Bay}
-use Rattle.plane.specs.Tubes.Windings.{arrow, Triangle, strips, tiles, fence, bounds}
+use Rattle.plane.specs.Tubes.Windings.{arrow, Tile, strips, tiles, fence, bounds}
 use Rattle.plane.specs.Tubes.Facing.{way}
 use Rattle.plane.proofs.Windings.TubeCells.{from_map}
 use Rattle.plane.proofs.Windings.Whole.{IsWhole}
@@ -17,7 +17,7 @@ use Rattle.plane.proofs.ListLemmas.Lists.{has_map}
 abbrev pub AtArrow : List Edge → Point → Type 0
 AtArrow es p = (e : Edge) × Has e es × IsEnd e p
 
-pub record AreCorners (es : List Edge) (t : Triangle) : Type 0 where
+pub record AreCorners (es : List Edge) (t : Tile) : Type 0 where
   pub a : AtArrow es t.a
   pub b : AtArrow es t.b
   pub c : AtArrow es t.c
@@ -25,10 +25,10 @@ pub record AreCorners (es : List Edge) (t : Triangle) : Type 0 where
 later : (e : Edge) (es : List Edge) (p : Point) → AtArrow es p → AtArrow (e ∷ es) p
 later e es p h = (h.0, inr h.1, h.2)
 
-later_corners : (e : Edge) (es : List Edge) (t : Triangle) → AreCorners es t → AreCorners (e ∷ es) t
+later_corners : (e : Edge) (es : List Edge) (t : Tile) → AreCorners es t → AreCorners (e ∷ es) t
 later_corners e es t h = record { a = later e es t.a h.a; b = later e es t.b h.b; c = later e es t.c h.c }
 
-strip_corners : (p u : Point) (ks : List Bay) (t : Triangle) → Has t (strips p u ks) → AreCorners (fence p u ks) t
+strip_corners : (p u : Point) (ks : List Bay) (t : Tile) → Has t (strips p u ks) → AreCorners (fence p u ks) t
 strip_corners p u [] t m = absurd m
 strip_corners p u (k ∷ ks) t (inl e) = subst (AreCorners (fence p u (k ∷ ks))) (sym e) (record {
   a = (arrow k.outer u, inr (inl refl), inr refl);
@@ -43,7 +43,7 @@ strip_corners p u (k ∷ ks) t (inr (inl e)) = subst (AreCorners (fence p u (k �
 strip_corners p u (k ∷ ks) t (inr (inr m)) =
     later_corners (arrow p k.inner) (arrow k.outer u ∷ fence k.inner k.outer ks) t (later_corners (arrow k.outer u) (fence k.inner k.outer ks) t (strip_corners k.inner k.outer ks t m))
 
-pub tile_corners : (a : Point) (ks : List Bay) (t : Triangle) → Has t (tiles a ks) → AreCorners (bounds a ks) t
+pub tile_corners : (a : Point) (ks : List Bay) (t : Tile) → Has t (tiles a ks) → AreCorners (bounds a ks) t
 tile_corners a [] t m = absurd m
 tile_corners a (k ∷ ks) t (inl e) = subst (AreCorners (bounds a (k ∷ ks))) (sym e) (record {
   a = (arrow a k.inner, inl refl, inl refl);

@@ -4,7 +4,7 @@ use Rattle.std.proofs.lemmas.Int.{ints, by_lt_z}
 use Rattle.plane.specs.declared.kinds.Point.{Point}
 use Rattle.plane.specs.Lists.{Has}
 use Rattle.plane.specs.Forms.Vectors.{Vector, Place, Same, Between, mix, point, Edge, side}
-use Rattle.plane.specs.Tubes.Windings.{arrow, back, lead, Triangle, round, IsLeft, IsSteep, winding, IsTiled, IsClearOf}
+use Rattle.plane.specs.Tubes.Windings.{arrow, back, lead, Tile, round, IsLeftTile, IsSteep, winding, IsTiled, IsClearOf}
 use Rattle.plane.proofs.Algebra.Laws.{product_positive, product_comm}
 use Rattle.plane.proofs.Algebra.Scaling.{times_le, cancel_le, cancel_lt, cancel_zero, product_of_zero}
 use Rattle.plane.proofs.Linear.OnePlace.{side_same}
@@ -55,7 +55,7 @@ positive_from m n a v M N V e =
     let z : m *ℤ pos 0 ≡ pos 0 = omega (arith, ints) in
     cancel_lt m (pos 0) a M (omega (arith, ints, p, e, z))
 
-inner_a : (t : Triangle) (z : Vector) → Place z → Inner z t.a t.b → side_a t z ≡ pos 0
+inner_a : (t : Tile) (z : Vector) → Place z → Inner z t.a t.b → side_a t z ≡ pos 0
 inner_a t z Z h =
     let e = arrow t.a t.b in
     let l = product_of_zero h.s (side e (point t.a)) (side-low e) in
@@ -63,14 +63,14 @@ inner_a t z Z h =
     cancel_zero ((h.s *ℤ pos 1) +ℤ (h.t *ℤ pos 1)) (side e z) (inner_weight z t.a t.b h)
     (inner_side z t.a t.b e Z h ∙ product_of_zero z.n _ (omega (arith, ints, l, r)))
 
-inner_b : (t : Triangle) (z : Vector) → Place z → IsLeft t → Inner z t.a t.b → pos 0 <ℤ side_b t z
+inner_b : (t : Tile) (z : Vector) → Place z → IsLeftTile t → Inner z t.a t.b → pos 0 <ℤ side_b t z
 inner_b t z Z left h =
     let e = arrow t.b t.c in
     let l = product_positive h.s (side e (point t.a)) h.s_least (subst (λ (v : ℤ). pos 0 <ℤ v) (sym (area_next t)) left) in
     let r = product_of_zero h.t (side e (point t.b)) (side-low e) in
     positive_from ((h.s *ℤ pos 1) +ℤ (h.t *ℤ pos 1)) z.n (side e z) _ (inner_weight z t.a t.b h) Z (omega (arith, ints, l, r)) (inner_side z t.a t.b e Z h)
 
-inner_c : (t : Triangle) (z : Vector) → Place z → IsLeft t → Inner z t.a t.b → pos 0 <ℤ side_c t z
+inner_c : (t : Tile) (z : Vector) → Place z → IsLeftTile t → Inner z t.a t.b → pos 0 <ℤ side_c t z
 inner_c t z Z left h =
     let e = arrow t.c t.a in
     let l = product_positive h.t (side e (point t.b)) h.t_least (subst (λ (v : ℤ). pos 0 <ℤ v) (sym (area_last t)) left) in
@@ -78,24 +78,24 @@ inner_c t z Z left h =
     positive_from ((h.s *ℤ pos 1) +ℤ (h.t *ℤ pos 1)) z.n (side e z) _ (inner_weight z t.a t.b h) Z (omega (arith, ints, l, r)) (inner_side z t.a t.b e Z h)
 
 -- a triangle whose first arrow holds the place and goes against the sweep
-against : (w : ℤ) (t : Triangle) (z : Vector) → Place z → IsLeft t → Inner z t.a t.b → pos 0 <ℤ lead w t.a z → lead w t.b z ≤ℤ pos 0 → winding w z t ≡ pos 1
+against : (w : ℤ) (t : Tile) (z : Vector) → Place z → IsLeftTile t → Inner z t.a t.b → pos 0 <ℤ lead w t.a z → lead w t.b z ≤ℤ pos 0 → winding w z t ≡ pos 1
 against w t z Z left h a b = winding_edge w t z (inner_a t z Z h) (inner_b t z Z left h) (inner_c t z Z left h) a b
 
 -- ---- a triangle from its next corner on
-abbrev pub next : Triangle → Triangle
+abbrev pub next : Tile → Tile
 next t = record { a = t.b; b = t.c; c = t.a }
 
-winding_next : (w : ℤ) (z : Vector) (t : Triangle) → winding w z (next t) ≡ winding w z t
+winding_next : (w : ℤ) (z : Vector) (t : Tile) → winding w z (next t) ≡ winding w z t
 winding_next w z t = omega (arith, ints)
 
-left_next : (t : Triangle) → IsLeft t → IsLeft (next t)
+left_next : (t : Tile) → IsLeftTile t → IsLeftTile (next t)
 left_next t h = subst (λ (v : ℤ). pos 0 <ℤ v) (sym (area_next t)) h
 
-steep_next : (w : ℤ) (t : Triangle) → IsSteep w t → IsSteep w (next t)
+steep_next : (w : ℤ) (t : Tile) → IsSteep w t → IsSteep w (next t)
 steep_next w t h = record { ab = h.bc; bc = h.ca; ca = h.ab }
 
 -- the arrow is one of the triangle's, and the place is strictly between its ends
-arrow_against : (w : ℤ) (t : Triangle) (z : Vector) (p q : Point) → Place z → IsLeft t → Has (arrow p q) (round t) → Inner z p q → pos 0 <ℤ lead w p z → lead w q z ≤ℤ pos 0 → winding w z t ≡ pos 1
+arrow_against : (w : ℤ) (t : Tile) (z : Vector) (p q : Point) → Place z → IsLeftTile t → Has (arrow p q) (round t) → Inner z p q → pos 0 <ℤ lead w p z → lead w q z ≤ℤ pos 0 → winding w z t ≡ pos 1
 arrow_against w t z p q Z left (inl e) h a b =
     let x : p ≡ t.a = ap (λ (f : Edge). f.low) e in
     let y : q ≡ t.b = ap (λ (f : Edge). f.high) e in
@@ -112,19 +112,19 @@ arrow_against w t z p q Z left (inr (inr (inl e))) h a b =
 arrow_against w t z p q Z left (inr (inr (inr e))) h a b = absurd e
 
 -- ---- a tiling
-abbrev pub corners : Triangle → List Point
+abbrev pub corners : Tile → List Point
 corners t = t.a ∷ t.b ∷ t.c ∷ []
 
-abbrev pub IsShared : List Triangle → List Edge → Edge → Type 0
-IsShared ts bs e = Has e bs ⊎ ((u : Triangle) × Has u ts × Has (back e) (round u))
+abbrev pub IsShared : List Tile → List Edge → Edge → Type 0
+IsShared ts bs e = Has e bs ⊎ ((u : Tile) × Has u ts × Has (back e) (round u))
 
 abbrev pub IsHeld : List Edge → Point → Type 0
 IsHeld bs p = (e : Edge) × Has e bs × ((e.low ≡ p) ⊎ (e.high ≡ p))
 
 -- each arrow of a triangle is one of the bounds or the back of another triangle's arrow, and each corner is an end of a bound
-pub record IsTiling (ts : List Triangle) (bs : List Edge) : Type 0 where
-  pub arrows : (t : Triangle) → Has t ts → (e : Edge) → Has e (round t) → IsShared ts bs e
-  pub held : (t : Triangle) → Has t ts → (p : Point) → Has p (corners t) → IsHeld bs p
+pub record IsTiling (ts : List Tile) (bs : List Edge) : Type 0 where
+  pub arrows : (t : Tile) → Has t ts → (e : Edge) → Has e (round t) → IsShared ts bs e
+  pub held : (t : Tile) → Has t ts → (p : Point) → Has p (corners t) → IsHeld bs p
 
 -- a corner is on a bound
 at_end : (z : Vector) (p : Point) (e : Edge) → Same z (point p) → (e.low ≡ p) ⊎ (e.high ≡ p) → Between z (point e.low) (point e.high)
@@ -153,7 +153,7 @@ weights_same x n k B C A a b c m K z e f =
     let r = ring (times (at 0) (times (at 1) (at 2))) (times (times (at 0) (at 2)) (at 1)) (vars (x ∷ n ∷ k ∷ [])) refl in
     ap (λ (v : ℤ). x *ℤ v) f ∙ r ∙ ap (λ (v : ℤ). v *ℤ n) g
 
-edge_same : (t : Triangle) (z : Vector) → IsLeft t → side_a t z ≡ pos 0 → Same z (mix (side_b t z) (point t.a) (side_c t z) (point t.b))
+edge_same : (t : Tile) (z : Vector) → IsLeftTile t → side_a t z ≡ pos 0 → Same z (mix (side_b t z) (point t.a) (side_c t z) (point t.b))
 edge_same t z left a =
     let s = sides_sum t z in
     let m : ((side_b t z *ℤ pos 1) +ℤ (side_c t z *ℤ pos 1)) ≡ z.n *ℤ area t = omega (arith, ints, s, a) in
@@ -178,14 +178,14 @@ weights_first B x a n C b K z e =
     weights_last B x a n C b K z (ap (λ (v : ℤ). x *ℤ v) (omega (arith, ints)) ∙ e ∙ ap (λ (v : ℤ). v *ℤ n) (omega (arith, ints)))
 
 -- ---- the place in a triangle, off the bounds
-abbrev pub IsRounded : ℤ → Vector → List Triangle → Type 0
-IsRounded w z ts = (u : Triangle) × Has u ts × (winding w z u ≡ pos 1)
+abbrev pub IsRounded : ℤ → Vector → List Tile → Type 0
+IsRounded w z ts = (u : Tile) × Has u ts × (winding w z u ≡ pos 1)
 
-module _ (w : ℤ) (z : Vector) (ts : List Triangle) (bs : List Edge) (Z : Place z) (tiling : IsTiling ts bs) (tiled : IsTiled w ts) (clear : IsClearOf bs z) where
+module _ (w : ℤ) (z : Vector) (ts : List Tile) (bs : List Edge) (Z : Place z) (tiling : IsTiling ts bs) (tiled : IsTiled w ts) (clear : IsClearOf bs z) where
   not_held : (p : Point) → Same z (point p) → IsHeld bs p → ⊥
   not_held p h k = clear k.0 k.1 (at_end z p k.0 h k.2)
 
-  lead_other : (t : Triangle) → IsLeft t → IsSteep w t → side_a t z ≡ pos 0 → pos 0 <ℤ side_b t z → pos 0 <ℤ side_c t z
+  lead_other : (t : Tile) → IsLeftTile t → IsSteep w t → side_a t z ≡ pos 0 → pos 0 <ℤ side_b t z → pos 0 <ℤ side_c t z
       → ((pos 0 <ℤ lead w t.a z) × (lead w t.b z ≤ℤ pos 0)) ⊎ ((pos 0 <ℤ lead w t.b z) × (lead w t.a z ≤ℤ pos 0))
   lead_other t left steep a b c =
       let l = sides_lead w t z in
@@ -211,7 +211,7 @@ module _ (w : ℤ) (z : Vector) (ts : List Triangle) (bs : List Edge) (Z : Place
       let y = cancel_zero (side_c t z) (lead w t.b z) c (omega (arith, ints, l, o, p, q, p0, q0)) in
       absurd (steep.ab (lead_level w t.a t.b z Z (x ∙ sym y)))))
 
-  on_first : (t : Triangle) → IsLeft t → IsSteep w t → IsWithin t z → side_a t z ≡ pos 0 → IsShared ts bs (arrow t.a t.b) → IsHeld bs t.a → IsHeld bs t.b
+  on_first : (t : Tile) → IsLeftTile t → IsSteep w t → IsWithin t z → side_a t z ≡ pos 0 → IsShared ts bs (arrow t.a t.b) → IsHeld bs t.a → IsHeld bs t.b
       → (winding w z t ≡ pos 1) ⊎ IsRounded w z ts
   on_first t left steep h a shared ha hb =
       let hB = h.1 in
@@ -240,17 +240,17 @@ module _ (w : ℤ) (z : Vector) (ts : List Triangle) (bs : List Edge) (Z : Place
       inside b c i (inl m) = absurd (clear (arrow t.a t.b) m (inner_between z t.a t.b i))
       inside b c i (inr m) = elim (lead_other t left steep a b c) [
         | inl k ↦ inl (against w t z Z left i k.0 k.1)
-        | inr k ↦ inr (m.0, m.1, arrow_against w m.0 z t.b t.a Z (each_has (λ u. IsLeft u × IsSteep w u) ts m.0 tiled m.1).0 m.2 (inner_back z t.a t.b i) k.0 k.1)
+        | inr k ↦ inr (m.0, m.1, arrow_against w m.0 z t.b t.a Z (each_has (λ u. IsLeftTile u × IsSteep w u) ts m.0 tiled m.1).0 m.2 (inner_back z t.a t.b i) k.0 k.1)
       ]
 
-  or_here : (t : Triangle) → Has t ts → (n : ℤ) → n ≡ winding w z t → (n ≡ pos 1) ⊎ IsRounded w z ts → IsRounded w z ts
+  or_here : (t : Tile) → Has t ts → (n : ℤ) → n ≡ winding w z t → (n ≡ pos 1) ⊎ IsRounded w z ts → IsRounded w z ts
   or_here t m n e (inl h) = (t, m, sym e ∙ h)
   or_here t m n e (inr h) = h
 
   -- some triangle goes round a place of a triangle
-  pub rounded : (t : Triangle) → Has t ts → IsWithin t z → IsRounded w z ts
+  pub rounded : (t : Tile) → Has t ts → IsWithin t z → IsRounded w z ts
   rounded t m h =
-      let k = each_has (λ u. IsLeft u × IsSteep w u) ts t tiled m in
+      let k = each_has (λ u. IsLeftTile u × IsSteep w u) ts t tiled m in
       let a = h.0 in
       let b = h.1 in
       let c = h.2 in

@@ -10,7 +10,7 @@ use Rattle.plane.specs.Faces.Cells.{raised, sector, strip}
 use Rattle.plane.specs.Faces.Halves.{Half, under, over, edge_of, IsMatched}
 use Rattle.plane.specs.Faces.Labels.{Labels, Match, last_label, label_at}
 use Rattle.plane.specs.Faces.Cells.{label_of}
-use Rattle.plane.specs.Tubes.Windings.{turning, total, Bay, tiles, bounds, InSome, IsClearOf}
+use Rattle.plane.specs.Tubes.Windings.{turning, total, Bay, tiles, bounds, InSomeTile, IsClearOf}
 use Rattle.plane.specs.Tubes.Facing.{way, one_at, IsDrawnTube}
 use Rattle.plane.proofs.ListLemmas.Lists.{each_has, has_front, has_back}
 use Rattle.plane.proofs.Linear.Signs.{between_back}
@@ -60,7 +60,7 @@ module _ (r : Replay) (run : IsRun r) (law : IsLawful r) (no_repeats : (k : ℕ)
       turning_is : total (turning r.weight z) (bounds a (b ∷ bs)) ≡ one_at t (last_label lab 0 lower)
       turning_is = ap (λ (es : List Edge). total (turning r.weight z) es) tube.bounds ∙ cut_turning r run law no_repeats k z Z strip lower rest cut beneath not_beneath lab t hs matched tube.faced
 
-      pub cut_label : IsClearOf (bounds a (b ∷ bs)) z → InSome (tiles a (b ∷ bs)) z → last_label lab 0 lower ≡ t
+      pub cut_label : IsClearOf (bounds a (b ∷ bs)) z → InSomeTile (tiles a (b ∷ bs)) z → last_label lab 0 lower ≡ t
       cut_label clear s =
           let n = tube_round r.weight z a b bs Z tube.tiled clear s in
           let e = turning_is in
@@ -69,13 +69,13 @@ module _ (r : Replay) (run : IsRun r) (law : IsLawful r) (no_repeats : (k : ℕ)
             | inr q ↦ let m = q.1 in absurd (omega (arith, ints, n, e, m))
           ]
 
-      pub cut_holds : last_label lab 0 lower ≡ t → InSome (tiles a (b ∷ bs)) z
+      pub cut_holds : last_label lab 0 lower ≡ t → InSomeTile (tiles a (b ∷ bs)) z
       cut_holds q =
           let m = mark_same t (last_label lab 0 lower) q in
           tube_holds r.weight z a b bs Z tube.tiled (let e = turning_is in omega (arith, ints, e, m))
 
     -- Arc9
-    pub in_tube : (z : Vector) → Place z → IsOffEdges r z → InSome (tiles a (b ∷ bs)) z ↔ (label_of lab r (sector r z) ≡ t)
+    pub in_tube : (z : Vector) → Place z → IsOffEdges r z → InSomeTile (tiles a (b ∷ bs)) z ↔ (label_of lab r (sector r z) ≡ t)
     in_tube z Z off =
         let k = strip r z in
         let s = strip_is r run z Z in

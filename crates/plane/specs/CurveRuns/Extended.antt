@@ -8,7 +8,7 @@ use Rattle.plane.specs.Faces.Cells.{sector}
 use Rattle.plane.specs.Faces.Halves.{Half, twin, edge_of, mark}
 use Rattle.plane.specs.Faces.Labels.{Labels}
 use Rattle.plane.specs.Faces.Cells.{label_of}
-use Rattle.plane.specs.Tubes.Windings.{Bay, tiles, InSome}
+use Rattle.plane.specs.Tubes.Windings.{Bay, tiles, InSomeTile}
 use Rattle.plane.specs.Tubes.Facing.{IsDrawnTube, IsClean, tip}
 
 -- the tubes by number: the label of each, its first point, its bays, the half-edges that face it from within,
@@ -24,8 +24,8 @@ pub record Tubes : Type 0 where
   pub outer : ℕ → ℕ
   pub form : ℕ → Vector → ℤ
 
-abbrev pub InTube : Tubes → ℕ → Vector → Type 0
-InTube T c z = InSome (tiles (T.first c) (T.bay c ∷ T.bays c)) z
+abbrev pub InTubeAt : Tubes → ℕ → Vector → Type 0
+InTubeAt T c z = InSomeTile (tiles (T.first c) (T.bay c ∷ T.bays c)) z
 
 -- the place is an end of the half arc
 abbrev pub AtArcEnd : Tubes → ℕ → Vector → Type 0
@@ -46,17 +46,17 @@ pub record AreTubes (r : Replay) (lab : Labels) (T : Tubes) (Meets : ℕ → Vec
   pub walls : (c : ℕ) → c < T.count → (h : Half) → Has h (T.halves c) → IsWall r lab T c h
   -- the ends of the half arc and the places of its circle in the tube are on it
   pub ends : (c : ℕ) → c < T.count → (z : Vector) → Place z → AtArcEnd T c z → Meets c z z
-  pub circle : (c : ℕ) → c < T.count → (z : Vector) → Place z → InTube T c z → T.form c z ≡ pos 0 → Meets c z z
+  pub circle : (c : ℕ) → c < T.count → (z : Vector) → Place z → InTubeAt T c z → T.form c z ≡ pos 0 → Meets c z z
   -- a segment in the tube that does not hit the half arc keeps the sign of the form
   pub kept : (c : ℕ) → c < T.count → (p q : Vector) → Place p → Place q
-      → ((s t : ℤ) → pos 0 ≤ℤ s → pos 0 ≤ℤ t → pos 0 <ℤ (s +ℤ t) → InTube T c (mix s p t q))
+      → ((s t : ℤ) → pos 0 ≤ℤ s → pos 0 ≤ℤ t → pos 0 <ℤ (s +ℤ t) → InTubeAt T c (mix s p t q))
       → (Meets c p q → ⊥) → (Meets c q p → ⊥) → T.form c p <ℤ pos 0 → pos 0 <ℤ T.form c q → ⊥
 
 -- the label of a place off the curves: in a tube that of its side, else its cell's
 abbrev pub HasLabel : Replay → Labels → Tubes → Vector → ℕ → Type 0
 HasLabel r lab T z l =
-    ((c : ℕ) × (c < T.count) × InTube T c z × (((T.form c z <ℤ pos 0) × (l ≡ T.inner c)) ⊎ ((pos 0 <ℤ T.form c z) × (l ≡ T.outer c))))
-    ⊎ (((c : ℕ) → c < T.count → InTube T c z → ⊥) × IsOffEdges r z × (l ≡ label_of lab r (sector r z)))
+    ((c : ℕ) × (c < T.count) × InTubeAt T c z × (((T.form c z <ℤ pos 0) × (l ≡ T.inner c)) ⊎ ((pos 0 <ℤ T.form c z) × (l ≡ T.outer c))))
+    ⊎ (((c : ℕ) → c < T.count → InTubeAt T c z → ⊥) × IsOffEdges r z × (l ≡ label_of lab r (sector r z)))
 
 -- z is a mix of p and q
 pub record IsOnWay (p q z : Vector) : Type 0 where

@@ -1,5 +1,5 @@
 -- The face numbers of places and points in a run over the edge list of a drawing with half arcs.
-use Rattle.std.specs.Prelude.{◌≡◌, ◌⊎◌, ℕ, ◌<◌, List, length}
+use Rattle.std.specs.Prelude.{◌≡◌, ◌⊎◌, ℕ, List}
 use Rattle.plane.specs.declared.kinds.Point.{Point}
 use Rattle.plane.specs.Forms.Vectors.{Vector}
 use Rattle.plane.specs.Rule.Plans.{Plan}

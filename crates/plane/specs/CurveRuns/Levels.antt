@@ -11,7 +11,7 @@ use Rattle.plane.specs.Forms.Meets.{IsEnd}
 use Rattle.plane.specs.Rule.BadPairs.{IsEndOf, HaveSameEnds}
 use Rattle.plane.specs.Faces.Halves.{Half, edge_of, twin}
 use Rattle.plane.specs.Tubes.Bays.{Bay, IsSome}
-use Rattle.plane.specs.Tubes.Windings.{Triangle, InTriangle, tiles, IsCornerOf}
+use Rattle.plane.specs.Tubes.Windings.{Tile, InTile, tiles, IsCornerOf}
 use Rattle.plane.specs.CurveRuns.TubedRuns.{IsTubedRun, owned, IsOfTube, inner, outer, half_within, tube_label, first_edge, later_bays}
 use Rattle.plane.specs.Runs.Steps.{Step}
 
@@ -23,7 +23,7 @@ AreWide d bays = (i : ℕ) → i < length d.curves → (curve d i).kind ≡ kind
 -- run with tubes
 pub record IsSettledRun (d : Plan) (bays : ℕ → List Bay) (m : ℕ) (E : ℕ → Edge) : Type 0 where
   -- No end of an edge lies in a triangle of a tube except as a corner of it.
-  pub enter : (e : ℕ) → e < m → (p : Point) → IsEnd (E e) p → (i : ℕ) → i < length d.curves → (curve d i).kind ≡ kind.HalfArc → (t : Triangle) → Has t (tiles (curve d i).from (bays i)) → InTriangle t (point p) → IsCornerOf t p
+  pub enter : (e : ℕ) → e < m → (p : Point) → IsEnd (E e) p → (i : ℕ) → i < length d.curves → (curve d i).kind ≡ kind.HalfArc → (t : Tile) → Has t (tiles (curve d i).from (bays i)) → InTile t (point p) → IsCornerOf t p
   -- Where a straight joins the ends of a half arc, the inner corners of the tube but the half arc's ends stand strictly over the chord.
   pub chord : (i j : ℕ) → i < length d.curves → j < length d.curves → (curve d i).kind ≡ kind.Straight → (curve d j).kind ≡ kind.HalfArc → HaveSameEnds (curve d i) (curve d j) → (b : Bay) → Has b (bays j)
       → IsEndOf (curve d j) b.inner ⊎ (pos 0 <ℤ bow (arc (curve d j)) (point b.inner))

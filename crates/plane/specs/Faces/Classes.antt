@@ -8,18 +8,18 @@ use Rattle.plane.specs.Faces.Cells.{label_of, Sector, IsSector, IsBorder}
 use Rattle.plane.specs.Faces.Halves.{Half, under, over, edge_of, twin, mark, Beside}
 
 -- ---- rotation
-abbrev pub outward : List ℕ → List Half
-outward [] = []
-outward (e ∷ es) = over e ∷ outward es
+abbrev pub starting_halves : List ℕ → List Half
+starting_halves [] = []
+starting_halves (e ∷ es) = over e ∷ starting_halves es
 
-abbrev pub inward : List ℕ → List Half
-inward [] = []
-inward (e ∷ es) = inward es ++ (under e ∷ [])
+abbrev pub ending_halves : List ℕ → List Half
+ending_halves [] = []
+ending_halves (e ∷ es) = ending_halves es ++ (under e ∷ [])
 
 -- the half-edges that start at the step's event, counterclockwise from the direction straight down:
 -- those of the starting edges from bottom to top, then those of the ending edges from top to bottom
 abbrev pub fan : Step → List Half
-fan s = outward s.starting ++ inward s.ending
+fan s = starting_halves s.starting ++ ending_halves s.ending
 
 abbrev pub IsFirst : {X : Type 0} → X → List X → Type 0
 IsFirst x [] = ⊥

@@ -85,12 +85,12 @@ pub record IsTube (h : HalfArc) (bs : List Bay) : Type 0 where
   pub some : IsSome bs
 
 -- the straight from p to q without its ends is strictly inside the circle
-abbrev pub IsInside : HalfArc → Point → Point → Type 0
-IsInside h p q = (s t : ℤ) → pos 0 <ℤ s → pos 0 <ℤ t → power h (mix s (point p) t (point q)) <ℤ pos 0
+abbrev pub RunsInside : HalfArc → Point → Point → Type 0
+RunsInside h p q = (s t : ℤ) → pos 0 <ℤ s → pos 0 <ℤ t → power h (mix s (point p) t (point q)) <ℤ pos 0
 
 -- the straight from p to q without its ends is strictly outside, and on the arc's side of the chord
-abbrev pub IsOutside : HalfArc → Point → Point → Type 0
-IsOutside h p q = (s t : ℤ) → pos 0 <ℤ s → pos 0 <ℤ t → (pos 0 <ℤ power h (mix s (point p) t (point q))) × (pos 0 <ℤ bow h (mix s (point p) t (point q)))
+abbrev pub RunsOutside : HalfArc → Point → Point → Type 0
+RunsOutside h p q = (s t : ℤ) → pos 0 <ℤ s → pos 0 <ℤ t → (pos 0 <ℤ power h (mix s (point p) t (point q))) × (pos 0 <ℤ bow h (mix s (point p) t (point q)))
 
 -- the outer corner is strictly outside, and on the arc's side of the chord
 abbrev pub IsOuterCorner : HalfArc → Bay → Type 0

@@ -32,25 +32,25 @@ abbrev pub total : {X : Type 0} → (X → ℤ) → List X → ℤ
 total f [] = pos 0
 total f (x ∷ xs) = f x +ℤ total f xs
 
-pub record Triangle : Type 0 where
+pub record Tile : Type 0 where
   pub a : Point
   pub b : Point
   pub c : Point
 
 -- The point is a corner of the triangle.
-abbrev pub IsCornerOf : Triangle → Point → Type 0
+abbrev pub IsCornerOf : Tile → Point → Type 0
 IsCornerOf t p = (p ≡ t.a) ⊎ ((p ≡ t.b) ⊎ (p ≡ t.c))
 
 -- its arrows, in order
-abbrev pub round : Triangle → List Edge
+abbrev pub round : Tile → List Edge
 round t = arrow t.a t.b ∷ arrow t.b t.c ∷ arrow t.c t.a ∷ []
 
 -- the corners turn left
-abbrev pub IsLeft : Triangle → Type 0
-IsLeft t = pos 0 <ℤ side (arrow t.a t.b) (point t.c)
+abbrev pub IsLeftTile : Tile → Type 0
+IsLeftTile t = pos 0 <ℤ side (arrow t.a t.b) (point t.c)
 
 -- no arrow of it lies along a sweep line
-pub record IsSteep (w : ℤ) (t : Triangle) : Type 0 where
+pub record IsSteep (w : ℤ) (t : Tile) : Type 0 where
   pub ab : sweep w (point t.a) ≡ sweep w (point t.b) → ⊥
   pub bc : sweep w (point t.b) ≡ sweep w (point t.c) → ⊥
   pub ca : sweep w (point t.c) ≡ sweep w (point t.a) → ⊥
@@ -63,7 +63,7 @@ weighed r a s b t c = record {
 }
 
 -- the place is a mean of the corners
-pub record InTriangle (t : Triangle) (z : Vector) : Type 0 where
+pub record InTile (t : Tile) (z : Vector) : Type 0 where
   pub of_a : ℤ
   pub of_b : ℤ
   pub of_c : ℤ
@@ -74,17 +74,17 @@ pub record InTriangle (t : Triangle) (z : Vector) : Type 0 where
   pub is : Same z (weighed of_a t.a of_b t.b of_c t.c)
 
 -- how often the triangle goes round z
-abbrev pub winding : ℤ → Vector → Triangle → ℤ
+abbrev pub winding : ℤ → Vector → Tile → ℤ
 winding w z t = (turning w z (arrow t.a t.b) +ℤ turning w z (arrow t.b t.c)) +ℤ turning w z (arrow t.c t.a)
 
 -- ---- a tube: from its first point on, in turn the next point of the outer chain and the next one of the inner chain
 
 -- the triangles from the diagonal between the inner point p and the outer point u on
-abbrev pub strips : Point → Point → List Bay → List Triangle
+abbrev pub strips : Point → Point → List Bay → List Tile
 strips p u [] = []
 strips p u (k ∷ ks) = record { a = u; b = p; c = k.outer } ∷ record { a = p; b = k.inner; c = k.outer } ∷ strips k.inner k.outer ks
 
-abbrev pub tiles : Point → List Bay → List Triangle
+abbrev pub tiles : Point → List Bay → List Tile
 tiles a [] = []
 tiles a (k ∷ ks) = record { a = a; b = k.inner; c = k.outer } ∷ strips k.inner k.outer ks
 
@@ -97,12 +97,12 @@ abbrev pub bounds : Point → List Bay → List Edge
 bounds a ks = fence a a ks
 
 -- the place is in some triangle of the list
-abbrev pub InSome : List Triangle → Vector → Type 0
-InSome ts z = (t : Triangle) × Has t ts × InTriangle t z
+abbrev pub InSomeTile : List Tile → Vector → Type 0
+InSomeTile ts z = (t : Tile) × Has t ts × InTile t z
 
 -- all triangles are right for the weight
-abbrev pub IsTiled : ℤ → List Triangle → Type 0
-IsTiled w ts = Each (λ t. IsLeft t × IsSteep w t) ts
+abbrev pub IsTiled : ℤ → List Tile → Type 0
+IsTiled w ts = Each (λ t. IsLeftTile t × IsSteep w t) ts
 
 -- the place is on no arrow of the list
 abbrev pub IsClearOf : List Edge → Vector → Type 0
