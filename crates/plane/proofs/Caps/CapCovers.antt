@@ -5,7 +5,8 @@ use Rattle.plane.specs.declared.kinds.Point.{Point}
 use Rattle.plane.specs.Forms.Vectors.{Vector, Place, mix, Edge, side}
 use Rattle.plane.specs.Tubes.Caps.{Cap, IsCap, shape, InSlab}
 use Rattle.plane.specs.Tubes.Bays.{Bay, InBays, InTube}
-use Rattle.plane.specs.Tubes.CapStrips.{line, IsCapStrip, AtInner}
+use Rattle.plane.specs.Tubes.CapStrips.{line, AtInner}
+use Rattle.plane.proofs.Caps.StripWords.{IsCapStrip}
 use Rattle.plane.specs.Tubes.Regions.{NotUnder}
 use Rattle.plane.proofs.Algebra.Laws.{product_positive, product_nonnegative, weight_at_most, product-sum}
 use Rattle.plane.proofs.Algebra.Scaling.{product_of_zero}

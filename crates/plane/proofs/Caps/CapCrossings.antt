@@ -5,7 +5,8 @@ use Rattle.plane.specs.declared.kinds.Point.{Point}
 use Rattle.plane.specs.Forms.Vectors.{Vector, Place, mix, Edge, side}
 use Rattle.plane.specs.Tubes.Caps.{Cap}
 use Rattle.plane.specs.Tubes.Bays.{Bay, InBays}
-use Rattle.plane.specs.Tubes.CapStrips.{line, InColumn, IsArch, IsCapStrip, AtInner}
+use Rattle.plane.specs.Tubes.CapStrips.{line, InColumn, AtInner}
+use Rattle.plane.proofs.Caps.StripWords.{IsArch, IsCapStrip}
 use Rattle.plane.proofs.Algebra.Laws.{product_positive, product_nonnegative, weight_at_most, product-sum}
 use Rattle.plane.proofs.Algebra.Scaling.{product-difference}
 use Rattle.plane.proofs.Linear.Signs.{mix_place, span_low, span_high}

@@ -5,7 +5,8 @@ use Rattle.plane.specs.declared.kinds.Point.{Point}
 use Rattle.plane.specs.Forms.Vectors.{Vector, Place, point, mix, side}
 use Rattle.plane.specs.Tubes.Caps.{Cap, IsCap, shape}
 use Rattle.plane.specs.Tubes.Bays.{Bay}
-use Rattle.plane.specs.Tubes.CapStrips.{line, InColumn, IsFence, IsDip, IsCapStrip, IsUnder, AtInner}
+use Rattle.plane.specs.Tubes.CapStrips.{line, InColumn, IsUnder, AtInner}
+use Rattle.plane.proofs.Caps.StripWords.{IsFence, IsDip, IsCapStrip}
 use Rattle.plane.specs.Tubes.Regions.{NotUnder}
 use Rattle.plane.proofs.Algebra.Laws.{product_positive, product_nonnegative, square_nonnegative}
 use Rattle.plane.proofs.Linear.Signs.{mix_place}

@@ -2,7 +2,8 @@
 use Rattle.std.proofs.Common.{◌≡◌, ℤ, pos, ◌+ℤ◌, ◌*ℤ◌, ◌-ℤ◌, ◌<ℤ◌, ◌≤ℤ◌, ◌⊎◌, inl, inr, [], ◌∷◌, refl, arith, ap, ◌∙◌, subst, sym}
 use Rattle.std.proofs.lemmas.Int.{ints, by_lt_z}
 use Rattle.plane.specs.Forms.Vectors.{Vector, Place, Same, mix}
-use Rattle.plane.specs.Tubes.Caps.{Cap, IsCap, shape, InSlab, IsOver}
+use Rattle.plane.specs.Tubes.Caps.{Cap, IsCap, shape, InSlab}
+use Rattle.plane.proofs.Caps.CapWords.{IsOver}
 use Rattle.plane.proofs.Algebra.Laws.{product_positive, product_nonnegative}
 use Rattle.plane.proofs.Algebra.Scaling.{times_le, times_lt, cancel_le, cancel_lt}
 use Rattle.plane.proofs.Linear.Signs.{mix_place, span_high}

@@ -3,7 +3,8 @@ use Rattle.std.proofs.Common.{◌≡◌, ℤ, pos, ◌+ℤ◌, ◌*ℤ◌, ◌-�
 use Rattle.std.proofs.lemmas.Int.{ints, by_lt_z}
 use Rattle.plane.specs.declared.kinds.Point.{Point}
 use Rattle.plane.specs.Forms.Vectors.{Vector, Place, point, mix, side}
-use Rattle.plane.specs.Tubes.Caps.{Cap, IsCap, shape, InSlab, IsOver}
+use Rattle.plane.specs.Tubes.Caps.{Cap, IsCap, shape, InSlab}
+use Rattle.plane.proofs.Caps.CapWords.{IsOver}
 use Rattle.plane.specs.Tubes.CapStrips.{line, InColumn}
 use Rattle.plane.proofs.Algebra.Laws.{product_positive}
 use Rattle.plane.proofs.Algebra.Ring.{at, num, plus, minus, times, vars, ring}

@@ -5,7 +5,8 @@ use Rattle.plane.specs.declared.kinds.Point.{Point}
 use Rattle.plane.specs.Forms.Vectors.{Vector, Place, point, side}
 use Rattle.plane.specs.Tubes.Caps.{Cap}
 use Rattle.plane.specs.Tubes.Bays.{InTriangle, Bay, IsSome, InBays, InGaps, InTube}
-use Rattle.plane.specs.Tubes.CapStrips.{line, InColumn, IsArch, IsDip, IsCapStrip, IsUnder, AtInner}
+use Rattle.plane.specs.Tubes.CapStrips.{line, InColumn, IsUnder, AtInner}
+use Rattle.plane.proofs.Caps.StripWords.{IsArch, IsDip, IsCapStrip}
 use Rattle.plane.specs.Tubes.Regions.{NotUnder}
 use Rattle.plane.proofs.Algebra.Laws.{product_nonnegative}
 use Rattle.plane.proofs.Linear.Vectors.{side-low, side-high}

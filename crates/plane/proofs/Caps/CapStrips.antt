@@ -5,7 +5,8 @@ use Rattle.plane.specs.declared.kinds.Point.{Point}
 use Rattle.plane.specs.Forms.Vectors.{Vector, Place, point, Edge, side}
 use Rattle.plane.specs.Tubes.Caps.{Cap}
 use Rattle.plane.specs.Tubes.Bays.{InTriangle, Bay, InGaps, InTube}
-use Rattle.plane.specs.Tubes.CapStrips.{line, InColumn, IsArch, IsDip, IsCapStrip, IsUnder, AtInner}
+use Rattle.plane.specs.Tubes.CapStrips.{line, InColumn, IsUnder, AtInner}
+use Rattle.plane.proofs.Caps.StripWords.{IsArch, IsDip, IsCapStrip}
 use Rattle.plane.proofs.Algebra.Laws.{sum-product, zero-product}
 use Rattle.plane.proofs.Algebra.Scaling.{times_lt, product_of_zero}
 use Rattle.plane.proofs.Caps.CapOver.{times_most, cancel_most}

@@ -4,7 +4,8 @@ use Rattle.std.proofs.lemmas.Int.{ints, by_lt_z}
 use Rattle.plane.specs.declared.kinds.Point.{Point}
 use Rattle.plane.specs.Forms.Vectors.{Vector, Place, Same, point, mix, side}
 use Rattle.plane.specs.Forms.Arcs.{HalfArc, wide, tall, bend, chord, along, bow, seen}
-use Rattle.plane.specs.Tubes.Caps.{Cap, IsCap, IsOver, cap}
+use Rattle.plane.specs.Tubes.Caps.{Cap, IsCap, cap}
+use Rattle.plane.proofs.Caps.CapWords.{IsOver}
 use Rattle.plane.specs.Tubes.Bays.{mean, InTriangle, Bay, InBays, InGaps, InTube, outward}
 use Rattle.plane.specs.Tubes.CapStrips.{line}
 use Rattle.plane.specs.Tubes.Regions.{seen_point, seen_bays}

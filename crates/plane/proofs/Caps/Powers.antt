@@ -6,7 +6,7 @@ use Rattle.plane.specs.Forms.Vectors.{Vector, point, mix}
 use Rattle.plane.specs.Forms.Arcs.{HalfArc, wide, tall, third_x, third_y, bend, circle_x, circle_y, power, bow}
 use Rattle.plane.specs.Tubes.Caps.{IsCap, shape, cap}
 use Rattle.plane.specs.Tubes.Bays.{Bay, AreNext, distance, ahead_of_from, ahead_of_to}
-use Rattle.plane.specs.Tubes.CapStrips.{IsFence}
+use Rattle.plane.proofs.Caps.StripWords.{IsFence}
 use Rattle.plane.proofs.Algebra.Laws.{product_nonnegative, square_nonnegative}
 use Rattle.plane.proofs.Algebra.Scaling.{product_of_zero}
 use Rattle.plane.proofs.Caps.CapOver.{cancel_least}

@@ -2,8 +2,10 @@
 use Rattle.std.proofs.Common.{◌≡◌, ℤ, pos, ◌+ℤ◌, ◌*ℤ◌, ◌-ℤ◌, ◌<ℤ◌, ◌≤ℤ◌, ◌⊎◌, inl, inr, [], ◌∷◌, refl, arith, subst, sym}
 use Rattle.std.proofs.lemmas.Int.{ints, by_lt_z}
 use Rattle.plane.specs.Forms.Vectors.{Vector, Place, mix, Between}
-use Rattle.plane.specs.Forms.Arcs.{HalfArc, power, bow, seen, HitsArc, SameSign}
-use Rattle.plane.specs.Tubes.Caps.{IsCap, shape, InSlab, IsOver, cap}
+use Rattle.plane.specs.Forms.Arcs.{HalfArc, power, bow, seen, SameSign}
+use Rattle.plane.proofs.HalfArcs.HitWords.{HitsArc}
+use Rattle.plane.specs.Tubes.Caps.{IsCap, shape, InSlab, cap}
+use Rattle.plane.proofs.Caps.CapWords.{IsOver}
 use Rattle.plane.proofs.Linear.Signs.{mix_place, mix_between, between_back}
 use Rattle.plane.proofs.Algebra.Ring.{at, num, plus, times, vars, ring}
 use Rattle.plane.proofs.Caps.ChordCircle.{chord_inside}

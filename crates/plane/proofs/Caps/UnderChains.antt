@@ -5,7 +5,8 @@ use Rattle.plane.specs.declared.kinds.Point.{Point}
 use Rattle.plane.specs.Forms.Vectors.{Vector, Place, point, side}
 use Rattle.plane.specs.Tubes.Caps.{Cap}
 use Rattle.plane.specs.Tubes.Bays.{Bay, InBays, InGaps, InTube}
-use Rattle.plane.specs.Tubes.CapStrips.{line, InColumn, IsDip, IsCapStrip, IsUnder}
+use Rattle.plane.specs.Tubes.CapStrips.{line, InColumn, IsUnder}
+use Rattle.plane.proofs.Caps.StripWords.{IsDip, IsCapStrip}
 use Rattle.plane.proofs.Linear.Vectors.{side-low, side-high}
 use Rattle.plane.proofs.Caps.CapOver.{cancel_most, times_most}
 use Rattle.plane.proofs.Caps.CapStrips.{side_at_low, side_at_high, further}

@@ -1,6 +1,7 @@
 -- The labels of a certificate are face numbers; face numbers under other names are face numbers again.
 use Rattle.std.proofs.Common.{◌≡◌, ℕ, suc, ◌<◌, refl, arith, ap, sym, ◌∙◌, inl, inr, subst, length}
-use Rattle.plane.specs.Faces.Replays.{Replay, IsRun, IsLawful}
+use Rattle.plane.specs.Faces.Replays.{Replay}
+use Rattle.plane.proofs.Runs.RunWords.{IsRun, IsLawful}
 use Rattle.plane.specs.Faces.Labels.{Labels}
 use Rattle.plane.specs.Faces.Cells.{Sector, IsSector, label_of}
 use Rattle.plane.specs.Faces.Halves.{Half, under, over, edge_of, mark, Beside}

@@ -2,7 +2,8 @@
 -- A search across cells from the roots reaches every half-edge, and its links and ranks meet the rule for links.
 use Rattle.std.proofs.Common.{length, ◌≡◌, ℕ, ◌<◌, refl, arith, sym, ◌∙◌, inl, inr, subst, List}
 use Rattle.plane.specs.Lists.{Has}
-use Rattle.plane.specs.Faces.Replays.{Replay, IsRun, IsLawful}
+use Rattle.plane.specs.Faces.Replays.{Replay}
+use Rattle.plane.proofs.Runs.RunWords.{IsRun, IsLawful}
 use Rattle.plane.specs.Faces.Cells.{Sector, IsSector}
 use Rattle.plane.specs.Faces.Halves.{Half, under, over, edge_of, mark, Beside}
 use Rattle.plane.specs.Faces.Classes.{Next, Across, Touches, Crossing, same, cross, Lead, root, next, previous, across, IsLead, AreLeads, numbers, face_of}

@@ -5,7 +5,8 @@ use Rattle.std.proofs.lemmas.Int.{ints}
 use Rattle.plane.specs.declared.kinds.Point.{Point}
 use Rattle.plane.specs.Lists.{Has}
 use Rattle.plane.specs.Forms.Vectors.{Vector, Place, point, mix, Edge, side, sweep, rise, On, HitsEdge}
-use Rattle.plane.specs.Faces.Replays.{Replay, IsRun, IsLawful, IsOffEdges, IsStrip}
+use Rattle.plane.specs.Faces.Replays.{Replay, IsOffEdges}
+use Rattle.plane.proofs.Runs.RunWords.{IsRun, IsLawful, IsStrip}
 use Rattle.plane.specs.Faces.Cells.{sector, strip, raised, IsFree, Linked}
 use Rattle.plane.specs.Faces.Halves.{under, over, At, AtBefore, Beside}
 use Rattle.plane.proofs.FaceLemmas.EdgeCrossings.{IsCrossing}

@@ -2,7 +2,8 @@
 -- The cell of each end is linked to a cell beside the edge.
 use Rattle.std.proofs.Common.{ℕ, ◌<◌}
 use Rattle.plane.specs.Forms.Vectors.{Vector, Place}
-use Rattle.plane.specs.Faces.Replays.{Replay, IsRun, IsLawful}
+use Rattle.plane.specs.Faces.Replays.{Replay}
+use Rattle.plane.proofs.Runs.RunWords.{IsRun, IsLawful}
 use Rattle.plane.specs.Faces.Cells.{Sector, IsSector, sector, Linked}
 use Rattle.plane.specs.Faces.Halves.{over, under, Beside}
 use Rattle.plane.proofs.FaceLemmas.EdgeCrossings.{IsCrossing}

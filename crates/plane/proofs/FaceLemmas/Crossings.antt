@@ -4,7 +4,8 @@ use Rattle.std.proofs.Common.{◌≡◌, ℕ, suc, ◌<◌, ◌≤◌, ℤ, pos,
 use Rattle.std.proofs.lemmas.Int.{ints}
 use Rattle.plane.specs.Lists.{Has}
 use Rattle.plane.specs.Forms.Vectors.{Vector, Place, mix, side, sweep, HitsEdge}
-use Rattle.plane.specs.Faces.Replays.{Replay, IsRun, IsLawful, IsBetweenEvents, reach}
+use Rattle.plane.specs.Faces.Replays.{Replay, reach}
+use Rattle.plane.proofs.Runs.RunWords.{IsRun, IsLawful, IsBetweenEvents}
 use Rattle.plane.specs.Faces.Cells.{Sector, IsSector, sector}
 use Rattle.plane.specs.Faces.Halves.{under, over, At, Beside}
 use Rattle.plane.proofs.FaceLemmas.EdgeCrossings.{IsCrossing}

@@ -13,8 +13,10 @@ use Rattle.plane.specs.Rule.Partition.{IsClear}
 use Rattle.plane.specs.Forms.Paths.{Path}
 use Rattle.plane.specs.Forms.Paths as paths
 use Rattle.plane.specs.Forms.Segments.{IsEdgeOf, AreEdgesOf}
-use Rattle.plane.specs.Faces.Replays.{Replay, IsRun, IsOffEdges}
-use Rattle.plane.specs.Faces.Cells.{IsFree, JoinedByEdges, arrives, goes, IsOuterByEdges}
+use Rattle.plane.specs.Faces.Replays.{Replay, IsOffEdges}
+use Rattle.plane.proofs.Runs.RunWords.{IsRun}
+use Rattle.plane.specs.Faces.Cells.{IsFree, JoinedByEdges, arrives, goes}
+use Rattle.plane.proofs.Strips.OuterWords.{IsOuterByEdges}
 use Rattle.plane.proofs.FaceLemmas.EdgeCrossings.{IsCrossing}
 use Rattle.plane.specs.Rule.CrossedCurves.{CrossesCurve}
 use Rattle.std.proofs.lemmas.Int.{ints}

@@ -4,7 +4,8 @@ use Rattle.std.proofs.Common.{◌≡◌, ◌↔◌, ℕ, pos, ◌<ℤ◌}
 use Rattle.plane.specs.Forms.Vectors.{Vector, Place}
 use Rattle.plane.specs.Rule.Plans.{Plan}
 use Rattle.plane.specs.Rule.Partition.{IsOff, Joined, IsOuter}
-use Rattle.plane.specs.Faces.Replays.{Replay, IsRun, IsLawful}
+use Rattle.plane.specs.Faces.Replays.{Replay}
+use Rattle.plane.proofs.Runs.RunWords.{IsRun, IsLawful}
 use Rattle.plane.specs.Faces.Cells.{sector, corner, Linked}
 use Rattle.plane.specs.Faces.Halves.{Half}
 use Rattle.plane.specs.Faces.Classes.{IsFaces, face_of}

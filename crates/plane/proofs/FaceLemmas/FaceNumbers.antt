@@ -3,9 +3,12 @@
 use Rattle.std.proofs.Common.{◌≡◌, ◌↔◌, ℕ, zero, suc, List, [], ◌∷◌, ap, sym, ◌∙◌, inl, inr, pos, ◌<ℤ◌}
 use Rattle.plane.specs.Forms.Vectors.{Vector, Place}
 use Rattle.plane.specs.Faces.Labels.{Labels, label_at}
-use Rattle.plane.specs.Faces.Replays.{Replay, IsRun, IsLawful, IsOffEdges}
-use Rattle.plane.specs.Faces.Cells.{Sector, IsSector, corner, sector, IsBorder, Linked, JoinedByEdges, IsOuterByEdges}
-use Rattle.plane.specs.Faces.Halves.{Half, under, over, At, AtBefore, Beside, IsMatched, label_over}
+use Rattle.plane.specs.Faces.Replays.{Replay, IsOffEdges}
+use Rattle.plane.proofs.Runs.RunWords.{IsRun, IsLawful}
+use Rattle.plane.specs.Faces.Cells.{Sector, IsSector, corner, sector, IsBorder, Linked, JoinedByEdges}
+use Rattle.plane.proofs.Strips.OuterWords.{IsOuterByEdges}
+use Rattle.plane.specs.Faces.Halves.{Half, under, over, At, AtBefore, Beside, IsMatched}
+use Rattle.plane.proofs.LabelLemmas.LabelWords.{label_over}
 use Rattle.plane.specs.Faces.Classes.{IsFaces, numbers, face_of}
 use Rattle.plane.proofs.Strips.OneStrip.{linked_back, linked_join}
 use Rattle.plane.proofs.Strips.Columns.{cell_is}

@@ -3,7 +3,8 @@
 use Rattle.std.proofs.Common.{◌≡◌, ℕ, ◌<◌, List, [], length, ℤ, inl, inr, sym, ◌∙◌}
 use Rattle.plane.specs.Forms.Vectors.{Edge}
 use Rattle.plane.specs.Runs.Steps.{Step, Run}
-use Rattle.plane.specs.Faces.Replays.{Replay, IsRun, IsLawful, replay}
+use Rattle.plane.specs.Faces.Replays.{Replay, replay}
+use Rattle.plane.proofs.Runs.RunWords.{IsRun, IsLawful}
 use Rattle.plane.specs.Faces.Labels.{Labels}
 use Rattle.plane.specs.Faces.Halves.{Half, edge_of, mark}
 use Rattle.plane.specs.Faces.Classes.{Next, Crossing, same, cross, Lead, root, IsFaces, numbers}

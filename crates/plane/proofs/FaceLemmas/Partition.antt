@@ -6,7 +6,8 @@ use Rattle.plane.specs.Lists.{Each, Has}
 use Rattle.plane.specs.Forms.Vectors.{Vector, Place, point, Edge}
 use Rattle.plane.specs.Runs.Steps.{Step, Run, WeighedRun}
 use Rattle.plane.specs.Forms.Weights.{Weight}
-use Rattle.plane.specs.Faces.Replays.{Replay, IsRun, IsLawful, IsOffEdges, replay}
+use Rattle.plane.specs.Faces.Replays.{Replay, IsOffEdges, replay}
+use Rattle.plane.proofs.Runs.RunWords.{IsRun, IsLawful}
 use Rattle.plane.specs.Faces.Cells.{label_of, Sector, corner, sector, Linked}
 use Rattle.plane.specs.Faces.Halves.{Half, mark}
 use Rattle.plane.specs.Faces.Labels.{Labels}

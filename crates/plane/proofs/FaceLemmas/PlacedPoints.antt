@@ -6,7 +6,8 @@ use Rattle.plane.specs.declared.kinds.Point.{Point}
 use Rattle.plane.specs.Lists.{Has, Neighbours}
 use Rattle.plane.specs.Forms.Vectors.{point, Place, side, gap}
 use Rattle.plane.specs.Forms.Weights.{Weight}
-use Rattle.plane.specs.Faces.Replays.{Replay, IsRun, IsLawful, IsOffEdges, IsBetweenEvents}
+use Rattle.plane.specs.Faces.Replays.{Replay, IsOffEdges}
+use Rattle.plane.proofs.Runs.RunWords.{IsRun, IsLawful, IsBetweenEvents}
 use Rattle.plane.specs.Faces.Cells.{IsSector, sector}
 use Rattle.plane.specs.Faces.Halves.{At, AtBefore}
 use Rattle.plane.specs.Faces.PlacedPoints.{IsPlaced, IsLocated}

@@ -7,7 +7,8 @@ use Rattle.plane.specs.Forms.Vectors.{point, Edge}
 use Rattle.plane.specs.Rule.Plans.{Plan}
 use Rattle.plane.specs.Rule.Partition.{IsOff, Joined, IsOuter}
 use Rattle.plane.specs.Runs.Steps.{Step}
-use Rattle.plane.specs.Faces.Replays.{Replay, IsRun, IsLawful}
+use Rattle.plane.specs.Faces.Replays.{Replay}
+use Rattle.plane.proofs.Runs.RunWords.{IsRun, IsLawful}
 use Rattle.plane.specs.Faces.Replays as replays
 use Rattle.plane.specs.Faces.Cells.{Sector, corner, sector, Linked}
 use Rattle.plane.specs.Faces.PlacedPoints.{IsLocated}

@@ -2,7 +2,8 @@
 use Rattle.std.proofs.Common.{◌≡◌, ℤ, pos, ◌+ℤ◌, ◌*ℤ◌, ◌<ℤ◌, ◌≤ℤ◌, [], ◌∷◌, refl, arith, ap, sym, ◌∙◌, subst}
 use Rattle.std.proofs.lemmas.Int.{ints, by_lt_z}
 use Rattle.plane.specs.Forms.Vectors.{Vector, Place, mix}
-use Rattle.plane.specs.Forms.Arcs.{HalfArc, HitsArc, power, seen}
+use Rattle.plane.specs.Forms.Arcs.{HalfArc, power, seen}
+use Rattle.plane.proofs.HalfArcs.HitWords.{HitsArc}
 use Rattle.plane.specs.Tubes.Caps.{Cap, IsCap, cap, shape}
 use Rattle.plane.specs.CurveRuns.Extended.{IsOnWay}
 use Rattle.plane.proofs.Algebra.Laws.{product_nonnegative}

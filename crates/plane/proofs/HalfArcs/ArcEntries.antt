@@ -6,7 +6,8 @@ use Rattle.plane.specs.Forms.Vectors.{Vector, Place, Same, Between, point, mix, 
 use Rattle.plane.specs.Forms.Arcs.{HalfArc, power, bow, seen}
 use Rattle.plane.specs.Tubes.Caps.{Cap, IsCap, InSlab, cap, shape}
 use Rattle.plane.specs.Tubes.Bays.{Bay, InTriangle, InBays, InTube, IsTube, OnInner, OnOuter, AtEnds}
-use Rattle.plane.specs.Tubes.CapStrips.{line, InColumn, IsCapStrip, IsDip, IsUnder, AtInner}
+use Rattle.plane.specs.Tubes.CapStrips.{line, InColumn, IsUnder, AtInner}
+use Rattle.plane.proofs.Caps.StripWords.{IsCapStrip, IsDip}
 use Rattle.plane.specs.Tubes.Regions.{NotUnder, seen_point, seen_bay, seen_bays}
 use Rattle.plane.specs.CurveRuns.Extended.{IsOnWay}
 use Rattle.plane.proofs.Algebra.Laws.{product_positive}

@@ -2,7 +2,7 @@
 use Rattle.std.proofs.Common.{◌↔◌}
 use Rattle.plane.specs.Forms.Vectors.{Vector, Place}
 use Rattle.plane.specs.Rule.HalfArcs.{HalfArc, HitsHalfArc}
-use Rattle.plane.specs.Forms.Arcs.{HitsArc}
+use Rattle.plane.proofs.HalfArcs.HitWords.{HitsArc}
 use Rattle.plane.proofs.Linear.Straights.{between_is}
 
 pub hits_half_arc : (h : HalfArc) (p q : Vector) → Place p → Place q → HitsArc h p q → HitsHalfArc h p q

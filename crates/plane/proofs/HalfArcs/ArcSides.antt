@@ -2,7 +2,8 @@
 use Rattle.std.proofs.Common.{◌≡◌, ℤ, pos, ◌+ℤ◌, ◌*ℤ◌, ◌-ℤ◌, ◌<ℤ◌, ◌≤ℤ◌, [], ◌∷◌, refl, arith, ap, sym, ◌∙◌, subst}
 use Rattle.std.proofs.lemmas.Int.{ints, by_lt_z}
 use Rattle.plane.specs.Forms.Vectors.{Vector, Place, Same, mix}
-use Rattle.plane.specs.Forms.Arcs.{HalfArc, bend, circle_x, circle_y, power, seen, HitsArc}
+use Rattle.plane.specs.Forms.Arcs.{HalfArc, bend, circle_x, circle_y, power, seen}
+use Rattle.plane.proofs.HalfArcs.HitWords.{HitsArc}
 use Rattle.plane.specs.Tubes.Caps.{Cap, IsCap, shape, cap}
 use Rattle.plane.specs.Tubes.Windings.{Tile, InTile, weighed}
 use Rattle.plane.specs.CurveRuns.Extended.{IsOnWay}

@@ -2,7 +2,8 @@
 use Rattle.std.proofs.Common.{◌≡◌, ℤ, pos, ◌+ℤ◌, ◌*ℤ◌, ◌-ℤ◌, ◌<ℤ◌, ◌≤ℤ◌, [], ◌∷◌, refl, arith, ap, subst, sym}
 use Rattle.std.proofs.lemmas.Int.{ints, by_lt_z}
 use Rattle.plane.specs.Forms.Vectors.{Vector, Place, Same, mix}
-use Rattle.plane.specs.Forms.Arcs.{HalfArc, power, along, bow, seen, HitsArc}
+use Rattle.plane.specs.Forms.Arcs.{HalfArc, power, along, bow, seen}
+use Rattle.plane.proofs.HalfArcs.HitWords.{HitsArc}
 use Rattle.plane.specs.Tubes.Caps.{Cap, IsCap, shape, cap}
 use Rattle.plane.proofs.Algebra.Laws.{product_nonnegative, square_nonnegative}
 use Rattle.plane.proofs.Linear.Signs.{mix_place}

@@ -1,7 +1,8 @@
 -- A half arc from its other end has the same circle, the same side of its chord, and is hit by the same segments.
 use Rattle.std.proofs.Common.{◌≡◌, ◌⊎◌, inl, inr, ℤ, pos, ◌≤ℤ◌, ap, sym, ◌∙◌, subst}
 use Rattle.plane.specs.Forms.Vectors.{Vector, Place}
-use Rattle.plane.specs.Forms.Arcs.{HalfArc, power, bow, HitsArc}
+use Rattle.plane.specs.Forms.Arcs.{HalfArc, power, bow}
+use Rattle.plane.proofs.HalfArcs.HitWords.{HitsArc}
 use Rattle.plane.specs.Rule.HalfArcs.{HitsHalfArc}
 use Rattle.plane.proofs.Settling.EdgesAndTubes.{turned}
 use Rattle.plane.proofs.Linear.Straights.{straight_between}

@@ -2,10 +2,13 @@
 -- An outer place has the label 0 of the borders.
 use Rattle.std.proofs.Common.{◌≡◌, ℕ, zero, suc, ◌+◌, ◌-◌, ◌<◌, ◌≤◌, List, ◌++◌, length, refl, arith, ap, sym, ◌∙◌, inl, inr, subst}
 use Rattle.plane.specs.Forms.Vectors.{Vector, Place}
-use Rattle.plane.specs.Faces.Replays.{Replay, IsRun, IsLawful, IsOffEdges}
-use Rattle.plane.specs.Faces.Cells.{label_of, Sector, IsSector, corner, sector, IsBorder, Opens, Linked, stays, onward, back, JoinedByEdges, IsOuterByEdges}
+use Rattle.plane.specs.Faces.Replays.{Replay, IsOffEdges}
+use Rattle.plane.proofs.Runs.RunWords.{IsRun, IsLawful}
+use Rattle.plane.specs.Faces.Cells.{label_of, Sector, IsSector, corner, sector, IsBorder, Opens, Linked, stays, onward, back, JoinedByEdges}
+use Rattle.plane.proofs.Strips.OuterWords.{IsOuterByEdges}
 use Rattle.plane.specs.Faces.Labels.{Labels, Match, label_at}
-use Rattle.plane.specs.Faces.Halves.{IsMatched, label_over}
+use Rattle.plane.specs.Faces.Halves.{IsMatched}
+use Rattle.plane.proofs.LabelLemmas.LabelWords.{label_over}
 use Rattle.plane.proofs.LabelLemmas.Matches.{match_highest, at_front, at_end, over_back, sides_agree, step_match}
 use Rattle.plane.proofs.Strips.Joins.{opens_from, opens_to, joined_linked}
 use Rattle.plane.proofs.Strips.Outer.{outer_linked}

@@ -3,7 +3,7 @@
 use Rattle.std.proofs.Common.{◌≡◌, ℕ, zero, suc, ◌+◌, ◌≤◌, List, [], ◌∷◌, ◌++◌, length, refl, arith, ap, sym, subst}
 use Rattle.plane.specs.Runs.Steps.{Step, before, after}
 use Rattle.plane.specs.Faces.Labels.{Labels, Match, MatchesAt, first_label, last_label, label_at}
-use Rattle.plane.specs.Faces.Halves.{label_over}
+use Rattle.plane.proofs.LabelLemmas.LabelWords.{label_over}
 
 module _ (lab : Labels) where
   pub match_highest : (f g : ℕ) (es : List ℕ) → Match lab f es g → last_label lab f es ≡ g

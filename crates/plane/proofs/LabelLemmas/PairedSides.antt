@@ -1,7 +1,8 @@
 -- Numbers of half-edges that are equal on both sides of each cell, and 0 at the border, match as labels.
 use Rattle.std.proofs.Common.{◌≡◌, ℕ, suc, ◌+◌, ◌≤◌, List, [], ◌∷◌, ◌++◌, length, refl, arith, sym, ◌∙◌, ◌⊎◌, inl, inr, subst}
 use Rattle.plane.specs.Faces.Labels.{Match, last_label}
-use Rattle.plane.specs.Faces.Replays.{Replay, IsRun}
+use Rattle.plane.specs.Faces.Replays.{Replay}
+use Rattle.plane.proofs.Runs.RunWords.{IsRun}
 use Rattle.plane.specs.Faces.Cells.{IsSector, IsBorder}
 use Rattle.plane.specs.Faces.Halves.{Half, under, over, At, Beside, IsMatched}
 use Rattle.plane.specs.Faces.Classes.{Across, Touches, numbers}

@@ -4,7 +4,8 @@ use Rattle.std.proofs.lemmas.Int.{ints}
 use Rattle.plane.specs.declared.kinds.Point.{Point}
 use Rattle.plane.specs.Lists.{Has, Once}
 use Rattle.plane.specs.Forms.Vectors.{Vector, Place, Same, Between, point, Edge, sweep, On}
-use Rattle.plane.specs.Faces.Replays.{Replay, IsRun}
+use Rattle.plane.specs.Faces.Replays.{Replay}
+use Rattle.plane.proofs.Runs.RunWords.{IsRun}
 use Rattle.plane.specs.Faces.Halves.{Half, under, over, twin, edge_of}
 use Rattle.plane.specs.Faces.Labels.{Labels}
 use Rattle.plane.specs.Tubes.Windings.{arrow, Tile, IsLeftTile, IsSteep, Bay, strips, tiles, fence, bounds}

@@ -5,7 +5,8 @@ use Rattle.plane.specs.declared.kinds.Point.{Point}
 use Rattle.plane.specs.Forms.Vectors.{Vector, Place, point, mix}
 use Rattle.plane.specs.Lists.{Each}
 use Rattle.plane.specs.Forms.Arcs.{HalfArc, bend, power, along, bow, seen}
-use Rattle.plane.specs.Tubes.Caps.{Cap, IsCap, shape, IsOver, cap}
+use Rattle.plane.specs.Tubes.Caps.{Cap, IsCap, shape, cap}
+use Rattle.plane.proofs.Caps.CapWords.{IsOver}
 use Rattle.plane.specs.Tubes.Bays.{Bay, AreNext, IsTube, distance, ahead_of_from, ahead_of_to, RunsInside, RunsOutside, IsOuterCorner, InnerChain, OuterChain}
 use Rattle.plane.proofs.Algebra.Laws.{product_positive, product_nonnegative, square_nonnegative, positive_factor}
 use Rattle.plane.proofs.Algebra.Scaling.{product_of_zero}

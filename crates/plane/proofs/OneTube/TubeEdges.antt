@@ -7,7 +7,8 @@ use Rattle.plane.specs.Lists.{Each, Has}
 use Rattle.plane.specs.Forms.Arcs.{HalfArc, power, along, bow, seen}
 use Rattle.plane.specs.Tubes.Caps.{Cap, IsCap, InSlab, cap}
 use Rattle.plane.specs.Tubes.Bays.{InTriangle, Bay, InBays, InTube, IsTube, RunsInside, RunsOutside, IsOuterCorner, InnerChain, OuterChain, OnInner, OnOuter, AtEnds}
-use Rattle.plane.specs.Tubes.CapStrips.{InColumn, IsCapStrip, AtInner}
+use Rattle.plane.specs.Tubes.CapStrips.{InColumn, AtInner}
+use Rattle.plane.proofs.Caps.StripWords.{IsCapStrip}
 use Rattle.plane.specs.Tubes.Regions.{seen_point, seen_bay, seen_bays}
 use Rattle.plane.proofs.Algebra.Laws.{product_positive}
 use Rattle.plane.proofs.Algebra.Scaling.{cancel_zero, product_of_zero}

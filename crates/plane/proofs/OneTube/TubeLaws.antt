@@ -2,7 +2,8 @@
 use Rattle.std.proofs.Common.{◌≡◌, ℤ, pos, ◌+ℤ◌, ◌*ℤ◌, ◌<ℤ◌, ◌≤ℤ◌, List, [], ◌∷◌, refl, arith, ap, ◌∙◌, subst, sym}
 use Rattle.std.proofs.lemmas.Int.{ints}
 use Rattle.plane.specs.Forms.Vectors.{Vector, Place, Between, mix}
-use Rattle.plane.specs.Forms.Arcs.{HalfArc, power, bow, seen, HitsArc, SameSign}
+use Rattle.plane.specs.Forms.Arcs.{HalfArc, power, bow, seen, SameSign}
+use Rattle.plane.proofs.HalfArcs.HitWords.{HitsArc}
 use Rattle.plane.specs.Tubes.Caps.{cap}
 use Rattle.plane.specs.Tubes.Regions.{IsRegion, seen_point, seen_bays}
 use Rattle.plane.specs.Tubes.Bays.{Bay, InTube, IsTube, MeetsTube}

@@ -5,9 +5,10 @@ use Rattle.plane.specs.declared.kinds.Point.{Point}
 use Rattle.plane.specs.Forms.Vectors.{Vector, Place, point}
 use Rattle.plane.specs.Lists.{Each, Last, Neighbours}
 use Rattle.plane.specs.Forms.Arcs.{HalfArc, chord, power, along, bow, seen}
-use Rattle.plane.specs.Tubes.Caps.{IsCap, shape, InSlab, IsOver, cap}
+use Rattle.plane.specs.Tubes.Caps.{IsCap, shape, InSlab, cap}
+use Rattle.plane.proofs.Caps.CapWords.{IsOver}
 use Rattle.plane.specs.Tubes.Bays.{Bay, InBays, InGaps, InTube, IsBay, AreBays, AreNext, IsTube, outward, ahead_of_to}
-use Rattle.plane.specs.Tubes.CapStrips.{IsFence, IsArch, IsDip, IsCapStrip}
+use Rattle.plane.proofs.Caps.StripWords.{IsFence, IsArch, IsDip, IsCapStrip}
 use Rattle.plane.proofs.Algebra.Laws.{product_positive}
 use Rattle.plane.proofs.Caps.CapOver.{times_below}
 use Rattle.plane.proofs.Caps.Seen.{shape_below, shape_most, cap_is}

@@ -4,7 +4,8 @@ use Rattle.std.proofs.Common.{◌≡◌, ℕ, zero, suc, ◌<◌, Bool, true, fa
 use Rattle.std.proofs.lemmas.Int.{ints, by_lt_z}
 use Rattle.plane.specs.Forms.Vectors.{Edge}
 use Rattle.plane.specs.Lists.{Has, Once}
-use Rattle.plane.specs.Faces.Parity.{both, differ, either, parity, numbers_below, same_number, among, chosen}
+use Rattle.plane.specs.Faces.Parity.{both, differ, either, parity, same_number, among, chosen}
+use Rattle.plane.proofs.ParityLemmas.ParityWords.{numbers_below}
 use Rattle.plane.proofs.ParityLemmas.Wedges.{not_both}
 use Rattle.plane.proofs.ParityLemmas.Parities.{differ_false, parity_map, parity_none, parity_differ}
 

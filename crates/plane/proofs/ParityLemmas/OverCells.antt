@@ -6,9 +6,11 @@ use Rattle.plane.specs.declared.kinds.Point.{Point}
 use Rattle.plane.specs.Forms.Vectors.{Vector, Place, point, Edge, side, sweep, Before}
 use Rattle.plane.specs.Lists.{Has, Once}
 use Rattle.plane.specs.Runs.Steps.{Step, before, after, onto, WeighedRun}
-use Rattle.plane.specs.Faces.Replays.{Replay, IsOffEdges, IsStrip, replay}
+use Rattle.plane.specs.Faces.Replays.{Replay, IsOffEdges, replay}
+use Rattle.plane.proofs.Runs.RunWords.{IsStrip}
 use Rattle.plane.specs.Faces.Cells.{Sector, sector, strip, raised, Opens, Linked, JoinedByEdges}
-use Rattle.plane.specs.Faces.Parity.{flip, both, differ, parity, is_after, is_under, crosses_vertical, crosses_sweep, same_point, ends_of, EvenEnds, numbers_below, among, chosen, parity_over}
+use Rattle.plane.specs.Faces.Parity.{flip, both, differ, parity, is_under, crosses_vertical, same_point, ends_of, EvenEnds, among, chosen, parity_over}
+use Rattle.plane.proofs.ParityLemmas.ParityWords.{is_after, crosses_sweep, numbers_below}
 use Rattle.plane.proofs.Strips.CountBelow.{positive_is, not_positive}
 use Rattle.plane.proofs.Strips.Heights.{Parts}
 use Rattle.plane.proofs.Strips.OneCut.{sides, divided_parts}

@@ -6,7 +6,8 @@ use Rattle.std.proofs.lemmas.Int.{ints}
 use Rattle.plane.specs.declared.kinds.Point.{Point}
 use Rattle.plane.specs.Forms.Vectors.{Vector, Place, Edge, rise, Before, On}
 use Rattle.plane.specs.Lists.{Has}
-use Rattle.plane.specs.Faces.Parity.{flip, both, differ, parity, crosses_vertical, crosses_sweep, in_wedge, ends_of, same_whole, same_point, EvenEnds, either, one_if, tally, Even, Odd}
+use Rattle.plane.specs.Faces.Parity.{flip, both, differ, parity, crosses_vertical, ends_of, same_whole, same_point, EvenEnds, either}
+use Rattle.plane.proofs.ParityLemmas.ParityWords.{crosses_sweep, in_wedge, one_if, tally, Even, Odd}
 use Rattle.plane.specs.Faces.Cells.{is_positive}
 use Rattle.plane.proofs.ListLemmas.Points.{point_eq}
 use Rattle.plane.proofs.ParityLemmas.Wedges.{not_both, is_false, wedge_law}

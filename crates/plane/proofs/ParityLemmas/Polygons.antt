@@ -8,7 +8,8 @@ use Rattle.plane.specs.Runs.Steps.{Step, before, after, onto, AtSome, WeighedRun
 use Rattle.plane.specs.Faces.Labels.{Labels, Match, MatchesAt, label_at}
 use Rattle.plane.specs.Faces.Replays.{Replay, IsOffEdges, replay}
 use Rattle.plane.specs.Faces.Cells.{Sector, IsSector, sector, label_of}
-use Rattle.plane.specs.Faces.Parity.{flip, both, differ, either, parity, crosses_vertical, same_point, ends_of, EvenEnds, numbers_below, same_number, chosen, parity_over, one_side}
+use Rattle.plane.specs.Faces.Parity.{flip, both, differ, either, parity, crosses_vertical, same_point, ends_of, EvenEnds, same_number, chosen, parity_over, one_side}
+use Rattle.plane.proofs.ParityLemmas.ParityWords.{numbers_below}
 use Rattle.plane.proofs.ListLemmas.Lists.{each_has, each_from}
 use Rattle.plane.proofs.Runs.Moments.{moment}
 use Rattle.plane.proofs.LabelLemmas.MatchedLists.{live_match}

@@ -4,7 +4,8 @@ use Rattle.std.proofs.Common.{◌≡◌, ℕ, zero, suc, ◌<◌, Bool, true, fa
 use Rattle.plane.specs.declared.kinds.Point.{Point}
 use Rattle.plane.specs.Forms.Vectors.{Edge}
 use Rattle.plane.specs.Lists.{Has, Once}
-use Rattle.plane.specs.Faces.Parity.{both, differ, either, parity, same_point, EvenEnds, tally, Even, numbers_below, among, chosen, parity_over}
+use Rattle.plane.specs.Faces.Parity.{both, differ, either, parity, same_point, EvenEnds, among, chosen, parity_over}
+use Rattle.plane.proofs.ParityLemmas.ParityWords.{tally, Even, numbers_below}
 use Rattle.plane.proofs.ParityLemmas.Wedges.{not_both}
 use Rattle.plane.proofs.ParityLemmas.Parities.{parity_map, parity_ends, even_parity, same_is}
 use Rattle.plane.proofs.ParityLemmas.ByNumber.{by_test, is_among, not_among, numbers_map, members, chosen_parity}

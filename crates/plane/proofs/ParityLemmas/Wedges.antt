@@ -6,7 +6,8 @@ use Rattle.std.proofs.lemmas.Int.{ints, by_lt_z}
 use Rattle.plane.specs.declared.kinds.Point.{Point}
 use Rattle.plane.specs.Forms.Vectors.{Vector, Place, point, Edge, side, sweep, rise, Before, On}
 use Rattle.plane.specs.Faces.Cells.{is_positive}
-use Rattle.plane.specs.Faces.Parity.{flip, both, differ, is_right, is_after, is_under, crosses_vertical, crosses_sweep, in_wedge}
+use Rattle.plane.specs.Faces.Parity.{flip, both, differ, is_right, is_under, crosses_vertical}
+use Rattle.plane.proofs.ParityLemmas.ParityWords.{is_after, crosses_sweep, in_wedge}
 use Rattle.plane.proofs.Algebra.Laws.{product_positive, product_nonnegative}
 use Rattle.plane.proofs.Algebra.Ring.{at, num, plus, minus, times, vars, ring}
 use Rattle.plane.proofs.Linear.Vectors.{rise-is}

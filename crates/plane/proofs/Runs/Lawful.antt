@@ -4,8 +4,10 @@ use Rattle.std.proofs.Common.{◌≡◌, ℕ, ◌<◌, ◌≤◌, List, [], ◌�
 use Rattle.std.proofs.lemmas.Int.{ints}
 use Rattle.plane.specs.Lists.{Has, Each, Neighbours}
 use Rattle.plane.specs.Forms.Vectors.{Vector, Place, point, Edge, side, sweep, rise, gap}
-use Rattle.plane.specs.Runs.Steps.{Step, onto, live, WeighedRun, AtSome, IsAt, Began, Ends, Divides}
-use Rattle.plane.specs.Faces.Replays.{IsLawful, IsOffEdges, IsBetweenEvents, IsStrip, IsOrdered, list_after, replay}
+use Rattle.plane.specs.Runs.Steps.{Step, onto, live, WeighedRun, AtSome, IsAt, Divides}
+use Rattle.plane.proofs.Runs.MomentWords.{Began, Ends}
+use Rattle.plane.specs.Faces.Replays.{IsOffEdges, list_after, replay}
+use Rattle.plane.proofs.Runs.RunWords.{IsLawful, IsBetweenEvents, IsStrip, IsOrdered}
 use Rattle.plane.proofs.ListLemmas.Lists.{each_has, each_from, neighbours_both}
 use Rattle.plane.proofs.Runs.LiveEdges.{live_started, live_ends, is_live, begins, ends}
 use Rattle.plane.proofs.Runs.Moments.{moment, not_done}

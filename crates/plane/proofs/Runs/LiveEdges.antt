@@ -5,7 +5,8 @@ use Rattle.std.proofs.lemmas.Int.{ints}
 use Rattle.plane.specs.declared.kinds.Point.{Point}
 use Rattle.plane.specs.Forms.Vectors.{point, Edge, side}
 use Rattle.plane.specs.Lists.{Each, First, Neighbours, Joint, Has}
-use Rattle.plane.specs.Runs.Steps.{Step, before, after, Turns, GoodStep, IsReplay, AtSome, live, Replayed, Began, Ends}
+use Rattle.plane.specs.Runs.Steps.{Step, before, after, Turns, GoodStep, IsReplay, AtSome, live, Replayed}
+use Rattle.plane.proofs.Runs.MomentWords.{Began, Ends}
 use Rattle.plane.proofs.ListLemmas.Lists.{each_from, has_front, has_back, has_three, first_map, first_append, first_from, last_from, neighbours_map, neighbours_append, neighbours_front, neighbours_back, joint_from}
 use Rattle.plane.proofs.Linear.Vectors.{side-low, side-high}
 

@@ -5,7 +5,8 @@ use Rattle.std.proofs.lemmas.Int.{ints, by_lt_z}
 use Rattle.plane.specs.declared.kinds.Point.{Point}
 use Rattle.plane.specs.Forms.Vectors.{Vector, Place, point, Same, Edge, side, sweep, rise, lift, On, mix, foot}
 use Rattle.plane.specs.Lists.{Neighbours, Has, Once}
-use Rattle.plane.specs.Runs.Steps.{Step, after, AtSome, onto, live, WeighedRun, Moment, Over, IsAt}
+use Rattle.plane.specs.Runs.Steps.{Step, after, AtSome, onto, live, WeighedRun, IsAt}
+use Rattle.plane.proofs.Runs.MomentWords.{Moment, Over}
 use Rattle.plane.specs.Forms.Meets.{IsEnd, CommonEnd}
 use Rattle.plane.proofs.Algebra.Laws.{product_positive, product_comm}
 use Rattle.plane.proofs.Algebra.Ring.{at, num, plus, minus, times, vars, ring}

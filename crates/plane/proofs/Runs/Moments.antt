@@ -5,7 +5,8 @@ use Rattle.std.proofs.lemmas.Int.{ints, by_lt_z}
 use Rattle.plane.specs.declared.kinds.Point.{Point}
 use Rattle.plane.specs.Forms.Vectors.{Vector, Place, point, Edge, sweep, Before}
 use Rattle.plane.specs.Lists.{Each, Neighbours, Has}
-use Rattle.plane.specs.Runs.Steps.{Step, IsReplay, AtSome, Run, onto, live, Replayed, Rising, WeighedRun, Moment, IsAt}
+use Rattle.plane.specs.Runs.Steps.{Step, IsReplay, AtSome, Run, onto, live, Replayed, Rising, WeighedRun, IsAt}
+use Rattle.plane.proofs.Runs.MomentWords.{Moment}
 use Rattle.plane.specs.Forms.Weights.{Weight}
 use Rattle.plane.proofs.Algebra.Laws.{product_positive}
 use Rattle.plane.proofs.Algebra.Ring.{at, minus, times, vars, ring}

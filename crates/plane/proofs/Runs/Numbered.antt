@@ -5,7 +5,8 @@ use Rattle.plane.specs.declared.kinds.Point.{Point}
 use Rattle.plane.specs.Lists.{Has}
 use Rattle.plane.specs.Forms.Vectors.{point, Edge, sweep}
 use Rattle.plane.specs.Runs.Steps.{Step, before, after, onto, live, GoodStep, IsReplay, Rising, WeighedRun, AtSome}
-use Rattle.plane.specs.Faces.Replays.{IsRun, no_step, list_after, replay}
+use Rattle.plane.specs.Faces.Replays.{no_step, list_after, replay}
+use Rattle.plane.proofs.Runs.RunWords.{IsRun}
 use Rattle.plane.proofs.ListLemmas.Lists.{each_has}
 use Rattle.plane.proofs.Strips.OneStrip.{by_last}
 

@@ -5,7 +5,8 @@ use Rattle.std.proofs.lemmas.Int.{ints, by_lt_z}
 use Rattle.plane.specs.declared.kinds.Point.{Point}
 use Rattle.plane.specs.Forms.Vectors.{Vector, Place, point, Edge, side, sweep, rise, gap, lift}
 use Rattle.plane.specs.Lists.{Each, Neighbours, Has}
-use Rattle.plane.specs.Runs.Steps.{Step, before, after, onto, live, WeighedRun, Moment, Began, Ends, Over}
+use Rattle.plane.specs.Runs.Steps.{Step, before, after, onto, live, WeighedRun}
+use Rattle.plane.proofs.Runs.MomentWords.{Moment, Began, Ends, Over}
 use Rattle.plane.proofs.Algebra.Laws.{product_positive, product_nonnegative, zero-product}
 use Rattle.plane.proofs.Algebra.Ring.{at, num, minus, times, vars, ring}
 use Rattle.plane.proofs.ListLemmas.Lists.{each_has, each_from, neighbours_map, neighbours_both, neighbours_front, neighbours_back, down_from_last, up_from_first}

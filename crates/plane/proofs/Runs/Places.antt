@@ -5,7 +5,8 @@ use Rattle.std.proofs.lemmas.Int.{ints, by_lt_z}
 use Rattle.plane.specs.declared.kinds.Point.{Point}
 use Rattle.plane.specs.Forms.Vectors.{Vector, Place, point, Edge, side, sweep, rise, lift, On, InSpan}
 use Rattle.plane.specs.Lists.{Each, First, Neighbours, Has}
-use Rattle.plane.specs.Runs.Steps.{Step, after, onto, live, WeighedRun, Moment, Over, IsAt, Divides}
+use Rattle.plane.specs.Runs.Steps.{Step, after, onto, live, WeighedRun, IsAt, Divides}
+use Rattle.plane.proofs.Runs.MomentWords.{Moment, Over}
 use Rattle.plane.specs.Forms.Meets.{IsEnd}
 use Rattle.plane.proofs.Algebra.Laws.{product_comm, zero-product}
 use Rattle.plane.proofs.ListLemmas.Lists.{each_has, each_map, each_from, each_append, first_append, first_from, neighbours_map, up_from_first}

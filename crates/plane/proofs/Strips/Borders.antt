@@ -1,7 +1,8 @@
 -- The cells under all edges, and those over all edges, are linked to the first cell.
 -- At each event the border goes on under it and over it.
 use Rattle.std.proofs.Common.{ℕ, zero, suc, ◌<◌, ◌≤◌, List, length, refl, arith, ap, sym, inl, inr, subst}
-use Rattle.plane.specs.Faces.Replays.{Replay, IsRun, IsLawful}
+use Rattle.plane.specs.Faces.Replays.{Replay}
+use Rattle.plane.proofs.Runs.RunWords.{IsRun, IsLawful}
 use Rattle.plane.specs.Faces.Cells.{Sector, IsSector, corner, IsBorder, Linked, stays, back}
 use Rattle.plane.proofs.Strips.ToTheRight.{cells_eq}
 use Rattle.plane.proofs.Strips.Joins.{lengths_before, lengths_after}

@@ -4,7 +4,8 @@ use Rattle.std.proofs.Common.{◌≡◌, ℕ, zero, suc, ◌<◌, ◌≤◌, Lis
 use Rattle.std.proofs.lemmas.Int.{ints}
 use Rattle.plane.specs.Lists.{Has, Neighbours}
 use Rattle.plane.specs.Forms.Vectors.{Vector, Place, mix, Edge, side, sweep, up, rise, gap}
-use Rattle.plane.specs.Faces.Replays.{Replay, IsRun, IsLawful, IsBetweenEvents, reach}
+use Rattle.plane.specs.Faces.Replays.{Replay, reach}
+use Rattle.plane.proofs.Runs.RunWords.{IsRun, IsLawful, IsBetweenEvents}
 use Rattle.plane.specs.Faces.Cells.{Sector, IsSector}
 use Rattle.plane.proofs.Algebra.Laws.{product_positive}
 use Rattle.plane.proofs.Algebra.Scaling.{times_lt}

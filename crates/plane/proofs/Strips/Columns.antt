@@ -5,7 +5,8 @@ use Rattle.std.proofs.lemmas.Int.{ints, by_lt_z}
 use Rattle.plane.specs.Lists.{Has}
 use Rattle.plane.specs.declared.kinds.Point.{Point}
 use Rattle.plane.specs.Forms.Vectors.{Vector, Place, Same, mix, point, side, sweep, On}
-use Rattle.plane.specs.Faces.Replays.{Replay, IsRun, IsLawful, IsOffEdges, IsBetweenEvents, IsStrip, reach}
+use Rattle.plane.specs.Faces.Replays.{Replay, IsOffEdges, reach}
+use Rattle.plane.proofs.Runs.RunWords.{IsRun, IsLawful, IsBetweenEvents, IsStrip}
 use Rattle.plane.specs.Faces.Cells.{Sector, IsSector, sector, strip, raised, IsFree, JoinedByEdges, arrives, goes}
 use Rattle.plane.proofs.Algebra.Laws.{product_positive}
 use Rattle.plane.proofs.Algebra.Scaling.{times_le, times_lt, product_negative}

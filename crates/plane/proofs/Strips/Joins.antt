@@ -4,7 +4,8 @@ use Rattle.std.proofs.Common.{◌≡◌, ℕ, suc, ◌+◌, ◌-◌, ◌<◌, �
 use Rattle.std.proofs.lemmas.Int.{ints}
 use Rattle.plane.specs.Lists.{Has}
 use Rattle.plane.specs.Forms.Vectors.{Vector, Place, Same, mix}
-use Rattle.plane.specs.Faces.Replays.{Replay, IsRun, IsLawful, IsOffEdges, IsStrip}
+use Rattle.plane.specs.Faces.Replays.{Replay, IsOffEdges}
+use Rattle.plane.proofs.Runs.RunWords.{IsRun, IsLawful, IsStrip}
 use Rattle.plane.specs.Faces.Cells.{Sector, IsSector, sector, Opens, Linked, stays, onward, back, IsFree, JoinedByEdges, arrives, goes}
 use Rattle.plane.proofs.Linear.Signs.{mix_place}
 use Rattle.plane.proofs.Linear.Clear.{mix_clear, on_same}

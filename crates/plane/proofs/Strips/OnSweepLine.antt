@@ -5,7 +5,8 @@ use Rattle.std.proofs.lemmas.Int.{ints}
 use Rattle.plane.specs.Lists.{Has}
 use Rattle.plane.specs.declared.kinds.Point.{Point}
 use Rattle.plane.specs.Forms.Vectors.{Vector, Place, point, Edge, side, sweep, rise, lift, On}
-use Rattle.plane.specs.Faces.Replays.{Replay, IsRun, IsLawful, IsOffEdges, reach}
+use Rattle.plane.specs.Faces.Replays.{Replay, IsOffEdges, reach}
+use Rattle.plane.proofs.Runs.RunWords.{IsRun, IsLawful}
 use Rattle.plane.specs.Faces.Cells.{raised, sector_at, Opens}
 use Rattle.plane.proofs.Algebra.Laws.{product_comm}
 use Rattle.plane.proofs.Algebra.Scaling.{times_le, times_lt, product_negative, product_of_zero}

@@ -3,7 +3,8 @@
 use Rattle.std.proofs.Common.{◌≡◌, ℕ, zero, suc, ◌+◌, ◌<◌, ◌≤◌, Bool, true, false, cond, ◌*ℤ◌, ◌-ℤ◌, ◌<ℤ◌, ◌≤ℤ◌, refl, arith, ap, sym, ◌∙◌, subst}
 use Rattle.std.proofs.lemmas.Int.{ints, by_lt_z}
 use Rattle.plane.specs.Forms.Vectors.{Vector, Place, sweep}
-use Rattle.plane.specs.Faces.Replays.{Replay, IsRun, IsLawful, IsStrip, reach}
+use Rattle.plane.specs.Faces.Replays.{Replay, reach}
+use Rattle.plane.proofs.Runs.RunWords.{IsRun, IsLawful, IsStrip}
 use Rattle.plane.specs.Faces.Cells.{is_positive, passed, strip, Sector, sector, Opens, Linked, stays, onward, back, IsFree}
 use Rattle.plane.proofs.Strips.CountBelow.{positive_is, not_positive}
 use Rattle.plane.proofs.Strips.ToTheRight.{free_back, linked_right, scaled_rising}

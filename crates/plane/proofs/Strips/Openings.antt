@@ -4,7 +4,8 @@ use Rattle.std.proofs.Common.{◌≡◌, ℕ, suc, ◌+◌, ◌<◌, ◌≤◌, 
 use Rattle.std.proofs.lemmas.Int.{ints}
 use Rattle.plane.specs.Lists.{Has, Neighbours}
 use Rattle.plane.specs.Forms.Vectors.{Vector, Place, point, Edge, side, rise}
-use Rattle.plane.specs.Faces.Replays.{Replay, IsRun, IsLawful, reach}
+use Rattle.plane.specs.Faces.Replays.{Replay, reach}
+use Rattle.plane.proofs.Runs.RunWords.{IsRun, IsLawful}
 use Rattle.plane.proofs.Algebra.Laws.{product_positive}
 use Rattle.plane.proofs.Algebra.Scaling.{times_le}
 use Rattle.plane.proofs.ListLemmas.Lists.{has_append}

@@ -4,8 +4,10 @@ use Rattle.std.proofs.Common.{◌≡◌, ℕ, zero, suc, ◌<◌, ◌≤◌, Lis
 use Rattle.std.proofs.lemmas.Int.{ints, by_lt_z}
 use Rattle.plane.specs.declared.kinds.Point.{Point}
 use Rattle.plane.specs.Forms.Vectors.{Vector, Place, point, Edge, side, sweep, rise, InSpan}
-use Rattle.plane.specs.Faces.Replays.{Replay, IsRun, IsLawful, IsOffEdges, IsStrip, reach}
-use Rattle.plane.specs.Faces.Cells.{corner, Sector, sector, strip, raised, Linked, IsOuterByEdges}
+use Rattle.plane.specs.Faces.Replays.{Replay, IsOffEdges, reach}
+use Rattle.plane.proofs.Runs.RunWords.{IsRun, IsLawful, IsStrip}
+use Rattle.plane.specs.Faces.Cells.{corner, Sector, sector, strip, raised, Linked}
+use Rattle.plane.proofs.Strips.OuterWords.{IsOuterByEdges}
 use Rattle.plane.proofs.Algebra.Laws.{weight_at_most}
 use Rattle.plane.proofs.Algebra.Scaling.{times_le, times_lt}
 use Rattle.plane.proofs.Linear.Vectors.{rise-is}

@@ -5,7 +5,8 @@ use Rattle.std.proofs.lemmas.Int.{ints}
 use Rattle.plane.specs.Lists.{Has}
 use Rattle.plane.specs.declared.kinds.Point.{Point}
 use Rattle.plane.specs.Forms.Vectors.{Vector, Place, mix, point, sweep, InSpan}
-use Rattle.plane.specs.Faces.Replays.{Replay, IsRun, IsLawful, IsOffEdges, IsStrip, reach}
+use Rattle.plane.specs.Faces.Replays.{Replay, IsOffEdges, reach}
+use Rattle.plane.proofs.Runs.RunWords.{IsRun, IsLawful, IsStrip}
 use Rattle.plane.specs.Faces.Cells.{Sector, raised, sector_at, Opens, Linked, stays, onward, IsFree}
 use Rattle.plane.proofs.Algebra.Laws.{product_comm}
 use Rattle.plane.proofs.Algebra.Scaling.{times_le, times_lt}

@@ -8,7 +8,8 @@ use Rattle.plane.specs.Runs.Steps.{Step}
 use Rattle.plane.specs.Forms.Meets.{IsEnd}
 use Rattle.plane.specs.Forms.Weights.{Weight}
 use Rattle.plane.specs.Forms.Meets.{Fine, Bad}
-use Rattle.plane.specs.Runs.Sweeps.{IsEventList, Front, Found}
+use Rattle.plane.specs.Runs.Sweeps.{IsEventList, Front}
+use Rattle.plane.proofs.Sweep.SweepWords.{Found}
 use Rattle.plane.proofs.Algebra.Laws.{weight_at_most, product_comm}
 use Rattle.plane.proofs.Algebra.Ring.{at, num, plus, minus, times, vars, ring}
 use Rattle.plane.proofs.Linear.Vectors.{sweep-mix}

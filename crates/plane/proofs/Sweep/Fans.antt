@@ -8,7 +8,8 @@ use Rattle.plane.specs.Lists.{Each, Neighbours, Has, Once}
 use Rattle.plane.specs.Runs.Steps.{Step, after, Turns, live}
 use Rattle.plane.specs.Forms.Meets.{IsEnd}
 use Rattle.plane.specs.Forms.Meets.{Fine}
-use Rattle.plane.specs.Runs.Sweeps.{Ready, FinePair, Front}
+use Rattle.plane.specs.Runs.Sweeps.{FinePair, Front}
+use Rattle.plane.proofs.Sweep.SweepWords.{Ready}
 use Rattle.plane.proofs.Algebra.Laws.{product_positive, positive_factor}
 use Rattle.plane.proofs.Algebra.Ring.{at, num, plus, minus, times, vars, ring}
 use Rattle.plane.proofs.ListLemmas.Lists.{each_has, each_from, neighbours_both}

@@ -9,7 +9,8 @@ use Rattle.plane.specs.Runs.Steps.{Step, after, live}
 use Rattle.plane.specs.Forms.Weights.{Weight}
 use Rattle.plane.specs.Forms.Meets.{IsEnd}
 use Rattle.plane.specs.Forms.Meets.{OnStraight, Fine, Bad}
-use Rattle.plane.specs.Runs.Sweeps.{IsEventList, Ready, FinePair, Front, Clear, SomeNeighbours, OnLive, Found}
+use Rattle.plane.specs.Runs.Sweeps.{IsEventList, FinePair, Front, Clear, SomeNeighbours, OnLive}
+use Rattle.plane.proofs.Sweep.SweepWords.{Ready, Found}
 use Rattle.plane.proofs.Linear.Vectors.{rise-is, side-low, side-high}
 use Rattle.plane.proofs.Runs.LiveEdges.{live_started}
 use Rattle.plane.proofs.Runs.Meeting.{same_sweep}

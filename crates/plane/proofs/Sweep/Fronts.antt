@@ -6,7 +6,8 @@ use Rattle.plane.specs.declared.kinds.Point.{Point}
 use Rattle.plane.specs.Forms.Vectors.{Vector, Place, point, Edge, side, sweep, rise, gap}
 use Rattle.plane.specs.Lists.{Each, Neighbours, Has}
 use Rattle.plane.specs.Runs.Steps.{Step, after, AtSome, live}
-use Rattle.plane.specs.Runs.Sweeps.{RisingPoints, Ready, trail, Lies, FinePair, Front, FallsUp}
+use Rattle.plane.specs.Runs.Sweeps.{trail, Lies, FinePair, Front}
+use Rattle.plane.proofs.Sweep.SweepWords.{RisingPoints, Ready, FallsUp}
 use Rattle.plane.proofs.ListLemmas.Lists.{each_has, neighbours_map, neighbours_both, neighbours_back, up_from_first}
 use Rattle.plane.proofs.Linear.Signs.{over_lower}
 use Rattle.plane.proofs.Runs.LiveEdges.{live_started, side_through_high}

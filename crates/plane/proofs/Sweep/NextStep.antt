@@ -6,7 +6,8 @@ use Rattle.plane.specs.declared.kinds.Point.{Point}
 use Rattle.plane.specs.Forms.Vectors.{point, Edge, side}
 use Rattle.plane.specs.Lists.{Each, First, Neighbours, Has}
 use Rattle.plane.specs.Runs.Steps.{Step}
-use Rattle.plane.specs.Runs.Sweeps.{FallsUp, Made, Walked, Fan}
+use Rattle.plane.specs.Runs.Sweeps.{Made}
+use Rattle.plane.proofs.Sweep.SweepWords.{FallsUp, Walked, Fan}
 use Rattle.plane.proofs.ListLemmas.Lists.{each_map, each_back, first_from, last_from, neighbours_map, neighbours_back, up_from_first}
 use Rattle.plane.proofs.Linear.Signs.{by_sign}
 use Rattle.plane.proofs.Sweep.Fronts.{not_above_up}

@@ -6,7 +6,8 @@ use Rattle.plane.specs.declared.kinds.Point.{Point}
 use Rattle.plane.specs.Forms.Vectors.{point, Edge, side, sweep, rise}
 use Rattle.plane.specs.Lists.{Each, First, Neighbours, Has, Once}
 use Rattle.plane.specs.Runs.Steps.{Step, before, after, Turns, GoodStep, AtSome, live}
-use Rattle.plane.specs.Runs.Sweeps.{Ready, Lies, FinePair, Front, Clear, Made, FallsUp}
+use Rattle.plane.specs.Runs.Sweeps.{Lies, FinePair, Front, Clear, Made}
+use Rattle.plane.proofs.Sweep.SweepWords.{Ready, FallsUp}
 use Rattle.plane.proofs.ListLemmas.Lists.{each_has, each_from, has_front, has_back, has_three, first_map, first_append, first_from, last_from, neighbours_map, neighbours_append, neighbours_front, neighbours_back, joint_from, down_from_last, up_from_first, once_front, once_back}
 use Rattle.plane.proofs.Linear.Vectors.{rise-is}
 use Rattle.plane.proofs.Linear.Signs.{gap_at_most}

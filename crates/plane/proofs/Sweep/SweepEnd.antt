@@ -8,7 +8,8 @@ use Rattle.plane.specs.Lists.{First, Neighbours, Has}
 use Rattle.plane.specs.Runs.Steps.{Step, IsReplay, AtSome, Run, onto, live, Replayed, WeighedRun}
 use Rattle.plane.specs.Forms.Weights.{Weight}
 use Rattle.plane.specs.Forms.Meets.{Fine, Bad}
-use Rattle.plane.specs.Runs.Sweeps.{IsEventList, RisingPoints, Ready, trail, Front}
+use Rattle.plane.specs.Runs.Sweeps.{IsEventList, trail, Front}
+use Rattle.plane.proofs.Sweep.SweepWords.{RisingPoints, Ready}
 use Rattle.plane.proofs.ListLemmas.Lists.{each_from, each_map, neighbours_map}
 use Rattle.plane.proofs.Linear.Vectors.{rise-is}
 use Rattle.plane.proofs.Runs.Moments.{swept}

@@ -9,7 +9,8 @@ use Rattle.plane.specs.Lists.{Each, First, Last, Neighbours, Joint, Has, Once}
 use Rattle.plane.specs.Runs.Steps.{Step, after, live}
 use Rattle.plane.specs.Forms.Weights.{Weight}
 use Rattle.plane.specs.Forms.Meets.{Fine, Bad}
-use Rattle.plane.specs.Runs.Sweeps.{IsEventList, trail, FinePair, Front, Clear, Made, FallsUp, Fan, Ready, SomeNeighbours}
+use Rattle.plane.specs.Runs.Sweeps.{IsEventList, trail, FinePair, Front, Clear, Made, SomeNeighbours}
+use Rattle.plane.proofs.Sweep.SweepWords.{FallsUp, Fan, Ready}
 use Rattle.plane.specs.Runs.Positions.{step_at, turn_at}
 use Rattle.plane.proofs.Linear.EdgePlaces.{side-cross}
 use Rattle.plane.proofs.Runs.Positions.{neighbours_by_index}

@@ -9,7 +9,8 @@ use Rattle.plane.specs.Lists.{Neighbours, Joint, Has, Once}
 use Rattle.plane.specs.Forms.Weights.{Weight}
 use Rattle.plane.specs.Runs.Steps.{Step, Run, after, onto, live}
 use Rattle.plane.specs.Forms.Meets.{Fine, Bad, IsEnd, Disjoint, Touch, OnStraight}
-use Rattle.plane.specs.Runs.Sweeps.{IsEventList, Ready, FinePair, Clear, Made, SomeNeighbours, OnLive, Found, IsUnderWay, IsFaulty}
+use Rattle.plane.specs.Runs.Sweeps.{IsEventList, FinePair, Clear, Made, SomeNeighbours, OnLive, IsUnderWay, IsFaulty}
+use Rattle.plane.proofs.Sweep.SweepWords.{Ready, Found}
 use Rattle.plane.proofs.Linear.EdgePlaces.{side-cross}
 use Rattle.plane.proofs.Linear.Weights.{rise_positive}
 use Rattle.plane.proofs.Linear.SomeWeight.{some_weight}

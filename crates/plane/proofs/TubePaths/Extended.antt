@@ -3,7 +3,8 @@ use Rattle.std.proofs.Common.{◌≡◌, ℕ, zero, suc, ◌+◌, ◌-◌, ◌<�
 use Rattle.std.proofs.lemmas.Int.{ints, by_lt_z}
 use Rattle.plane.specs.Lists.{Has}
 use Rattle.plane.specs.Forms.Vectors.{Vector, Place, mix, side, sweep, On}
-use Rattle.plane.specs.Faces.Replays.{Replay, IsOffEdges, IsStrip, reach}
+use Rattle.plane.specs.Faces.Replays.{Replay, IsOffEdges, reach}
+use Rattle.plane.proofs.Runs.RunWords.{IsStrip}
 use Rattle.plane.specs.Faces.Cells.{sector, strip}
 use Rattle.plane.specs.Faces.Halves.{Half, twin, edge_of, IsMatched, mark}
 use Rattle.plane.specs.Faces.Labels.{Labels, last_label}

@@ -10,7 +10,8 @@ use Rattle.plane.specs.Rule.Curves.{arc}
 use Rattle.plane.specs.Rule.Plans.{Plan, curve}
 use Rattle.plane.specs.Forms.Meets.{IsEnd}
 use Rattle.plane.specs.Runs.Steps.{Step, WeighedRun}
-use Rattle.plane.specs.Faces.Replays.{Replay, IsRun, replay}
+use Rattle.plane.specs.Faces.Replays.{Replay, replay}
+use Rattle.plane.proofs.Runs.RunWords.{IsRun}
 use Rattle.plane.specs.Faces.Halves.{Half, under, over, twin, edge_of, mark}
 use Rattle.plane.specs.Faces.Labels.{Labels}
 use Rattle.plane.specs.Tubes.Bays.{Bay, IsTube, OnInner, OnOuter, AtEnds}

@@ -9,7 +9,8 @@ use Rattle.plane.specs.Rule.Curves.{arc, Hits, HitsKind}
 use Rattle.plane.specs.Rule.Plans.{Plan, curve}
 use Rattle.plane.specs.Rule.Partition.{IsClear}
 use Rattle.plane.specs.Runs.Steps.{Step, WeighedRun}
-use Rattle.plane.specs.Faces.Replays.{Replay, IsRun, replay}
+use Rattle.plane.specs.Faces.Replays.{Replay, replay}
+use Rattle.plane.proofs.Runs.RunWords.{IsRun}
 use Rattle.plane.specs.Faces.Halves.{Half}
 use Rattle.plane.specs.Faces.Labels.{Labels}
 use Rattle.plane.specs.Tubes.Bays.{Bay}

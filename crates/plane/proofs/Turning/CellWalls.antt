@@ -1,7 +1,8 @@
 -- Each cell has a wall or is at the border, and cells that open to each other have a wall in common.
 -- So half-edges are connected exactly where the cells beside them are linked.
 use Rattle.std.proofs.Common.{◌≡◌, ℕ, zero, suc, ◌+◌, ◌-◌, ◌<◌, ◌≤◌, List, ◌++◌, length, refl, arith, ap, sym, ◌∙◌, ◌⊎◌, inl, inr, subst}
-use Rattle.plane.specs.Faces.Replays.{Replay, IsRun, IsLawful}
+use Rattle.plane.specs.Faces.Replays.{Replay}
+use Rattle.plane.proofs.Runs.RunWords.{IsRun, IsLawful}
 use Rattle.plane.specs.Faces.Cells.{Sector, IsSector, corner, IsBorder, Opens, Linked, stays, onward, back}
 use Rattle.plane.specs.Faces.Halves.{Half, under, over, edge_of, At, Beside}
 use Rattle.plane.specs.Faces.Classes.{Across, Touches, Crossing, Connected, same, cross, go, return, outside}

@@ -5,7 +5,8 @@ use Rattle.plane.specs.Lists.{Each}
 use Rattle.plane.specs.Forms.Vectors.{Edge}
 use Rattle.plane.specs.Runs.Steps.{Step, Run}
 use Rattle.plane.specs.Faces.Labels.{Labels, MatchesAt}
-use Rattle.plane.specs.Faces.Replays.{Replay, IsRun, IsLawful, replay}
+use Rattle.plane.specs.Faces.Replays.{Replay, replay}
+use Rattle.plane.proofs.Runs.RunWords.{IsRun, IsLawful}
 use Rattle.plane.specs.Faces.Cells.{Sector, IsSector, IsBorder, corner, Linked, label_of}
 use Rattle.plane.specs.Faces.Halves.{Half, edge_of, Beside, IsMatched}
 use Rattle.plane.specs.Faces.Classes.{Connected, Lead, AreLeads}

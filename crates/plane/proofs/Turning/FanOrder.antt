@@ -6,7 +6,8 @@ use Rattle.plane.specs.declared.kinds.Point.{Point}
 use Rattle.plane.specs.Lists.{Each, Last, Neighbours, Has}
 use Rattle.plane.specs.Forms.Vectors.{point, sweep, gap, Before}
 use Rattle.plane.specs.Runs.Steps.{Turns}
-use Rattle.plane.specs.Faces.Replays.{Replay, IsRun, IsLawful}
+use Rattle.plane.specs.Faces.Replays.{Replay}
+use Rattle.plane.proofs.Runs.RunWords.{IsRun, IsLawful}
 use Rattle.plane.specs.Faces.Halves.{Half, under, over, edge_of, twin}
 use Rattle.plane.specs.Faces.Classes.{starting_halves, ending_halves, fan, Next}
 use Rattle.plane.specs.Faces.Directions.{origin, direction, IsRight, IsLeft, Comes, IsClockwiseNext}

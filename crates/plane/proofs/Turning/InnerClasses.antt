@@ -1,7 +1,8 @@
 -- Cells alone connect the half-edges of a class that holds no border cell.
 -- Links along which the label stays and the rank falls lead to a root.
 use Rattle.std.proofs.Common.{◌≡◌, ◌↔◌, ℕ, zero, suc, ◌<◌, refl, arith, ◌∙◌, inl, inr}
-use Rattle.plane.specs.Faces.Replays.{Replay, IsRun, IsLawful}
+use Rattle.plane.specs.Faces.Replays.{Replay}
+use Rattle.plane.proofs.Runs.RunWords.{IsRun, IsLawful}
 use Rattle.plane.specs.Faces.Cells.{Sector, IsSector, corner, Linked}
 use Rattle.plane.specs.Faces.Halves.{Half, edge_of, Beside}
 use Rattle.plane.specs.Faces.Classes.{Crossing, Connected, Lead, root, next, previous, across, Falls, IsLead, AreLeads}

@@ -2,7 +2,8 @@
 -- Only lists are looked at: in a list that is read round, each element has one before it and one after it.
 use Rattle.std.proofs.Common.{◌≡◌, ◌⊎◌, ◌<◌, List, [], ◌∷◌, refl, sym, subst, inl, inr}
 use Rattle.plane.specs.Lists.{Has}
-use Rattle.plane.specs.Faces.Replays.{Replay, IsRun, IsLawful}
+use Rattle.plane.specs.Faces.Replays.{Replay}
+use Rattle.plane.proofs.Runs.RunWords.{IsRun, IsLawful}
 use Rattle.plane.specs.Faces.Halves.{Half, under, over, edge_of, twin}
 use Rattle.plane.specs.Faces.Classes.{fan, IsLast, Follows, FollowsRound, Next}
 use Rattle.plane.proofs.Turning.RunFans.{fan_all}

@@ -4,7 +4,8 @@ use Rattle.std.proofs.Common.{◌≡◌, ℕ, ◌<◌, ◌⊎◌, inl, inr, List
 use Rattle.std.proofs.lemmas.Int.{ints}
 use Rattle.plane.specs.Forms.Vectors.{Edge}
 use Rattle.plane.specs.Runs.Steps.{Step, Run}
-use Rattle.plane.specs.Faces.Replays.{Replay, IsRun, IsLawful, replay}
+use Rattle.plane.specs.Faces.Replays.{Replay, replay}
+use Rattle.plane.proofs.Runs.RunWords.{IsRun, IsLawful}
 use Rattle.plane.specs.Faces.Halves.{Half, edge_of, twin}
 use Rattle.plane.specs.Faces.Classes.{Next}
 use Rattle.plane.specs.Faces.Directions.{Direction, direction, TurnsLeft, Precedes, Comes, origin, IsClockwiseNext}

@@ -1,7 +1,8 @@
 -- A cell beside a half-edge is linked to a cell beside the next one.
 -- Five cases, by where the twin stands among the half-edges round the event.
 use Rattle.std.proofs.Common.{◌≡◌, ℕ, suc, ◌+◌, ◌<◌, ◌≤◌, List, [], ◌∷◌, ◌++◌, length, refl, arith, ap, sym, inl, inr, subst}
-use Rattle.plane.specs.Faces.Replays.{Replay, IsRun, IsLawful}
+use Rattle.plane.specs.Faces.Replays.{Replay}
+use Rattle.plane.proofs.Runs.RunWords.{IsRun, IsLawful}
 use Rattle.plane.specs.Faces.Cells.{Sector, IsSector, Linked, stays, onward, back}
 use Rattle.plane.specs.Faces.Halves.{Half, under, over, twin, At, Beside}
 use Rattle.plane.specs.Faces.Classes.{starting_halves, ending_halves, fan, IsFirst, IsLast, Follows, FollowsRound, Next}

@@ -6,7 +6,8 @@ use Rattle.plane.specs.declared.kinds.Point.{Point}
 use Rattle.plane.specs.Lists.{Neighbours, Has}
 use Rattle.plane.specs.Forms.Vectors.{point, Edge, side, sweep}
 use Rattle.plane.specs.Runs.Steps.{Step, after, Turns, IsReplay, Run, WeighedRun}
-use Rattle.plane.specs.Faces.Replays.{Replay, IsRun, IsLawful, replay}
+use Rattle.plane.specs.Faces.Replays.{Replay, replay}
+use Rattle.plane.proofs.Runs.RunWords.{IsRun, IsLawful}
 use Rattle.plane.specs.Faces.Halves.{Half, under, over, edge_of, twin}
 use Rattle.plane.specs.Faces.Classes.{starting_halves, ending_halves, fan, Next}
 use Rattle.plane.specs.Faces.Directions.{origin, IsClockwiseNext}

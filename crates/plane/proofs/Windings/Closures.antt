@@ -3,7 +3,8 @@ use Rattle.std.proofs.Common.{◌≡◌, ℕ, ◌<◌, ◌≤◌, List, [], ◌�
 use Rattle.std.proofs.lemmas.Int.{ints, by_lt_z}
 use Rattle.plane.specs.Lists.{Has, First, Neighbours}
 use Rattle.plane.specs.Forms.Vectors.{Vector, Place, Edge, side, sweep, rise, gap}
-use Rattle.plane.specs.Faces.Replays.{Replay, IsRun, IsLawful, IsBetweenEvents, reach}
+use Rattle.plane.specs.Faces.Replays.{Replay, reach}
+use Rattle.plane.proofs.Runs.RunWords.{IsRun, IsLawful, IsBetweenEvents}
 use Rattle.plane.proofs.Algebra.Scaling.{times_le, cancel_le}
 use Rattle.plane.proofs.Linear.Vectors.{side-mix, sweep-mix, gap-mix}
 use Rattle.plane.proofs.Linear.Signs.{mix_place}

@@ -5,7 +5,8 @@ use Rattle.plane.specs.declared.kinds.Point.{Point}
 use Rattle.plane.specs.Lists.{Has}
 use Rattle.plane.specs.Forms.Vectors.{Vector, Place, Same, point, Edge, side, sweep, rise, lift, On}
 use Rattle.plane.specs.Forms.Meets.{IsEnd}
-use Rattle.plane.specs.Faces.Replays.{Replay, IsStrip, reach}
+use Rattle.plane.specs.Faces.Replays.{Replay, reach}
+use Rattle.plane.proofs.Runs.RunWords.{IsStrip}
 use Rattle.plane.specs.Faces.Cells.{strip}
 use Rattle.plane.specs.Faces.Halves.{Half, under, edge_of, IsMatched}
 use Rattle.plane.specs.Faces.Labels.{Labels, Match, last_label}

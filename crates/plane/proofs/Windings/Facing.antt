@@ -7,7 +7,8 @@ use Rattle.plane.specs.Forms.Vectors.{Vector, Edge}
 use Rattle.plane.specs.Faces.Halves.{Half, under, over, edge_of}
 use Rattle.plane.specs.Faces.Labels.{Labels, Match, last_label}
 use Rattle.plane.specs.Tubes.Windings.{turning, total}
-use Rattle.plane.specs.Tubes.Facing.{way, one_at, change, IsFaced}
+use Rattle.plane.specs.Tubes.Facing.{way, IsFaced}
+use Rattle.plane.proofs.Windings.FacingWords.{one_at, change}
 use Rattle.plane.proofs.Algebra.Laws.{product_comm, zero-product}
 use Rattle.plane.proofs.Windings.OneTriangle.{turning_back}
 use Rattle.plane.proofs.Algebra.Sums.{total_once, total_same}

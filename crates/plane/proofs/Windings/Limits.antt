@@ -4,7 +4,8 @@ use Rattle.std.proofs.lemmas.Int.{ints, by_lt_z}
 use Rattle.plane.specs.declared.kinds.Point.{Point}
 use Rattle.plane.specs.Lists.{Has}
 use Rattle.plane.specs.Forms.Vectors.{Vector, Place, Edge, side, sweep}
-use Rattle.plane.specs.Faces.Replays.{Replay, IsOffEdges, IsStrip, IsBetweenEvents, reach}
+use Rattle.plane.specs.Faces.Replays.{Replay, IsOffEdges, reach}
+use Rattle.plane.proofs.Runs.RunWords.{IsStrip, IsBetweenEvents}
 use Rattle.plane.specs.Faces.Cells.{sector, sector_at, strip}
 use Rattle.plane.specs.Faces.Halves.{Half, IsMatched}
 use Rattle.plane.specs.Faces.Labels.{Labels, last_label}

@@ -4,7 +4,8 @@ use Rattle.std.proofs.lemmas.Int.{ints}
 use Rattle.plane.specs.declared.kinds.Point.{Point}
 use Rattle.plane.specs.Lists.{Each, Has}
 use Rattle.plane.specs.Forms.Vectors.{Vector, point, Edge, side, sweep}
-use Rattle.plane.specs.Faces.Replays.{Replay, IsRun, reach}
+use Rattle.plane.specs.Faces.Replays.{Replay, reach}
+use Rattle.plane.proofs.Runs.RunWords.{IsRun}
 use Rattle.plane.specs.Faces.Halves.{Half, under, over, edge_of}
 use Rattle.plane.specs.Tubes.Bays.{Bay}
 use Rattle.plane.specs.Tubes.Windings.{arrow, Tile, IsLeftTile, IsSteep, IsTiled, strips, tiles, fence, bounds}

@@ -5,13 +5,15 @@ use Rattle.std.proofs.lemmas.Int.{ints}
 use Rattle.plane.specs.declared.kinds.Point.{Point}
 use Rattle.plane.specs.Lists.{Has, Once}
 use Rattle.plane.specs.Forms.Vectors.{Vector, Place, Between, point, Edge, side, rise, On}
-use Rattle.plane.specs.Faces.Replays.{Replay, IsRun, IsLawful, IsOffEdges, IsStrip}
+use Rattle.plane.specs.Faces.Replays.{Replay, IsOffEdges}
+use Rattle.plane.proofs.Runs.RunWords.{IsRun, IsLawful, IsStrip}
 use Rattle.plane.specs.Faces.Cells.{raised, sector, strip}
 use Rattle.plane.specs.Faces.Halves.{Half, under, over, edge_of, IsMatched}
 use Rattle.plane.specs.Faces.Labels.{Labels, Match, last_label, label_at}
 use Rattle.plane.specs.Faces.Cells.{label_of}
 use Rattle.plane.specs.Tubes.Windings.{turning, total, Bay, tiles, bounds, InSomeTile, IsClearOf}
-use Rattle.plane.specs.Tubes.Facing.{way, one_at, IsDrawnTube}
+use Rattle.plane.specs.Tubes.Facing.{way, IsDrawnTube}
+use Rattle.plane.proofs.Windings.FacingWords.{one_at}
 use Rattle.plane.proofs.ListLemmas.Lists.{each_has, has_front, has_back}
 use Rattle.plane.proofs.Linear.Signs.{between_back}
 use Rattle.plane.proofs.Strips.OneStrip.{strip_is}

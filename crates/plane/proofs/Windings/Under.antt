@@ -4,12 +4,14 @@ use Rattle.std.proofs.lemmas.Int.{ints, by_lt_z}
 use Rattle.plane.specs.declared.kinds.Point.{Point}
 use Rattle.plane.specs.Lists.{Has, Once}
 use Rattle.plane.specs.Forms.Vectors.{Vector, Place, point, Edge, side, sweep}
-use Rattle.plane.specs.Faces.Replays.{Replay, IsRun, IsLawful, IsStrip}
+use Rattle.plane.specs.Faces.Replays.{Replay}
+use Rattle.plane.proofs.Runs.RunWords.{IsRun, IsLawful, IsStrip}
 use Rattle.plane.specs.Faces.Cells.{is_positive}
 use Rattle.plane.specs.Faces.Halves.{Half, IsMatched}
 use Rattle.plane.specs.Faces.Labels.{Labels, Match, last_label}
 use Rattle.plane.specs.Tubes.Windings.{lead, turned, turning, total}
-use Rattle.plane.specs.Tubes.Facing.{way, one_at, IsFaced}
+use Rattle.plane.specs.Tubes.Facing.{way, IsFaced}
+use Rattle.plane.proofs.Windings.FacingWords.{one_at}
 use Rattle.plane.proofs.ListLemmas.Lists.{has_front, has_append, once_front}
 use Rattle.plane.proofs.Linear.Vectors.{rise-is}
 use Rattle.plane.proofs.Runs.Moments.{scaled}

@@ -3,9 +3,11 @@ use Rattle.std.proofs.Common.{◌≡◌, ℕ, ◌<◌, ◌≤◌, List, [], ◌�
 use Rattle.std.proofs.lemmas.Int.{ints, by_lt_z}
 use Rattle.plane.specs.Lists.{Has, Neighbours, Once}
 use Rattle.plane.specs.Forms.Vectors.{Vector, Place, Same, point, Edge, side, sweep, rise, lift, On}
-use Rattle.plane.specs.Runs.Steps.{Step, onto, live, WeighedRun, Over, IsAt}
+use Rattle.plane.specs.Runs.Steps.{Step, onto, live, WeighedRun, IsAt}
+use Rattle.plane.proofs.Runs.MomentWords.{Over}
 use Rattle.plane.specs.Forms.Meets.{IsEnd}
-use Rattle.plane.specs.Faces.Replays.{Replay, IsRun, IsLawful, IsStrip, replay, list_after}
+use Rattle.plane.specs.Faces.Replays.{Replay, replay, list_after}
+use Rattle.plane.proofs.Runs.RunWords.{IsRun, IsLawful, IsStrip}
 use Rattle.plane.proofs.ListLemmas.Lists.{each_has, each_from, each_append}
 use Rattle.plane.proofs.Linear.Signs.{by_sign}
 use Rattle.plane.proofs.Runs.LiveEdges.{side_through_low}

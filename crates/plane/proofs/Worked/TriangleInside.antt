@@ -4,7 +4,8 @@ use Rattle.std.proofs.Common.{◌≡◌, ℕ, zero, suc, ◌+◌, ◌<◌, ◌�
 use Rattle.std.proofs.lemmas.Int.{ints}
 use Rattle.plane.specs.Forms.Vectors.{Vector, point, side, On}
 use Rattle.plane.specs.Faces.Replays.{Replay, replay, IsOffEdges}
-use Rattle.plane.specs.Faces.Cells.{Sector, sector, corner, Opens, IsOuterByEdges}
+use Rattle.plane.specs.Faces.Cells.{Sector, sector, corner, Opens}
+use Rattle.plane.proofs.Strips.OuterWords.{IsOuterByEdges}
 use Rattle.plane.proofs.Strips.OneStrip.{linked_keeps}
 use Rattle.plane.proofs.Strips.Outer.{outer_linked}
 use Rattle.plane.proofs.Runs.Numbered.{swept_run}

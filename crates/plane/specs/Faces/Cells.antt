@@ -83,10 +83,6 @@ pub data JoinedByEdges (r : Replay) : Vector → Vector → Type 0 where
   arrives : (p q : Vector) → Same p q → JoinedByEdges r p q
   goes : (p q s : Vector) → Place q → IsFree r p q → JoinedByEdges r q s → JoinedByEdges r p s
 
--- joined to places as far to the left as wanted
-abbrev pub IsOuterByEdges : Replay → Vector → Type 0
-IsOuterByEdges r p = (b : ℤ) → (q : Vector) × Place q × JoinedByEdges r p q × (q.x <ℤ (b *ℤ q.n))
-
 -- the label of a sector: that of the side above the edge under it, or 0 at the bottom
 abbrev pub label_of : Labels → Replay → Sector → ℕ
 label_of a r c = label_at a 0 c.index (r.list c.strip)

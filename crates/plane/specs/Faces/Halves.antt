@@ -44,12 +44,6 @@ mark a (over e) = a.above e
 abbrev pub IsMatched : Replay → Labels → Type 0
 IsMatched r a = (k : ℕ) → k < r.steps → MatchesAt a (r.step k)
 
--- the label under the edge at place i, g if there is none
-abbrev pub label_over : Labels → ℕ → ℕ → List ℕ → ℕ
-label_over a g i [] = g
-label_over a g zero (e ∷ es) = a.below e
-label_over a g (suc i) (e ∷ es) = label_over a g i es
-
 -- ---- numbers of half-edges
 abbrev pub number : Half → ℕ
 number (under e) = e + e

@@ -27,10 +27,6 @@ parity p (x ∷ xs) = differ (p x) (parity p xs)
 unfoldable pub is_right : Point → Vector → Bool
 is_right p z = is_positive ((p.x *ℤ z.n) -ℤ z.x)
 
--- p comes after z on the sweep
-unfoldable pub is_after : ℤ → Point → Vector → Bool
-is_after w p z = is_positive ((sweep w (point p) *ℤ z.n) -ℤ sweep w z)
-
 -- z is strictly below the line of e
 unfoldable pub is_under : Edge → Vector → Bool
 is_under e z = is_positive (pos 0 -ℤ side e z)
@@ -38,14 +34,6 @@ is_under e z = is_positive (pos 0 -ℤ side e z)
 -- low.x <= x < high.x, and z strictly below e
 abbrev pub crosses_vertical : Vector → Edge → Bool
 crosses_vertical z e = both (flip (is_right e.low z)) (both (is_right e.high z) (is_under e z))
-
--- the same along the sweep line
-abbrev pub crosses_sweep : ℤ → Vector → Edge → Bool
-crosses_sweep w z e = both (flip (is_after w e.low z)) (both (is_after w e.high z) (is_under e z))
-
--- between the vertical upwards from z and its sweep line upwards
-abbrev pub in_wedge : ℤ → Vector → Point → Bool
-in_wedge w z p = both (flip (is_right p z)) (is_after w p z)
 
 -- the ends of the edges, each as often as it is one
 abbrev pub ends_of : List Edge → List Point
@@ -61,26 +49,6 @@ same_point p q = both (same_whole p.x q.x) (same_whole p.y q.y)
 -- each point is the end of an even number of the edges
 abbrev pub EvenEnds : List Edge → Type 0
 EvenEnds es = (p : Point) → parity (same_point p) (ends_of es) ≡ false
-
--- so many elements pass the test
-abbrev pub one_if : Bool → ℕ
-one_if true = 1
-one_if false = 0
-
-abbrev pub tally : {X : Type 0} → (X → Bool) → List X → ℕ
-tally p [] = 0
-tally p (x ∷ xs) = one_if (p x) + tally p xs
-
-abbrev pub Even : ℕ → Type 0
-Even n = (k : ℕ) × (n ≡ k + k)
-
-abbrev pub Odd : ℕ → Type 0
-Odd n = (k : ℕ) × (n ≡ suc (k + k))
-
--- ---- numbers, and edges chosen by number
-abbrev pub numbers_below : ℕ → List ℕ
-numbers_below zero = []
-numbers_below (suc m) = m ∷ numbers_below m
 
 abbrev pub same_number : ℕ → ℕ → Bool
 same_number zero zero = true

@@ -20,19 +20,6 @@ along h v = (wide h *ℤ off_x h v) +ℤ (tall h *ℤ off_y h v)
 abbrev pub seen : HalfArc → Vector → Vector
 seen h v = record { x = along h v; y = bow h v; n = v.n }
 
--- the segment from p to q hits the half arc: u is not outside and v not inside, both on the arc's side of the chord
-pub record HitsArc (h : HalfArc) (p q : Vector) : Type 0 where
-  pub u : Vector
-  pub v : Vector
-  pub u_place : Place u
-  pub v_place : Place v
-  pub u_between : Between u p q
-  pub v_between : Between v p q
-  pub u_away : pos 0 ≤ℤ bow h u
-  pub v_away : pos 0 ≤ℤ bow h v
-  pub u_in : power h u ≤ℤ pos 0
-  pub v_out : pos 0 ≤ℤ power h v
-
 -- p and q are both strictly inside the circle or both strictly outside
 abbrev pub SameSign : HalfArc → Vector → Vector → Type 0
 SameSign h p q = ((power h p <ℤ pos 0) × (power h q <ℤ pos 0)) ⊎ ((pos 0 <ℤ power h p) × (pos 0 <ℤ power h q))

@@ -22,11 +22,6 @@ pub record InSlab (c : Cap) (v : Vector) : Type 0 where
   pub low : pos 0 ≤ℤ v.x
   pub high : v.x ≤ℤ (c.chord *ℤ v.n)
 
--- the place is in the slab and over the circle's lower part
-pub record IsOver (c : Cap) (v : Vector) : Type 0 where
-  pub slab : InSlab c v
-  pub over : (shape c v <ℤ pos 0) ⊎ (pos 0 ≤ℤ v.y)
-
 -- the cap of a half arc
 abbrev pub cap : HalfArc → Cap
 cap h = record { size = bend h *ℤ bend h; chord = chord h; sag = chord h *ℤ facing h }

@@ -14,17 +14,6 @@ abbrev pub way : (ℕ → Edge) → Half → Edge
 way E (under e) = back (E e)
 way E (over e) = E e
 
--- 1 for the label t, 0 for others
-abbrev pub one_at : ℕ → ℕ → ℤ
-one_at zero zero = pos 1
-one_at zero (suc l) = pos 0
-one_at (suc t) zero = pos 0
-one_at (suc t) (suc l) = one_at t l
-
--- how the label t begins or ends at an edge, from below to above
-abbrev pub change : Labels → ℕ → ℕ → ℤ
-change lab t e = one_at t (lab.above e) -ℤ one_at t (lab.below e)
-
 -- the half-edges that have the label t are those of the list, each on an edge of its own
 pub record IsFaced (m : ℕ) (lab : Labels) (t : ℕ) (hs : List Half) : Type 0 where
   pub some_label : t ≡ 0 → ⊥
