@@ -1,5 +1,5 @@
 -- What lies over a cap: a word of the lemmas on caps.
-use Rattle.std.specs.Prelude.{ℤ, pos, ◌<ℤ◌, ◌≤ℤ◌, ◌⊎◌}
+use Rattle.std.specs.Prelude.{pos, ◌<ℤ◌, ◌≤ℤ◌, ◌⊎◌}
 use Rattle.plane.specs.Forms.Vectors.{Vector}
 use Rattle.plane.specs.Tubes.Caps.{Cap, shape, InSlab}
 

@@ -1,9 +1,8 @@
 -- Hits of a half arc by means of the ends of a segment: a word of the lemmas on half arcs.
-use Rattle.std.specs.Prelude.{ℤ, pos, ◌≤ℤ◌}
+use Rattle.std.specs.Prelude.{pos, ◌≤ℤ◌}
 use Rattle.plane.specs.Forms.Vectors.{Vector, Place, Between}
 use Rattle.plane.specs.Rule.HalfArcs.{HalfArc}
 use Rattle.plane.specs.Rule.HalfArcs.{power, bow}
-use Rattle.plane.specs.Forms.Arcs.{chord}
 
 -- the segment from p to q hits the half arc: u is not outside and v not inside, both on the arc's side of the chord
 pub record HitsArc (h : HalfArc) (p q : Vector) : Type 0 where

@@ -3,7 +3,7 @@ use Rattle.std.specs.Prelude.{◌≡◌, ℕ, zero, suc, ◌+◌, Bool, true, fa
 use Rattle.plane.specs.declared.kinds.Point.{Point}
 use Rattle.plane.specs.Faces.Cells.{is_positive}
 use Rattle.plane.specs.Forms.Vectors.{Vector, point, Edge, sweep}
-use Rattle.plane.specs.Faces.Parity.{flip, both, is_right, is_under, chosen}
+use Rattle.plane.specs.Faces.Parity.{flip, both, is_right, is_under}
 
 -- p comes after z on the sweep
 unfoldable pub is_after : ℤ → Point → Vector → Bool

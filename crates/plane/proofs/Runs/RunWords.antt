@@ -1,5 +1,5 @@
 -- What holds of a run by the numbers of its steps: the words of the lemmas on runs.
-use Rattle.std.specs.Prelude.{◌≡◌, ℕ, suc, ◌<◌, ◌≤◌, ◌⊎◌, List, [], ℤ, pos, ◌*ℤ◌, ◌<ℤ◌, ◌≤ℤ◌}
+use Rattle.std.specs.Prelude.{◌≡◌, ℕ, suc, ◌<◌, ◌≤◌, ◌⊎◌, List, [], pos, ◌*ℤ◌, ◌<ℤ◌, ◌≤ℤ◌}
 use Rattle.plane.specs.Lists.{Has, Neighbours}
 use Rattle.plane.specs.Forms.Vectors.{Vector, Place, point, side, sweep, rise, gap}
 use Rattle.plane.specs.Runs.Steps.{before, after, Divides}

@@ -1,5 +1,5 @@
 -- Places that edges do not enclose: a word of the lemmas on cells.
-use Rattle.std.specs.Prelude.{◌<◌, ℤ, ◌*ℤ◌, ◌<ℤ◌}
+use Rattle.std.specs.Prelude.{ℤ, ◌*ℤ◌, ◌<ℤ◌}
 use Rattle.plane.specs.Forms.Vectors.{Vector, Place}
 use Rattle.plane.specs.Faces.Replays.{Replay}
 use Rattle.plane.specs.Faces.Cells.{JoinedByEdges}

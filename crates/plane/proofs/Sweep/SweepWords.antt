@@ -3,7 +3,7 @@ use Rattle.std.specs.Prelude.{◌≡◌, ℕ, ◌<◌, ℤ, pos, ◌<ℤ◌, ◌
 use Rattle.plane.specs.declared.kinds.Point.{Point}
 use Rattle.plane.specs.Forms.Vectors.{point, Edge, side, sweep, rise}
 use Rattle.plane.specs.Lists.{Each, First, Neighbours, Has}
-use Rattle.plane.specs.Runs.Steps.{Step, before, after, live}
+use Rattle.plane.specs.Runs.Steps.{Step, live}
 use Rattle.plane.specs.Runs.Sweeps.{Front, OnLive, BadAfter}
 
 -- each point is before all later ones on the sweep

@@ -1,6 +1,6 @@
 -- Sectors of a run, what opens from one to the next, and places joined by segments that hit no edge.
 -- A cell is made of sectors, one in each strip that it goes through; border sectors lie under all edges or over all.
-use Rattle.std.specs.Prelude.{◌≡◌, ℕ, zero, suc, ◌+◌, ◌<◌, ◌≤◌, ◌⊎◌, Bool, true, false, cond, List, [], ◌∷◌, length, ℤ, pos, negsuc, ◌*ℤ◌, ◌-ℤ◌, ◌<ℤ◌}
+use Rattle.std.specs.Prelude.{◌≡◌, ℕ, zero, suc, ◌+◌, ◌<◌, ◌≤◌, ◌⊎◌, Bool, true, false, cond, List, [], ◌∷◌, length, ℤ, pos, negsuc, ◌*ℤ◌, ◌-ℤ◌}
 use Rattle.plane.specs.Forms.Vectors.{Vector, Place, Same, side, sweep, HitsEdge}
 use Rattle.plane.specs.Faces.Labels.{Labels, label_at}
 use Rattle.plane.specs.Faces.Replays.{Replay, reach}

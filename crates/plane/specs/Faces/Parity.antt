@@ -1,10 +1,10 @@
 -- Parity: counts of edges over a place, along the vertical and along the sweep line.
 -- Chosen edges are told by their numbers.
-use Rattle.std.specs.Prelude.{◌≡◌, ℕ, zero, suc, ◌+◌, Bool, true, false, cond, List, [], ◌∷◌, ℤ, pos, ◌*ℤ◌, ◌-ℤ◌}
+use Rattle.std.specs.Prelude.{◌≡◌, ℕ, zero, suc, Bool, true, false, cond, List, [], ◌∷◌, ℤ, pos, ◌*ℤ◌, ◌-ℤ◌}
 use Rattle.plane.specs.declared.kinds.Point.{Point}
 use Rattle.plane.specs.Faces.Labels.{Labels}
 use Rattle.plane.specs.Faces.Cells.{is_positive}
-use Rattle.plane.specs.Forms.Vectors.{Vector, point, Edge, side, sweep}
+use Rattle.plane.specs.Forms.Vectors.{Vector, Edge, side}
 
 abbrev pub flip : Bool → Bool
 flip true = false

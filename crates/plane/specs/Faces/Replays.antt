@@ -1,9 +1,8 @@
 -- A run by numbers: its steps, the live list after each, strips between events, and what the laws of runs say of them.
 -- The laws that speak of cells, half-edges and faces stand over this form; lists of steps done and to do give it.
-use Rattle.std.specs.Prelude.{◌≡◌, ℕ, zero, suc, ◌<◌, ◌≤◌, ◌⊎◌, List, [], ◌∷◌, length, get_or, ℤ, pos, ◌*ℤ◌, ◌<ℤ◌, ◌≤ℤ◌}
-use Rattle.plane.specs.Lists.{Has, Neighbours}
-use Rattle.plane.specs.Forms.Vectors.{Vector, Place, point, Edge, side, sweep, rise, gap, On}
-use Rattle.plane.specs.Runs.Steps.{Step, before, after, Divides}
+use Rattle.std.specs.Prelude.{ℕ, zero, suc, ◌<◌, List, [], ◌∷◌, length, get_or, ℤ, pos}
+use Rattle.plane.specs.Forms.Vectors.{Vector, point, Edge, sweep, On}
+use Rattle.plane.specs.Runs.Steps.{Step, after}
 
 -- edges by number, steps by number, and the live list after so many steps
 pub record Replay : Type 0 where

@@ -1,6 +1,6 @@
 -- Working forms of half arcs: how places are seen from the chord, and hits with the segment's places as means of its ends.
-use Rattle.std.specs.Prelude.{◌⊎◌, ℤ, pos, ◌+ℤ◌, ◌*ℤ◌, ◌-ℤ◌, ◌<ℤ◌, ◌≤ℤ◌}
-use Rattle.plane.specs.Forms.Vectors.{Vector, Place, Between}
+use Rattle.std.specs.Prelude.{◌⊎◌, ℤ, pos, ◌+ℤ◌, ◌*ℤ◌, ◌-ℤ◌, ◌<ℤ◌}
+use Rattle.plane.specs.Forms.Vectors.{Vector}
 pub use Rattle.plane.specs.Rule.HalfArcs.{HalfArc, wide, tall, third_x, third_y, off_x, off_y}
 unfoldable pub use Rattle.plane.specs.Rule.HalfArcs.{bend, circle_x, circle_y, power, bow}
 

@@ -1,9 +1,9 @@
 -- A sweep that is under way: the steps that are done, and the points of the events that are to come.
 -- A step is made from the live list by a cut, and neighbours are tested as they come together.
-use Rattle.std.specs.Prelude.{◌≡◌, ℕ, ◌<◌, ℤ, pos, ◌<ℤ◌, ◌≤ℤ◌, ◌⊎◌, List, [], ◌∷◌, ◌++◌}
+use Rattle.std.specs.Prelude.{◌≡◌, ℕ, ◌<◌, ℤ, pos, ◌<ℤ◌, ◌≤ℤ◌, ◌⊎◌, List, [], ◌∷◌}
 use Rattle.plane.specs.declared.kinds.Point.{Point}
-use Rattle.plane.specs.Forms.Vectors.{point, Edge, side, sweep, rise, gap, Before}
-use Rattle.plane.specs.Lists.{Each, First, Last, Neighbours, Has}
+use Rattle.plane.specs.Forms.Vectors.{point, Edge, side, sweep, gap, Before}
+use Rattle.plane.specs.Lists.{First, Last, Neighbours, Has}
 use Rattle.plane.specs.Runs.Steps.{Step, before, after, Turns, live, Replayed}
 use Rattle.plane.specs.Forms.Weights.{Weight}
 use Rattle.plane.specs.Forms.Meets.{OnStraight, Fine, Bad}

@@ -1,8 +1,7 @@
 -- A strip of triangles between two chains that rise along x: the inner corners below, the outer corners above.
-use Rattle.std.specs.Prelude.{◌≡◌, ◌⊎◌, List, [], ◌∷◌, ℤ, pos, ◌+ℤ◌, ◌*ℤ◌, ◌<ℤ◌, ◌≤ℤ◌}
+use Rattle.std.specs.Prelude.{List, [], ◌∷◌, pos, ◌*ℤ◌, ◌≤ℤ◌}
 use Rattle.plane.specs.declared.kinds.Point.{Point}
-use Rattle.plane.specs.Forms.Vectors.{Vector, point, mix, Edge, side}
-use Rattle.plane.specs.Tubes.Caps.{Cap, shape}
+use Rattle.plane.specs.Forms.Vectors.{Vector, Edge, side}
 use Rattle.plane.specs.Tubes.Bays.{Bay}
 
 abbrev pub line : Point → Point → Edge
