@@ -1,4 +1,4 @@
--- Arc6 in the cap's own picture: from a place that is not outside to one that is not inside, over the chord's line, a place of the segment is in the strip.
+-- In the cap's own picture: from a place that is not outside to one that is not inside, over the chord's line, a place of the segment is in the strip.
 use Rattle.std.proofs.Common.{◌≡◌, ℤ, pos, ◌+ℤ◌, ◌*ℤ◌, ◌-ℤ◌, ◌<ℤ◌, ◌≤ℤ◌, inl, inr, List, [], ◌∷◌, refl, arith, ap, ◌∙◌, subst, sym}
 use Rattle.std.proofs.lemmas.Int.{ints, by_lt_z}
 use Rattle.plane.specs.declared.kinds.Point.{Point}

@@ -1,4 +1,4 @@
--- Arc5: the strip is what is not under the inner chain and not over the outer chain.
+-- The strip is what is not under the inner chain and not over the outer chain.
 use Rattle.std.proofs.Common.{◌≡◌, ℤ, pos, ◌*ℤ◌, ◌-ℤ◌, ◌<ℤ◌, ◌≤ℤ◌, ◌⊎◌, inl, inr, List, [], ◌∷◌, arith, ap}
 use Rattle.std.proofs.lemmas.Int.{ints, by_lt_z}
 use Rattle.plane.specs.declared.kinds.Point.{Point}

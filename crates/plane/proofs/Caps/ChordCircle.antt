@@ -10,7 +10,7 @@ use Rattle.plane.proofs.Algebra.Ring.{Expr, at, num, plus, minus, times, vars, r
 abbrev pub SHAPE : Expr → Expr → Expr → Expr → Expr → Expr → Expr
 SHAPE g l k x y n = plus (times g (times x (minus x (times l n)))) (times y (plus y (times k n)))
 
--- ---- Arc2: over the chord's line, what is not outside is in the slab
+-- ---- over the chord's line, what is not outside is in the slab
 outside_slab : (G x m r : ℤ) → pos 0 <ℤ G → pos 0 <ℤ (x *ℤ (x -ℤ m)) → pos 0 ≤ℤ r → ((G *ℤ (x *ℤ (x -ℤ m))) +ℤ r) ≤ℤ pos 0 → ⊥
 outside_slab G x m r hG hx hr h = let p = product_positive G (x *ℤ (x -ℤ m)) hG hx in omega (arith, ints, p, hr, h)
 
@@ -80,7 +80,7 @@ shape_rises c p q hc hp hq hx hy h =
     up : (a b d : ℤ) → a -ℤ b ≡ d → pos 0 <ℤ d → b <ℤ a
     up a b d e h = omega (arith, ints)
 
--- ---- Arc3: along a segment
+-- ---- along a segment
 pub shape-mix : (c : Cap) (s : ℤ) (p : Vector) (t : ℤ) (q : Vector) →
     (p.n *ℤ q.n) *ℤ shape c (mix s p t q) ≡ (((s *ℤ p.n) +ℤ (t *ℤ q.n)) *ℤ ((s *ℤ (q.n *ℤ shape c p)) +ℤ (t *ℤ (p.n *ℤ shape c q))))
     -ℤ ((s *ℤ t) *ℤ ((c.size *ℤ (((q.n *ℤ p.x) -ℤ (p.n *ℤ q.x)) *ℤ ((q.n *ℤ p.x) -ℤ (p.n *ℤ q.x)))) +ℤ (((q.n *ℤ p.y) -ℤ (p.n *ℤ q.y)) *ℤ ((q.n *ℤ p.y) -ℤ (p.n *ℤ q.y)))))

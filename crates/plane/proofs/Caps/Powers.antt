@@ -28,7 +28,7 @@ POWER D A B AX AY x y n =
 abbrev FAR : Expr → Expr → Expr → Expr → Expr → Expr
 FAR D px py qx qy = times (times D D) (plus (times (minus px qx) (minus px qx)) (times (minus py qy) (minus py qy)))
 
--- Arc3 for points
+-- along a segment between points
 pub power-mix : (h : HalfArc) (s : ℤ) (p : Point) (t : ℤ) (q : Point) →
     power h (mix s (point p) t (point q)) ≡ ((s +ℤ t) *ℤ ((s *ℤ power h (point p)) +ℤ (t *ℤ power h (point q)))) -ℤ ((s *ℤ t) *ℤ far h p q)
 unfolding power distance

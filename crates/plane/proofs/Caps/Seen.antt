@@ -10,7 +10,7 @@ use Rattle.plane.proofs.Algebra.Ring.{Expr, at, num, plus, minus, times, vars, r
 use Rattle.plane.proofs.Caps.CapOver.{cancel_below, cancel_least, cancel_most, times_below, times_most}
 use Rattle.plane.proofs.Linear.Clear.{vector_eq}
 
--- Arc1: the chord form
+-- the circle by its chord
 pub chord-form : (h : HalfArc) (v : Vector) → chord h *ℤ power h v ≡ shape (cap h) (seen h v)
 unfolding chord power shape along bow bend facing circle_x circle_y
 chord-form h v =

@@ -1,4 +1,4 @@
--- Arc7: two places over the circle's lower part have one sign where the segment between them does not hit the half arc.
+-- Two places over the circle's lower part have one sign where the segment between them does not hit the half arc.
 use Rattle.std.proofs.Common.{◌≡◌, ℤ, pos, ◌+ℤ◌, ◌*ℤ◌, ◌-ℤ◌, ◌<ℤ◌, ◌≤ℤ◌, ◌⊎◌, inl, inr, [], ◌∷◌, refl, arith, subst, sym}
 use Rattle.std.proofs.lemmas.Int.{ints, by_lt_z}
 use Rattle.plane.specs.Forms.Vectors.{Vector, Place, mix, Between}

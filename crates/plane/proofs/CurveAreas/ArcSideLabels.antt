@@ -1,4 +1,4 @@
--- Use5 for half arcs: the ends of every segment that crosses a half arc have the labels outside the inner and outside the outer chain of its tube.
+-- The ends of every segment that crosses a half arc have the labels outside the inner and outside the outer chain of its tube.
 use Rattle.std.proofs.Common.{◌≡◌, ℕ, ◌<◌, List, [], ◌∷◌, length, ℤ, pos, ◌<ℤ◌, ◌⊎◌, inl, inr, refl, ap, sym, ◌∙◌, subst}
 use Rattle.plane.specs.declared.kinds.Point.{Point}
 use Rattle.plane.specs.declared.kinds.CurveKind.TheVariants as kind

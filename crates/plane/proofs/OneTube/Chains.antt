@@ -1,4 +1,4 @@
--- Arc4: the inner chain is strictly inside, the outer chain strictly outside and over the chord's line, but at the ends of the half arc.
+-- The inner chain is strictly inside, the outer chain strictly outside and over the chord's line, but at the ends of the half arc.
 use Rattle.std.proofs.Common.{◌≡◌, ℤ, pos, ◌+ℤ◌, ◌*ℤ◌, ◌-ℤ◌, ◌<ℤ◌, ◌≤ℤ◌, List, [], ◌∷◌, refl, arith, ap, subst, sym}
 use Rattle.std.proofs.lemmas.Int.{ints, by_lt_z}
 use Rattle.plane.specs.declared.kinds.Point.{Point}
@@ -205,7 +205,7 @@ outer_corners h p b (d ∷ rest) hc r o =
     let k = outer_corner h p b (d ∷ rest) hc r in
     ((k, outside_high h (point b.outer) hc o.1.0 k), outer_corners h b.inner d rest hc (rest_of h p b d rest r) o.1.1)
 
--- ---- Arc4
+-- ---- the chains of a tube
 pub tube_inner : (h : HalfArc) (bs : List Bay) → IsTube h bs → InnerChain (RunsInside h) h.from bs
 tube_inner h [] t = tt
 tube_inner h (b ∷ rest) t =

@@ -1,4 +1,4 @@
--- Arc6 and Arc7 for a tube.
+-- Of a tube: a segment that hits its half arc has a place in it, and keeps its side where it does not hit.
 use Rattle.std.proofs.Common.{◌≡◌, ℤ, pos, ◌+ℤ◌, ◌*ℤ◌, ◌<ℤ◌, ◌≤ℤ◌, List, [], ◌∷◌, refl, arith, ap, ◌∙◌, subst, sym}
 use Rattle.std.proofs.lemmas.Int.{ints}
 use Rattle.plane.specs.Forms.Vectors.{Vector, Place, Between, mix}
@@ -109,7 +109,7 @@ between_mix p q u v s t hp hq hu hv bu bv hs ht some = record {
         ∙ ring (times (at 0) (times (at 1) (at 2))) (times (times (at 1) (at 0)) (at 2)) (vars (x ∷ k ∷ n ∷ [])) refl
         ∙ ap (λ (w : ℤ). w *ℤ n) (sym e)
 
--- ---- Arc6
+-- ---- a segment that hits
 pub tube_covers : (h : HalfArc) (bs : List Bay) (p q : Vector) → IsTube h bs → Place p → Place q → HitsArc h p q → MeetsTube h bs p q
 tube_covers h [] p q t hp hq k = absurd t.some
 tube_covers h (b ∷ rest) p q t hp hq k =
@@ -123,13 +123,13 @@ tube_covers h (b ∷ rest) p q t hp hq k =
       there = tube_only h h.from (b ∷ rest) (mix r.s k.u r.t k.v) hc (subst (λ (z : Vector). InTube (seen_point h h.from) (seen_bays h (b ∷ rest)) z) (sym (seen-mix h r.s k.u r.t k.v)) r.there);
     }
 
--- ---- Arc7
+-- ---- a segment that does not hit
 pub tube_keeps_sign : (h : HalfArc) (bs : List Bay) (p q : Vector) → IsTube h bs → Place p → Place q → InTube h.from bs p → InTube h.from bs q → (HitsArc h p q → ⊥) → SameSign h p q
 tube_keeps_sign h [] p q t hp hq ip iq miss = absurd t.some
 tube_keeps_sign h (b ∷ rest) p q t hp hq ip iq miss =
     sign_kept h p q (tube_cap h (b ∷ rest) t) hp hq (in_tube_over h b rest p t hp ip) (in_tube_over h b rest q t hq iq) miss
 
--- ---- Arc5
+-- ---- the region between the chains
 pub tube_region : (h : HalfArc) (bs : List Bay) (z : Vector) → IsTube h bs → Place z → InTube h.from bs z → IsRegion h bs z
 tube_region h [] z t hz k = absurd t.some
 tube_region h (b ∷ rest) z t hz k =

@@ -120,7 +120,7 @@ corners_over h p b [] hc r a op = (op, (between_over h p b [] hc r a op, next_ov
 corners_over h p b (d ∷ rest) hc r a op =
     (op, (between_over h p b (d ∷ rest) hc r a op, corners_over h b.inner d rest hc (rest_of h p b d rest r) (next_low h p b (d ∷ rest) r a) (next_over h p b (d ∷ rest) hc r a)))
 
--- ---- Arc4: the tube is a strip
+-- ---- the tube is a strip
 outer_high : (h : HalfArc) (v : Point) → IsCap (cap h) → Corner h v → pos 0 ≤ℤ power h (point v) → pos 0 ≤ℤ bow h (point v)
 outer_high h v hc o k = over_away h (point v) hc o k
 

@@ -1,4 +1,4 @@
--- Arc11: a segment that hits no curve keeps the label of its places.
+-- A segment that hits no curve keeps the label of its places.
 use Rattle.std.proofs.Common.{◌≡◌, ℕ, zero, suc, ◌+◌, ◌-◌, ◌<◌, ◌≤◌, List, [], ◌∷◌, ◌++◌, length, ℤ, pos, ◌+ℤ◌, ◌*ℤ◌, ◌-ℤ◌, ◌<ℤ◌, ◌≤ℤ◌, ◌⊎◌, inl, inr, refl, arith, ap, sym, ◌∙◌, subst}
 use Rattle.std.proofs.lemmas.Int.{ints, by_lt_z}
 use Rattle.plane.specs.Lists.{Has}
@@ -269,6 +269,6 @@ module _ (r : Replay) (whole : IsWhole r) (lab : Labels) (matched : IsMatched r 
   pub has_label : (z : Vector) → IsOnWay p q z → (l : ℕ) × HasLabel r lab T z l
   has_label z w = place_label r whole lab matched T p q P Q keeps z w
 
-  -- Arc11
+  -- the whole segment
   pub label_kept : (l m : ℕ) → HasLabel r lab T p l → HasLabel r lab T q m → l ≡ m
   label_kept l m hp hq = label_along r whole lab matched T p q P Q keeps l m hp hq

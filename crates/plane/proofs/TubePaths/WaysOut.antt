@@ -1,4 +1,4 @@
--- Arc12: a place of a tube is joined to a place beyond each edge of its side. Arc13: outside the tubes, places joined off the edges are joined off the curves.
+-- A place of a tube is joined to a place beyond each edge of its side. Outside the tubes, places joined off the edges are joined off the curves.
 use Rattle.std.proofs.Common.{◌≡◌, ℕ, ◌<◌, ◌∷◌, ℤ, pos, ◌+ℤ◌, ◌*ℤ◌, ◌<ℤ◌, ◌≤ℤ◌, [], inl, inr, refl, arith, ap, sym, ◌∙◌, subst}
 use Rattle.std.proofs.lemmas.Int.{ints, by_lt_z}
 use Rattle.plane.specs.Lists.{Has}
@@ -105,7 +105,7 @@ module _ (r : Replay) (whole : IsWhole r) (lab : Labels) (matched : IsMatched r 
     pub beside : Beside r g (sector r o)
     pub path : CurvePath r T Meets z o
 
-  -- Arc12
+  -- the way out
   module _ (c : ℕ) (l : c < T.count) (s : Side) (h : Half) (wall : IsSideWall r lab T c s h) where
     beyond : (x o : Vector) → IsExit r h x o → (z : Vector) → Place z → InTubeAt T c z → IsOnSide T c s z → IsBeside (twin h) z o
     beyond x o e z Z in_z side_z = record {
@@ -191,7 +191,7 @@ module _ (r : Replay) (whole : IsWhole r) (lab : Labels) (matched : IsMatched r 
     pub way_out : (z : Vector) → Place z → InTubeAt T c z → IsOnSide T c s z → (o : Vector) × IsBeside (twin h) z o
     way_out z Z i k = let e = exit r whole.run whole.law h ((tubes.tube c l).faced.fits h wall.has) in (e.1, beyond e.0 e.1 e.2 z Z i k)
 
-  -- ---- Arc13
+  -- ---- outside the tubes
   pub same_free : (p q : Vector) → Place p → Place q → IsOffEdges r p → Same p q → IsFree r p q
   same_free p q P Q off h e l = mix_clear r.weight (r.edge e) p q P Q
       (λ s t hs ht some on. off e l (on_same r.weight (r.edge e) (mix s p t q) p record { x = one s t p.x p.n q.x q.n h.x; y = one s t p.y p.n q.y q.n h.y } (mix_place s p t q P Q hs ht some) P on))

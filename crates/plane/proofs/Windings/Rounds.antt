@@ -1,4 +1,4 @@
--- The triangles of a tube: their windings add up to the turning of its bounds, and they tile it (Arc8).
+-- The triangles of a tube: their windings add up to the turning of its bounds, and they tile it.
 use Rattle.std.proofs.Common.{◌≡◌, List, [], ◌∷◌, ℤ, pos, ◌+ℤ◌, ◌<ℤ◌, ◌≤ℤ◌, ◌⊎◌, inl, inr, refl, arith, ap, sym, ◌∙◌, subst}
 use Rattle.std.proofs.lemmas.Int.{ints}
 use Rattle.plane.specs.declared.kinds.Point.{Point}
@@ -149,7 +149,7 @@ windings_none w z (t ∷ ts) Z h none =
       | inr n ↦ absurd (none (t, inl refl, within_triangle t z Z h.0.0 n.1))
     ]
 
--- ---- Arc8
+-- ---- the triangles tile the tube
 -- in a triangle, off the bounds: the bounds go round the place
 pub tube_round : (w : ℤ) (z : Vector) (a : Point) (k : Bay) (ks : List Bay) → Place z → IsTiled w (tiles a (k ∷ ks)) → IsClearOf (bounds a (k ∷ ks)) z → InSomeTile (tiles a (k ∷ ks)) z
     → pos 1 ≤ℤ total (turning w z) (bounds a (k ∷ ks))

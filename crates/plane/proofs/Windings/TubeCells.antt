@@ -1,4 +1,4 @@
--- Arc9: a place off the edges is in a tube exactly where its cell has the tube's label; the edges of a tube come in adjacent pairs.
+-- A place off the edges is in a tube exactly where its cell has the tube's label; the edges of a tube come in adjacent pairs.
 use Rattle.std.proofs.Common.{◌≡◌, ℕ, ◌<◌, ◌≤◌, List, [], ◌∷◌, ◌++◌, length, map, ℤ, pos, ◌<ℤ◌, ◌≤ℤ◌, inl, inr, refl, arith, ap, sym, ◌∙◌, subst}
 use Rattle.std.specs.Prelude.{◌↔◌}
 use Rattle.std.proofs.lemmas.Int.{ints}
@@ -76,7 +76,7 @@ module _ (r : Replay) (run : IsRun r) (law : IsLawful r) (no_repeats : (k : ℕ)
           let m = mark_same t (last_label lab 0 lower) q in
           tube_holds r.weight z a b bs Z tube.tiled (let e = turning_is in omega (arith, ints, e, m))
 
-    -- Arc9
+    -- by its cell
     pub in_tube : (z : Vector) → Place z → IsOffEdges r z → InSomeTile (tiles a (b ∷ bs)) z ↔ (label_of lab r (sector r z) ≡ t)
     in_tube z Z off =
         let k = strip r z in
