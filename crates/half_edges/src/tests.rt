@@ -1,6 +1,7 @@
 // Small meshes against tables that were worked by hand. What `link` asks of a list is checked as a
 // test runs.
-ghost use Rattle.std.specs.Prelude.{◌≡◌, ◌≢◌, ℕ, ◌<◌, length, slice_index, IsTrue, IfOk, OnOk, false};
+ghost use Rattle.std.specs.Prelude.{◌≡◌, ◌≢◌, ℕ, ◌+◌, ◌-◌, ◌<◌, length, slice_index};
+ghost use Rattle.std.specs.Prelude.{IsTrue, IfOk, OnOk, false};
 ghost use Rattle.half_edges.specs.HalfEdges.{size};
 ghost use Rattle.half_edges.specs.Stars.{IsOnce, IsStar, IsLoose};
 
@@ -282,4 +283,41 @@ fn is_loose(mesh: &Mesh, around: &[HalfEdgeId]) -> bool
         }
     }
     true
+}
+
+// What a caller concludes from the clauses of `Mesh` alone. Links a vertex and answers what follows
+// the twin of the half-edge at place `k` of the list: the one at the place before, or the last one
+// where `k` is 0.
+fn next_after_linking(mesh: &mut Mesh, around: &[HalfEdgeId], k: usize) -> HalfEdgeId
+    requires star { IsStar mesh.old around.now }
+    requires loose { IsLoose mesh.old around.now }
+    requires place { k < length around.now }
+    ensures before { (j : ℕ) → k ≡ j + 1 → result ≡ slice_index around.now j }
+    ensures last { k ≡ 0 → result ≡ slice_index around.now (length around.now - 1) }
+{
+    mesh.link(around);
+    let _ = mesh.edges();
+    let back = mesh.twin(around[k]);
+    mesh.next(back)
+}
+
+// Two edges in a row, from 0 to 1 and from 1 to 2, linked where they meet: 2 arrives there and goes
+// on as 0, and 1 goes on as 3.
+fn bend(alloc: Global) -> Result<Mesh, Memory>
+    ensures back { IfOk result (λ mesh. slice_index mesh.next 2 ≡ 0) }
+    ensures forth { IfOk result (λ mesh. slice_index mesh.next 1 ≡ 3) }
+{
+    let mut mesh = Mesh::new(alloc, 3)?;
+    mesh.add_edge(VertexId(0), VertexId(1))?;
+    mesh.add_edge(VertexId(1), VertexId(2))?;
+    mesh.link(&[HalfEdgeId(0), HalfEdgeId(3)]);
+    Ok(mesh)
+}
+
+#[test]
+fn callers_know_what_comes_next(rt: HostRuntime) -> Result<(), Fail> {
+    let mesh = bend(rt.alloc())?;
+    assert_eq!(rt; mesh.next(HalfEdgeId(2)), HalfEdgeId(0));
+    assert_eq!(rt; mesh.next(HalfEdgeId(1)), HalfEdgeId(3));
+    Ok(())
 }

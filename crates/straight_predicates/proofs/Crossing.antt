@@ -3,13 +3,13 @@ use Rattle.std.proofs.Common.{◌≡◌, ℕ, ℤ, pos, ◌+ℤ◌, ◌*ℤ◌, 
 use Rattle.std.proofs.lemmas.Int.{ints, by_lt_z}
 use Rattle.plane.specs.declared.kinds.Point.{Point}
 use Rattle.plane.specs.declared.kinds.Edge.{Edge}
-use Rattle.plane.specs.Vectors.{Vector, Place, Same, mix, point, side}
-use Rattle.plane.specs.Meets as edges
-use Rattle.plane.proofs.Ring.{Expr, at, num, plus, minus, times, vars, ring}
-use Rattle.plane.proofs.Scaling.{cancel_zero, product_of_zero}
-use Rattle.plane.proofs.Signs.{by_sign, mix_place}
-use Rattle.plane.proofs.Vectors.{SIDE, side-low, side-high}
-use Rattle.plane.proofs.EdgePlaces.{place_point, on_line, mean_on, IsBalanced, balanced}
+use Rattle.plane.specs.Forms.Vectors.{Vector, Place, Same, mix, point, side}
+use Rattle.plane.specs.Forms.Meets as edges
+use Rattle.plane.proofs.Algebra.Ring.{Expr, at, num, plus, minus, times, vars, ring}
+use Rattle.plane.proofs.Algebra.Scaling.{cancel_zero, product_of_zero}
+use Rattle.plane.proofs.Linear.Signs.{by_sign, mix_place}
+use Rattle.plane.proofs.Linear.Vectors.{SIDE, side-low, side-high}
+use Rattle.plane.proofs.Linear.EdgePlaces.{place_point, on_line, mean_on, IsBalanced, balanced}
 use Rattle.straight_predicates.specs.Meetings.{ShareEnd}
 use Rattle.straight_predicates.proofs.OneSide.{IsAside}
 

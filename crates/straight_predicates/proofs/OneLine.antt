@@ -3,17 +3,17 @@ use Rattle.std.proofs.Common.{◌≡◌, ◌+◌, ◌^◌, ℤ, pos, ◌+ℤ◌,
 use Rattle.std.proofs.lemmas.Int.{ints, by_lt_z}
 use Rattle.plane.specs.declared.kinds.Point.{Point}
 use Rattle.plane.specs.declared.kinds.Edge.{Edge}
-use Rattle.plane.specs.Vectors.{Vector, Place, Same, mix, point, side, sweep, rise, Before, On}
-use Rattle.plane.specs.Weights.{Weight}
-use Rattle.plane.specs.Meets as edges
-use Rattle.plane.proofs.Laws.{square_nonnegative, square_zero, product_comm}
-use Rattle.plane.proofs.Ring.{Expr, at, num, plus, minus, times, vars, ring}
-use Rattle.plane.proofs.Scaling.{cancel_zero, product_of_zero, times_lt}
-use Rattle.plane.proofs.Vectors.{SIDE, side-mix, side-low, side-high, sweep-mix, rise-is}
-use Rattle.plane.proofs.OnePlace.{sweep_same}
-use Rattle.plane.proofs.Straights.{on_is}
-use Rattle.plane.proofs.Weights.{weight_from_spread, rise_positive}
-use Rattle.plane.proofs.EdgePlaces.{on_line, balanced}
+use Rattle.plane.specs.Forms.Vectors.{Vector, Place, Same, mix, point, side, sweep, rise, Before, On}
+use Rattle.plane.specs.Forms.Weights.{Weight}
+use Rattle.plane.specs.Forms.Meets as edges
+use Rattle.plane.proofs.Algebra.Laws.{square_nonnegative, square_zero, product_comm}
+use Rattle.plane.proofs.Algebra.Ring.{Expr, at, num, plus, minus, times, vars, ring}
+use Rattle.plane.proofs.Algebra.Scaling.{cancel_zero, product_of_zero, times_lt}
+use Rattle.plane.proofs.Linear.Vectors.{SIDE, side-mix, side-low, side-high, sweep-mix, rise-is}
+use Rattle.plane.proofs.Linear.OnePlace.{sweep_same}
+use Rattle.plane.proofs.Linear.Straights.{on_is}
+use Rattle.plane.proofs.Linear.Weights.{weight_from_spread, rise_positive}
+use Rattle.plane.proofs.Linear.EdgePlaces.{on_line, balanced}
 use Rattle.straight_predicates.specs.Meetings.{EdgesAreClose}
 use Rattle.straight_predicates.proofs.Crossing.{only_low, swap_same}
 
@@ -29,7 +29,7 @@ value w p = sweep w (point p)
 on_sweep : (w : ℤ) (e : Edge) (z : Vector) → pos 0 <ℤ rise w e → Place z → edges.OnStraight e z → On w e z
 on_sweep w e z r Z h = (on_is w e z r Z).1 h
 
-pub before_apart : (w : ℤ) (s t : Edge) → AreRising w s t → value w s.high <ℤ value w t.low → edges.Apart s t
+pub before_apart : (w : ℤ) (s t : Edge) → AreRising w s t → value w s.high <ℤ value w t.low → edges.Disjoint s t
 before_apart w s t r l z Z on_s on_t =
     let a = (on_sweep w s z r.first Z on_s).high in
     let b = (on_sweep w t z r.second Z on_t).low in
@@ -203,7 +203,7 @@ rising_edges s t h =
 touch_back : (s t : Edge) → edges.Touch t s → edges.Touch s t
 touch_back s t h = record { at = h.at; of_first = h.of_second; of_second = h.of_first; only = λ z Z on_s on_t. h.only z Z on_t on_s }
 
-pub line_apart : (s t : Edge) → AreSorted s t → Before s.high t.low ⊎ Before t.high s.low → edges.Apart s t
+pub line_apart : (s t : Edge) → AreSorted s t → Before s.high t.low ⊎ Before t.high s.low → edges.Disjoint s t
 line_apart s t h b =
     let w = close_weight s t h.close in
     let r = rising_edges s t h in

@@ -1,12 +1,12 @@
 -- Two ends strictly to one side of a line: the edges are apart.
 use Rattle.std.proofs.Common.{◌≡◌, ℤ, pos, ◌+ℤ◌, ◌*ℤ◌, ◌-ℤ◌, ◌<ℤ◌, ◌≤ℤ◌, ◌⊎◌, inl, inr, [], ◌∷◌, refl, arith}
 use Rattle.std.proofs.lemmas.Int.{ints}
-use Rattle.plane.specs.Vectors.{point, side}
+use Rattle.plane.specs.Forms.Vectors.{point, side}
 use Rattle.plane.specs.declared.kinds.Edge.{Edge}
-use Rattle.plane.specs.Meets as edges
-use Rattle.plane.proofs.Laws.{weight_at_most}
-use Rattle.plane.proofs.Ring.{at, num, plus, minus, times, vars, ring}
-use Rattle.plane.proofs.EdgePlaces.{on_line, balanced}
+use Rattle.plane.specs.Forms.Meets as edges
+use Rattle.plane.proofs.Algebra.Laws.{weight_at_most}
+use Rattle.plane.proofs.Algebra.Ring.{at, num, plus, minus, times, vars, ring}
+use Rattle.plane.proofs.Linear.EdgePlaces.{on_line, balanced}
 
 -- the ends of t lie strictly to one side of s
 abbrev pub IsAside : Edge → Edge → Type 0
@@ -23,7 +23,7 @@ below_sum g h i j hg hh hi hj some e =
     let k = ring (plus (times (at 2) (minus (num (pos 0)) (at 0))) (times (at 3) (minus (num (pos 0)) (at 1)))) (minus (num (pos 0)) (plus (times (at 2) (at 0)) (times (at 3) (at 1)))) (vars (g ∷ h ∷ i ∷ j ∷ [])) refl in
     above_sum (pos 0 -ℤ g) (pos 0 -ℤ h) i j (omega (arith, ints, hg)) (omega (arith, ints, hh)) hi hj some (omega (arith, ints, k, e))
 
-pub aside_apart : (s t : Edge) → IsAside s t → edges.Apart s t
+pub aside_apart : (s t : Edge) → IsAside s t → edges.Disjoint s t
 aside_apart s t aside z Z on_s on_t =
     let b = balanced s t z Z (on_line s z on_s) on_t in
     elim aside [
@@ -31,5 +31,5 @@ aside_apart s t aside z Z on_s on_t =
       | inr h ↦ below_sum _ _ b.i b.j h.0 h.1 b.i_least b.j_least b.some b.zero
     ]
 
-pub apart_back : (s t : Edge) → edges.Apart t s → edges.Apart s t
+pub apart_back : (s t : Edge) → edges.Disjoint t s → edges.Disjoint s t
 apart_back s t h z Z on_s on_t = h z Z on_t on_s

@@ -2,8 +2,8 @@
 use Rattle.std.proofs.Common.{◌≡◌, ℤ, pos, ◌<ℤ◌, inl, inr, refl, arith, sym, ◌∙◌, subst}
 use Rattle.std.proofs.lemmas.Int.{ints}
 use Rattle.plane.specs.declared.kinds.Edge.{Edge}
-use Rattle.plane.specs.Turns.{cross}
-use Rattle.plane.proofs.EdgePlaces.{side-cross}
+use Rattle.plane.specs.Rule.Turns.{cross}
+use Rattle.plane.proofs.Linear.EdgePlaces.{side-cross}
 use Rattle.straight_predicates.specs.declared.turns.Turn.{Turn}
 use Rattle.straight_predicates.specs.declared.turns.Turn.TheVariants.{Left, Straight, Right}
 use Rattle.straight_predicates.specs.Signs.{HasSign, AreOneSide, AreStraight}

@@ -1,8 +1,8 @@
 -- Edges of one window are close.
 use Rattle.plane.specs.declared.kinds.Point.{Point}
 use Rattle.plane.specs.declared.kinds.Edge.{Edge}
-use Rattle.plane.specs.Windows.{IsNarrow, IsInside}
-use Rattle.plane.proofs.WindowPoints.{inside_near, nearer}
+use Rattle.plane.specs.Rule.Windows.{IsNarrow, IsInside}
+use Rattle.plane.proofs.Linear.WindowPoints.{inside_near, nearer}
 use Rattle.straight_predicates.specs.Meetings.{AreClose, EdgesAreClose}
 
 pub inside_close : (low high p q : Point) → IsNarrow low high → IsInside low high p → IsInside low high q → AreClose p q

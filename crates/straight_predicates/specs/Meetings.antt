@@ -2,8 +2,8 @@
 use Rattle.std.specs.Prelude.{◌^◌}
 use Rattle.plane.specs.declared.kinds.Point.{Point}
 use Rattle.plane.specs.declared.kinds.Edge.{Edge}
-use Rattle.plane.specs.Turns.{AreNear}
-use Rattle.plane.specs.Meets as edges
+use Rattle.plane.specs.Rule.Turns.{AreNear}
+use Rattle.plane.specs.Forms.Meets as edges
 use Rattle.straight_predicates.specs.declared.meets.Meet.{Meet}
 use Rattle.straight_predicates.specs.declared.meets.Meet.TheVariants as answer
 
@@ -22,7 +22,7 @@ pub record EdgesAreClose (s t : Edge) : Type 0 where
 
 -- The edges meet as the answer says.
 abbrev pub IsMeet : Meet → Edge → Edge → Type 0
-IsMeet answer.Apart s t = edges.Apart s t
+IsMeet answer.Apart s t = edges.Disjoint s t
 IsMeet answer.CommonEnd s t = edges.Touch s t
 IsMeet answer.Bad s t = edges.Bad s t
 

@@ -18,6 +18,8 @@
 //! takes at most four turns and a few comparisons. A layer above may call them freely.
 #![tactic(auto)]
 
+#[cfg(test)]
+mod drawing_tests;
 mod meeting;
 mod meets;
 mod order;

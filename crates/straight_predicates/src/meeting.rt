@@ -1,8 +1,8 @@
 // How two edges meet: the signs of at most four turns, and comparisons of their ends.
 ghost use Rattle.std.specs.Prelude.{◌≡◌, ◌↔◌, IsTrue, pos};
-ghost use Rattle.plane.specs.Turns.{cross};
-ghost use Rattle.plane.specs.Vectors.{Before};
-ghost use Rattle.plane.specs.Meets as edges;
+ghost use Rattle.plane.specs.Rule.Turns.{cross};
+ghost use Rattle.plane.specs.Forms.Vectors.{Before};
+ghost use Rattle.plane.specs.Forms.Meets as edges;
 ghost use Rattle.straight_predicates.specs.Signs.{AreStraight, AreOneSide};
 ghost use Rattle.straight_predicates.specs.Meetings.{EdgesAreClose, IsMeet, ShareEnd};
 
@@ -17,7 +17,7 @@ pub fn meet(s: &Edge, t: &Edge) -> Meet
     requires s_sorted { Before s.now.low s.now.high }
     requires t_sorted { Before t.now.low t.now.high }
     requires close { EdgesAreClose s.now t.now }
-    ensures apart { result ≡ Meet.Apart ↔ edges.Apart s.now t.now }
+    ensures apart { result ≡ Meet.Apart ↔ edges.Disjoint s.now t.now }
     ensures common_end { result ≡ Meet.CommonEnd ↔ edges.Touch s.now t.now }
     ensures bad { result ≡ Meet.Bad ↔ edges.Bad s.now t.now }
 {

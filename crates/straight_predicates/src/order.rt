@@ -1,6 +1,6 @@
 // The order of points: by x, then by y.
 ghost use Rattle.std.specs.Prelude.{◌↔◌, IsTrue};
-ghost use Rattle.plane.specs.Vectors.{Before};
+ghost use Rattle.plane.specs.Forms.Vectors.{Before};
 
 use plane::Point;
 

@@ -1,7 +1,7 @@
 // The turn at three points: the exact sign of a cross product.
 ghost use Rattle.std.specs.Prelude.{◌≡◌, ℤ, pos, ◌-ℤ◌, ◌*ℤ◌, ◌^◌};
 ghost use Rattle.plane.specs.Numbers.{IsNear, IsWithin};
-ghost use Rattle.plane.specs.Turns.{cross};
+ghost use Rattle.plane.specs.Rule.Turns.{cross};
 ghost use Rattle.straight_predicates.specs.Signs.{HasSign};
 ghost use Rattle.straight_predicates.specs.Meetings.{AreClose};
 

@@ -1,4 +1,4 @@
-use Rattle.plane.proofs.Points.{decides_equal}
+use Rattle.plane.proofs.ListLemmas.Points.{decides_equal}
 use Rattle.straight_predicates.proofs.Choices.{or_else}
 use Rattle.straight_predicates.proofs.meeting.has_end.Goals as goal
 

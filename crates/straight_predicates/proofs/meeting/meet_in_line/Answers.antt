@@ -1,6 +1,6 @@
 use Rattle.std.proofs.Common.{◌≡◌, sym, ◌∙◌, inl, inr}
-use Rattle.plane.specs.Vectors.{Before}
-use Rattle.plane.proofs.Points.{decides_equal, before_other}
+use Rattle.plane.specs.Forms.Vectors.{Before}
+use Rattle.plane.proofs.ListLemmas.Points.{decides_equal, before_other}
 use Rattle.straight_predicates.proofs.Choices.{differ, refuted}
 use Rattle.straight_predicates.proofs.OneLine.{AreSorted, line_apart, line_touch, line_bad}
 use Rattle.straight_predicates.proofs.TurnSigns.{crosses_line}

@@ -1,4 +1,4 @@
-use Rattle.plane.proofs.Bounds.{difference_back}
+use Rattle.plane.proofs.Algebra.Bounds.{difference_back}
 use Rattle.std.proofs.Common.{arith, to_z-of_z}
 use Rattle.std.proofs.lemmas.Int.{ints}
 use Rattle.straight_predicates.proofs.turning.determinant.Goals as goal

@@ -1,6 +1,6 @@
 use Rattle.std.proofs.Common.{◌^◌, arith, subst, sym, ◌∙◌, to_z-of_z}
 use Rattle.plane.specs.Numbers.{IsWithin}
-use Rattle.plane.proofs.Bounds.{within_product, within_more, product_back}
+use Rattle.plane.proofs.Algebra.Bounds.{within_product, within_more, product_back}
 use Rattle.straight_predicates.proofs.turning.product.Goals as goal
 
 pub returns-clause-value : goal.returns-clause-value
