@@ -24,7 +24,7 @@
 //!   CONT or of `////`.
 //!
 //! Cost: one pass over the bytes, time and memory in proportion to their number, however many
-//! pieces a line has. A field of up to 22 bytes takes 24 bytes within its line; only a longer
+//! pieces a line has. A field of up to 14 bytes takes 16 bytes within its line; only a longer
 //! one has a block of its own.
 #![tactic(auto)]
 
