@@ -1,5 +1,6 @@
 // A physical line, cut into its fields.
-ghost use Rattle.std.specs.Prelude.{◌≡◌, ◌≤◌, ◌<◌, ◌∷◌, ◌||◌, [], length, OnSome, IfSome, IfNone, IsTrue, IsFalse, true, false};
+ghost use Rattle.std.specs.Prelude.{◌≡◌, ◌≤◌, ◌<◌, ◌∷◌, ◌||◌, [], length, true, false};
+ghost use Rattle.std.specs.Prelude.{OnSome, IfSome, IfNone, IsTrue, IsFalse};
 ghost use Rattle.bstr.specs.Text.{without_terminator};
 ghost use Rattle.itf_lines.specs.Fields.{fields, is_blank, trimmed, ends_in, without_last};
 ghost use Rattle.itf_lines.specs.Fronts.{field_len, begins_with_field};

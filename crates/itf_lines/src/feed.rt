@@ -1,8 +1,10 @@
 // The lines of a text that comes in pieces.
-ghost use Rattle.std.specs.Prelude.{◌≡◌, ◌+◌, ◌<◌, ◌≤◌, ◌∷◌, ◌++◌, [], length, drop, true, false, IfOk, OnOk, OnErr, IfSome, IfNone};
+ghost use Rattle.std.specs.Prelude.{◌≡◌, ◌+◌, ◌<◌, ◌≤◌, ◌∷◌, ◌++◌, [], length, drop, true, false};
+ghost use Rattle.std.specs.Prelude.{IfOk, OnOk, OnErr, IfSome, IfNone};
 ghost use Rattle.itf_lines.specs.Views.{line_seen, lines_seen};
 ghost use Rattle.itf_lines.specs.FeedStates.{has_no_lf, opening};
-ghost use Rattle.itf_lines.specs.Feeds.{line_if, TakesLine, Reads, Adds, AddsFront, Ends, AddsEnd, IsEnded};
+ghost use Rattle.itf_lines.specs.Feeds.{line_if, IsEnded, TakesLine, Reads};
+ghost use Rattle.itf_lines.specs.Feeds.{Adds, AddsFront, Ends, AddsEnd};
 
 use super::cut::content;
 use super::logical::{Line, LineEnd};
@@ -46,7 +48,8 @@ impl Model for LineFeed {
 // Adds a copy of the line that takes its fields away, in a vector without further room, since a
 // transfer has millions of lines.
 fn add_line(alloc: Global, line: &mut Line, into: &mut Vec<Line>) -> Result<(), Memory>
-    ensures added { OnOk result (lines_seen into.new.items ≡ lines_seen into.old.items ++ line_seen line.old ∷ []) }
+    ensures added { OnOk result
+        (lines_seen into.new.items ≡ lines_seen into.old.items ++ line_seen line.old ∷ []) }
     ensures kept { OnErr result (lines_seen into.new.items ≡ lines_seen into.old.items) }
 {
     let mut fields = Vec::with_capacity(alloc, line.fields.len())?;
@@ -76,7 +79,8 @@ impl LineFeed {
     // Takes a whole physical line without its end.
     fn take_line(&mut self, text: &[u8], line: &mut Line) -> Result<bool, Memory>
         requires few { self.old.ended + 1 < 4294967295 }
-        ensures lines { IfOk result (λ whole. TakesLine self.old text.now whole (line_seen line.new) self.new) }
+        ensures lines { IfOk result
+            (λ whole. TakesLine self.old text.now whole (line_seen line.new) self.new) }
         ensures ended { self.new.ended ≡ self.old.ended + 1 }
         ensures begun { self.new.begun ≡ self.old.begun }
         ensures failed { self.new.failed ≡ self.old.failed }
@@ -89,7 +93,8 @@ impl LineFeed {
     fn take_ended(&mut self, bytes: &[u8], line: &mut Line) -> Result<bool, Memory>
         requires ended { IsEnded bytes.now }
         requires few { self.old.ended + 1 < 4294967295 }
-        ensures reads { IfOk result (λ whole. Reads self.old bytes.now (line_if whole (line_seen line.new)) self.new []) }
+        ensures reads { IfOk result (λ whole.
+            Reads self.old bytes.now (line_if whole (line_seen line.new)) self.new []) }
         ensures ended { OnOk result (self.new.ended ≡ self.old.ended + 1) }
         ensures failed { self.new.failed ≡ self.old.failed }
     {
@@ -118,10 +123,14 @@ impl LineFeed {
     // The next logical line of a piece, by a feed that did not fail.
     fn next_line(&mut self, piece: &[u8], line: &mut Line) -> Result<Option<usize>, Memory>
         requires few { self.old.ended + length piece.now < 4294967295 }
-        ensures line { IfOk result (λ found. IfSome found (λ n. Reads self.old piece.now (line_seen line.new ∷ []) self.new (drop n piece.now))) }
-        ensures within { IfOk result (λ found. IfSome found (λ n. (0 < n) × (n ≤ length piece.now) × (self.new.ended ≤ self.old.ended + n))) }
-        ensures none { IfOk result (λ found. IfNone found (Reads self.old piece.now [] self.new [])) }
-        ensures few { IfOk result (λ found. IfNone found (self.new.ended ≤ self.old.ended + length piece.now)) }
+        ensures line { IfOk result (λ found. IfSome found (λ n.
+            Reads self.old piece.now (line_seen line.new ∷ []) self.new (drop n piece.now))) }
+        ensures within { IfOk result (λ found. IfSome found (λ n.
+            (0 < n) × (n ≤ length piece.now) × (self.new.ended ≤ self.old.ended + n))) }
+        ensures none { IfOk result (λ found.
+            IfNone found (Reads self.old piece.now [] self.new [])) }
+        ensures few { IfOk result (λ found.
+            IfNone found (self.new.ended ≤ self.old.ended + length piece.now)) }
         ensures failed { self.new.failed ≡ self.old.failed }
     {
         let mut at = 0;
@@ -146,10 +155,14 @@ impl LineFeed {
     pub fn next(&mut self, piece: &[u8], line: &mut Line) -> Result<Option<usize>, Memory>
         requires few { self.old.failed ≡ false → self.old.ended + length piece.now < 4294967295 }
         // Whatever follows the piece: the lines are this one and those of the rest from here on.
-        ensures line { IfOk result (λ found. IfSome found (λ n. Reads self.old piece.now (line_seen line.new ∷ []) self.new (drop n piece.now))) }
-        ensures within { IfOk result (λ found. IfSome found (λ n. (0 < n) × (n ≤ length piece.now) × (self.new.ended ≤ self.old.ended + n))) }
-        ensures none { IfOk result (λ found. IfNone found (Reads self.old piece.now [] self.new [])) }
-        ensures few { IfOk result (λ found. IfNone found (self.new.ended ≤ self.old.ended + length piece.now)) }
+        ensures line { IfOk result (λ found. IfSome found (λ n.
+            Reads self.old piece.now (line_seen line.new ∷ []) self.new (drop n piece.now))) }
+        ensures within { IfOk result (λ found. IfSome found (λ n.
+            (0 < n) × (n ≤ length piece.now) × (self.new.ended ≤ self.old.ended + n))) }
+        ensures none { IfOk result (λ found.
+            IfNone found (Reads self.old piece.now [] self.new [])) }
+        ensures few { IfOk result (λ found.
+            IfNone found (self.new.ended ≤ self.old.ended + length piece.now)) }
         // The only error is out of memory, after which each call has it.
         ensures sound { OnOk result ((self.old.failed ≡ false) × (self.new.failed ≡ false)) }
         ensures failed { OnErr result (self.new.failed ≡ true) }
@@ -169,10 +182,14 @@ impl LineFeed {
     // Adds the logical lines of a piece, by a feed that did not fail.
     fn feed_lines(&mut self, piece: &[u8], into: &mut Vec<Line>) -> Result<(), Memory>
         requires few { self.old.ended + length piece.now < 4294967295 }
-        ensures lines { OnOk result (Adds (lines_seen into.old.items) self.old piece.now (lines_seen into.new.items) self.new []) }
+        ensures lines { OnOk result
+            (Adds (lines_seen into.old.items) self.old piece.now (lines_seen into.new.items)
+            self.new []) }
         ensures few { OnOk result (self.new.ended ≤ self.old.ended + length piece.now) }
         ensures sound { OnOk result (self.new.failed ≡ false) }
-        ensures front { OnErr result (AddsFront (lines_seen into.old.items) self.old piece.now (lines_seen into.new.items)) }
+        ensures front { OnErr result
+            (AddsFront (lines_seen into.old.items) self.old piece.now
+            (lines_seen into.new.items)) }
     {
         let mut line = Line::empty(self.alloc);
         let mut at = 0;
@@ -190,13 +207,17 @@ impl LineFeed {
     pub fn feed(&mut self, piece: &[u8], into: &mut Vec<Line>) -> Result<(), Memory>
         requires few { self.old.failed ≡ false → self.old.ended + length piece.now < 4294967295 }
         // Whatever follows the piece: the lines are those that were added and those from here on.
-        ensures lines { OnOk result (Adds (lines_seen into.old.items) self.old piece.now (lines_seen into.new.items) self.new []) }
+        ensures lines { OnOk result
+            (Adds (lines_seen into.old.items) self.old piece.now (lines_seen into.new.items)
+            self.new []) }
         ensures few { OnOk result (self.new.ended ≤ self.old.ended + length piece.now) }
         ensures sound { OnOk result ((self.old.failed ≡ false) × (self.new.failed ≡ false)) }
         // The only error is out of memory, after which each call has it. The lines that were added
         // are then the first of those that would have been.
         ensures failed { OnErr result (self.new.failed ≡ true) }
-        ensures front { OnErr result (AddsFront (lines_seen into.old.items) self.old piece.now (lines_seen into.new.items)) }
+        ensures front { OnErr result
+            (AddsFront (lines_seen into.old.items) self.old piece.now
+            (lines_seen into.new.items)) }
         ensures nothing { self.old.failed ≡ true → into.new ≡ into.old }
     {
         if self.failed {
@@ -214,7 +235,8 @@ impl LineFeed {
     /// The text ends here: fills `line` with the logical line that is whole by its last bytes,
     /// where there is one, and answers whether there is, and the fault and the number of lines.
     pub fn finish_line(self, line: &mut Line) -> Result<(bool, LineEnd), Memory>
-        ensures ends { IfOk result (λ found. Ends self (line_if found.0 (line_seen line.new)) found.1) }
+        ensures ends { IfOk result (λ found.
+            Ends self (line_if found.0 (line_seen line.new)) found.1) }
         ensures sound { OnOk result (self.failed ≡ false) }
     {
         if self.failed {
@@ -241,7 +263,8 @@ impl LineFeed {
     /// fault of continuation and the number of physical lines. The only error is out of memory; a
     /// feed that failed before has it, and nothing is added then.
     pub fn finish(self, into: &mut Vec<Line>) -> Result<LineEnd, Memory>
-        ensures lines { IfOk result (λ end. AddsEnd (lines_seen into.old.items) self (lines_seen into.new.items) end) }
+        ensures lines { IfOk result (λ end.
+            AddsEnd (lines_seen into.old.items) self (lines_seen into.new.items) end) }
         ensures sound { OnOk result (self.failed ≡ false) }
         ensures nothing { OnErr result (lines_seen into.new.items ≡ lines_seen into.old.items) }
     {

@@ -1,7 +1,8 @@
 // A logical line whose fields are still being added.
 ghost use Rattle.std.specs.Prelude.{◌≡◌, [], OnOk};
 ghost use Rattle.itf_lines.specs.Fields.{fields};
-ghost use Rattle.itf_lines.specs.Pass.{held_of, nothing, with_field, with_fields, line_held, any_line};
+ghost use Rattle.itf_lines.specs.Pass.{held_of, nothing, with_field, with_fields};
+ghost use Rattle.itf_lines.specs.Pass.{line_held, any_line};
 ghost use Rattle.itf_lines.specs.Views.{line_seen};
 ghost use Rattle.itf_lines.specs.Feeds.{line_if};
 
@@ -53,7 +54,8 @@ impl PartialLine {
 
     /// Adds the fields of a text.
     pub fn add_all(&mut self, alloc: Global, text: &[u8]) -> Result<(), Memory>
-        ensures { OnOk result (held_of self.new ≡ with_fields (held_of self.old) (fields text.now)) }
+        ensures { OnOk result
+            (held_of self.new ≡ with_fields (held_of self.old) (fields text.now)) }
     {
         let mut rest = text;
         while let Some((field, behind)) = split_field(rest) {

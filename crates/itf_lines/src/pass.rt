@@ -1,7 +1,8 @@
 // The machine that takes one physical line after another.
 ghost use Rattle.std.specs.Prelude.{◌≡◌, IfOk};
 ghost use Rattle.itf_lines.specs.LogicalLines.{is_slashes};
-ghost use Rattle.itf_lines.specs.Pass.{held_of, place_of, settled, begun, gone_on, in_head, step, fault_at};
+ghost use Rattle.itf_lines.specs.Pass.{held_of, place_of, fault_at};
+ghost use Rattle.itf_lines.specs.Pass.{step, in_head, begun, gone_on, settled};
 ghost use Rattle.itf_lines.specs.Places.{in_the_head};
 ghost use Rattle.itf_lines.specs.Views.{line_seen};
 ghost use Rattle.itf_lines.specs.Feeds.{Takes};
@@ -20,13 +21,13 @@ pub enum State {
     Head,
     /// No line goes on.
     Between,
-    /// The open line goes on, and the number is that of its last physical line.
+    /// The partial line goes on, and the number is that of its last physical line.
     Waiting(u32),
     /// A fault of continuation came.
     Broken(LineFault),
 }
 
-/// The machine: the continue code, its state and the line that is open.
+/// The machine: the continue code, its state and the partial line.
 #[derive(Drop)]
 pub struct Pass {
     alloc: Global,
@@ -63,7 +64,9 @@ impl Pass {
     // Takes a line of the head, whatever stands in it.
     #[tactic(auto, using(crate::proofs::Gathering::gathered_any))]
     fn take_head(&mut self, number: u32, text: &[u8], line: &mut Line) -> Result<bool, Memory>
-        ensures next { IfOk result (λ whole. Takes (in_head number text.now) whole (line_seen line.new) (place_of self.new)) }
+        ensures next { IfOk result (λ whole. Takes
+            (in_head number text.now)
+            whole (line_seen line.new) (place_of self.new)) }
         ensures code { self.new.code ≡ self.old.code }
     {
         self.partial.restart(number);
@@ -78,9 +81,10 @@ impl Pass {
         Ok(true)
     }
 
-    // The physical line of that number was added to the open line, which goes on or is whole.
+    // The physical line of that number was added to the partial line, which goes on or is whole.
     fn finish_or_wait(&mut self, goes_on: bool, number: u32, line: &mut Line) -> bool
-        ensures next { Takes (settled goes_on number (held_of self.old.partial)) result (line_seen line.new) (place_of self.new) }
+        ensures next { Takes (settled goes_on number (held_of self.old.partial))
+            result (line_seen line.new) (place_of self.new) }
         ensures code { self.new.code ≡ self.old.code }
     {
         if goes_on {
@@ -93,7 +97,9 @@ impl Pass {
 
     // Takes a physical line that continues nothing.
     fn start_line(&mut self, number: u32, piece: Piece<'_>, line: &mut Line) -> Result<bool, Memory>
-        ensures next { IfOk result (λ whole. Takes (begun number piece.entry.text.now piece.entry.goes_on) whole (line_seen line.new) (place_of self.new)) }
+        ensures next { IfOk result (λ whole. Takes
+            (begun number piece.entry.text.now piece.entry.goes_on)
+            whole (line_seen line.new) (place_of self.new)) }
         ensures code { self.new.code ≡ self.old.code }
     {
         if behind_cont(piece.text).is_some() {
@@ -113,7 +119,10 @@ impl Pass {
         piece: Piece<'_>,
         line: &mut Line,
     ) -> Result<bool, Memory>
-        ensures next { IfOk result (λ whole. Takes (gone_on number (held_of self.old.partial) last piece.entry.text.now piece.entry.goes_on) whole (line_seen line.new) (place_of self.new)) }
+        ensures next { IfOk result (λ whole. Takes
+            (gone_on number (held_of self.old.partial) last piece.entry.text.now
+            piece.entry.goes_on)
+            whole (line_seen line.new) (place_of self.new)) }
         ensures code { self.new.code ≡ self.old.code }
     {
         let Some(rest) = behind_cont(piece.text) else {
@@ -127,7 +136,9 @@ impl Pass {
     /// Takes the physical line of that number. True: a logical line is whole by it and was moved
     /// into `line`.
     pub fn take(&mut self, number: u32, text: &[u8], line: &mut Line) -> Result<bool, Memory>
-        ensures next { IfOk result (λ whole. Takes (step self.old.code number text.now (place_of self.old)) whole (line_seen line.new) (place_of self.new)) }
+        ensures next { IfOk result (λ whole. Takes
+            (step self.old.code number text.now (place_of self.old))
+            whole (line_seen line.new) (place_of self.new)) }
         ensures code { self.new.code ≡ self.old.code }
     {
         match self.state {
