@@ -4,7 +4,8 @@ use Rattle.std.proofs.lemmas.List.{append_assoc, append-nil}
 use Rattle.itf_lines.specs.declared.word.LineWord.{LineWord}
 use Rattle.itf_lines.specs.LogicalLines.{line_with, further}
 use Rattle.itf_lines.specs.Words.{word_of, word_in}
-use Rattle.itf_lines.specs.Pass.{Held, nothing, with_field, with_fields, line_held, any_line}
+use Rattle.itf_lines.specs.Places.{Held}
+use Rattle.itf_lines.specs.Pass.{nothing, with_field, with_fields, line_held, any_line}
 
 pub with_fields-append : (h : Held) (a b : List (List ℕ)) → with_fields h (a ++ b) ≡ with_fields (with_fields h a) b
 with_fields-append h [] b = refl

@@ -1,6 +1,9 @@
 pub mod Counts
 pub mod Cuts
 pub mod Ends
+pub mod FeedLaws
 pub mod Gathering
+pub mod LineCuts
+pub mod Numbers
 pub mod OpenGroups
 pub mod PassLaws

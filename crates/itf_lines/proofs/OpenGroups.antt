@@ -5,7 +5,8 @@ use Rattle.std.specs.List.{flat_map}
 use Rattle.itf_lines.specs.declared.logical.LineFault.{LineFault}
 use Rattle.itf_lines.specs.declared.logical.LineFault.TheVariants.{OpenContinue}
 use Rattle.itf_lines.specs.LogicalLines.{Piece, is_cont, further, broken_behind, fault_of, line_of}
-use Rattle.itf_lines.specs.Pass.{Held, nothing, with_fields, line_held}
+use Rattle.itf_lines.specs.Places.{Held}
+use Rattle.itf_lines.specs.Pass.{nothing, with_fields, line_held}
 use Rattle.itf_lines.proofs.Gathering.{with_fields-append, gathered_line}
 
 -- the fields that pieces add to a line

@@ -6,7 +6,8 @@ use Rattle.itf_lines.specs.declared.logical.LineFault.{LineFault}
 use Rattle.itf_lines.specs.declared.logical.LineFault.TheVariants.{OpenContinue, StrayCont}
 use Rattle.itf_lines.specs.LogicalLines.{Piece, LogicalLine, is_cont, further, fault_of, line_of, line_with, logical, logical_of, groups, join, sound, first_fault, pieces, head, body, head_line, head_lines, is_slashes, without_code, goes_on}
 use Rattle.itf_lines.specs.Fields.{fields, physical_lines}
-use Rattle.itf_lines.specs.Pass.{Held, Place, in_the_head, between, waiting, broken, Step, Rest, nothing, with_fields, line_held, settled, breaks, behind, pass, fault_at}
+use Rattle.itf_lines.specs.Places.{Held, Place, in_the_head, between, waiting, broken}
+use Rattle.itf_lines.specs.Pass.{Step, Rest, nothing, with_fields, line_held, settled, breaks, behind, pass, fault_at}
 use Rattle.itf_lines.proofs.Gathering.{gathered_line}
 use Rattle.itf_lines.proofs.OpenGroups.{Opens, piece_at, opened, opened_more, open_end, open_broken, open_closed, open_line}
 
@@ -150,17 +151,6 @@ head_pass code n (l ∷ ls) =
       | false ↦ λ e. ap (behind (head_line n l ∷ [])) (head_pass code (n + 1) ls) ∙ sym (free_first code n l ls e)
     ] refl
 
--- where no physical line is left, the lines that were added are those of the text
-pub ended : (code : ℕ) (text : List ℕ) (lines : List LogicalLine) (place : Place) (total : ℕ) (rest : List (List ℕ)) → rest ≡ []
-    → behind lines (pass code (total + 1) place rest) ≡ pass code 1 in_the_head (physical_lines text) → total + length rest ≡ length (physical_lines text)
-    → record { lines = lines; fault = fault_at place; total = total } ≡ logical code text
-ended code text lines place total [] e told counted =
-    let whole = told ∙ head_pass code 1 (physical_lines text) in
-    let ls : lines ≡ (whole_from code 1 (physical_lines text)).lines = sym (append-nil lines) ∙ ap (λ (r : Rest). r.lines) whole in
-    let f : fault_at place ≡ (whole_from code 1 (physical_lines text)).fault = ap (λ (r : Rest). r.fault) whole in
-    let t : total ≡ length (physical_lines text) = omega (arith, counted) in
-    rw (ls, f, t) (whole_is code (physical_lines text))
-  where
-    whole_is : (code : ℕ) (ps : List (List ℕ)) → record { lines = (whole_from code 1 ps).lines; fault = (whole_from code 1 ps).fault; total = length ps } ≡ logical_of code ps
-    whole_is code ps = refl
-ended code text lines place total (l ∷ rest) e told counted = absurd cc
+-- so that a pass from the start on gives the logical lines
+pub whole_pass : (code : ℕ) (ps : List (List ℕ)) → record { lines = (pass code 1 in_the_head ps).lines; fault = (pass code 1 in_the_head ps).fault; total = length ps } ≡ logical_of code ps
+whole_pass code ps = ap (λ (r : Rest). record { lines = r.lines; fault = r.fault; total = length ps }) (head_pass code 1 ps)

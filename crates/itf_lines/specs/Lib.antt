@@ -1,7 +1,11 @@
+pub mod FeedStates
+pub mod Feeds
 pub mod Fields
 pub mod Fronts
 pub mod Kept
 pub mod LogicalLines
 pub mod Pass
+pub mod Places
+pub mod Rising
 pub mod Views
 pub mod Words

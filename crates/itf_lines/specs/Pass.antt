@@ -4,20 +4,16 @@ use Rattle.itf_lines.specs.declared.word.LineWord.{LineWord}
 use Rattle.itf_lines.specs.declared.word.LineWord.TheVariants.{Other}
 use Rattle.itf_lines.specs.declared.logical.LineFault.{LineFault}
 use Rattle.itf_lines.specs.declared.logical.LineFault.TheVariants.{OpenContinue, StrayCont}
-use Rattle.itf_lines.specs.declared.gathered.Gathered.{Gathered}
-use Rattle.itf_lines.specs.declared.pass.Place.{Place as CodePlace}
-use Rattle.itf_lines.specs.declared.pass.Place.TheVariants as code_place
+use Rattle.itf_lines.specs.declared.partial.PartialLine.{PartialLine}
+use Rattle.itf_lines.specs.declared.pass.State.{State}
+use Rattle.itf_lines.specs.declared.pass.State.TheVariants as state
+use Rattle.itf_lines.specs.declared.pass.Pass.{Pass as CodePass}
+use Rattle.itf_lines.specs.Places.{Held, Place, in_the_head, between, waiting, broken}
 use Rattle.itf_lines.specs.Words.{word_of}
 use Rattle.itf_lines.specs.Fields.{fields}
 use Rattle.itf_lines.specs.LogicalLines.{LogicalLine, head_line, is_slashes, is_cont, further, without_code, goes_on}
 
--- a line that is gathered: the word of its first field, and the fields behind that
-pub record Held : Type 0 where
-  pub number : ℕ
-  pub word : Option LineWord
-  pub fields : List (List ℕ)
-
-abbrev pub held_of : Gathered → Held
+abbrev pub held_of : PartialLine → Held
 held_of g = record { number = g.number; word = g.word; fields = g.fields.items }
 
 abbrev pub nothing : ℕ → Held
@@ -51,27 +47,20 @@ any_word (Some word) = word
 abbrev pub any_line : Held → LogicalLine
 any_line held = record { number = held.number; word = any_word held.word; fields = held.fields }
 
--- where a pass stands between two physical lines
-pub data Place : Type 0 where
-  in_the_head : Place
-  between : Place
-  waiting : Held → ℕ → Place
-  broken : LineFault → Place
+abbrev pub place_in : State → PartialLine → Place
+place_in state.Head partial = in_the_head
+place_in state.Between partial = between
+place_in (state.Waiting last) partial = waiting (held_of partial) last
+place_in (state.Broken fault) partial = broken fault
 
-abbrev pub place_of : CodePlace → Place
-place_of code_place.Head = in_the_head
-place_of code_place.Between = between
-place_of (code_place.Waiting gathered last) = waiting (held_of gathered) last
-place_of (code_place.Broken fault) = broken fault
+-- where the machine of the code stands
+abbrev pub place_of : CodePass → Place
+place_of p = place_in p.state p.partial
 
 -- the logical lines that a physical line makes whole, and where the pass stands behind it
 pub record Step : Type 0 where
   pub lines : List LogicalLine
   pub next : Place
-
--- the lines were added, and the pass stands there
-abbrev pub Goes : Step → List LogicalLine → List LogicalLine → Place → Type 0
-Goes step old new place = (new ≡ old ++ step.lines) × (place ≡ step.next)
 
 abbrev pub in_head : ℕ → List ℕ → Step
 in_head number line = record { lines = head_line number line ∷ []; next = if is_slashes line then between else in_the_head }

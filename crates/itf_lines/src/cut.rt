@@ -1,5 +1,7 @@
 // A physical line, cut into its fields.
-ghost use Rattle.std.specs.Prelude.{◌≡◌, ◌≤◌, ◌<◌, ◌∷◌, ◌||◌, [], length, OnSome, IfSome, IfNone, IsTrue, IsFalse, true, false};
+ghost use Rattle.std.specs.Prelude.{◌≡◌, ◌≤◌, ◌<◌, ◌∷◌, ◌||◌, [], length, true, false};
+ghost use Rattle.std.specs.Prelude.{OnSome, IfSome, IfNone, IsTrue, IsFalse};
+ghost use Rattle.bstr.specs.Text.{without_terminator};
 ghost use Rattle.itf_lines.specs.Fields.{fields, is_blank, trimmed, ends_in, without_last};
 ghost use Rattle.itf_lines.specs.Fronts.{field_len, begins_with_field};
 ghost use Rattle.itf_lines.specs.LogicalLines.{is_slashes, goes_on, without_code, is_cont, further};
@@ -60,19 +62,6 @@ pub fn split_field(line: &[u8]) -> Option<(&[u8], &[u8])>
     Some(line.split_at(field_len(line)))
 }
 
-/// The number of a line's fields.
-pub fn count_fields(line: &[u8]) -> usize
-    ensures { result ≡ length (fields line.now) }
-{
-    let mut count = 0;
-    let mut rest = line;
-    while let Some((_, behind)) = split_field(rest) {
-        count += 1;
-        rest = behind;
-    }
-    count
-}
-
 /// What stands behind the field CONT at the front of a line; none where no such field stands there.
 pub fn behind_cont(line: &[u8]) -> Option<&[u8]>
     ensures cont { IfSome result (λ rest. is_cont (fields line.now) ≡ true) }
@@ -82,6 +71,19 @@ pub fn behind_cont(line: &[u8]) -> Option<&[u8]>
     match split_field(line) {
         Some((field, rest)) if field == b"CONT".as_slice() => Some(rest),
         _ => None,
+    }
+}
+
+/// The line without the LF at its end and a CR before that.
+pub fn content(line: &[u8]) -> &[u8]
+    ensures { result.now ≡ without_terminator line.now }
+{
+    let [front @ .., b'\n'] = line else {
+        return line;
+    };
+    match front {
+        [text @ .., b'\r'] => text,
+        _ => front,
     }
 }
 

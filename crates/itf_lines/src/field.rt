@@ -13,8 +13,8 @@ enum Kept {
     Long(Box<Vec<u8>>),
 }
 
-/// A field: one or more bytes as they stand in the text, or any other list of bytes. Up to 22
-/// bytes are kept in the value, which takes 24; more are kept in a block of their own.
+/// A field: one or more bytes as they stand in the text, or any other list of bytes. Up to 14
+/// bytes are kept in the value, which takes 16; more are kept in a block of their own.
 #[derive(Drop)]
 pub struct Field {
     kept: Kept,

@@ -16,22 +16,28 @@
 //!   that is a CONT line and continues nothing. That logical line is not in the answer. All
 //!   physical lines are counted, those behind a fault too.
 //! - **What is proved.** The answer is `logical`, a function of the bytes that cuts the physical
-//!   lines into groups and knows no pass. The only error is want of memory.
+//!   lines into groups and knows no pass. The only error is out of memory.
+//! - **In pieces.** A `LineFeed` takes a text piece by piece and gives the same lines, wherever it
+//!   is cut (`from_the_opening`): `feed` adds them to a vector, `next` fills one line that is used
+//!   again. `logical_lines` is one feed. The numbers of the lines rise (`numbers_rise`).
 //! - **Not here:** which word may stand where, how many fields a line must have, and what they
 //!   mean.
 //! - **Degenerate cases:** no byte is no line, and one LF is one line without fields. Without a
 //!   line `////` all lines belong to the head. The continue code may be any byte, also one of
 //!   CONT or of `////`.
 //!
-//! Cost: one pass over the bytes, time and memory in proportion to their number, however many
-//! pieces a line has. A field of up to 22 bytes takes 24 bytes within its line; only a longer
-//! one has a block of its own.
+//! Cost: one pass over the bytes, time in proportion to their number, however many pieces a line
+//! has. Physical lines are cut where they lie; only one that crosses a cut into pieces is put
+//! together. A field of up to 14 bytes takes 16 bytes within its line; only a longer one has a
+//! block of its own. `next` takes memory for the longest line alone.
 #![tactic(auto)]
 
 mod cut;
+mod feed;
 mod field;
-mod gathered;
+mod laws;
 mod logical;
+mod partial;
 mod pass;
 mod reading;
 mod short;
@@ -39,7 +45,9 @@ mod short;
 mod tests;
 mod word;
 
+pub use feed::LineFeed;
 pub use field::Field;
-pub use logical::{Line, LineFault, Lines};
+pub use laws::{from_the_opening, numbers_rise};
+pub use logical::{Line, LineEnd, LineFault, Lines};
 pub use reading::logical_lines;
 pub use word::LineWord;

@@ -1,6 +1,7 @@
 // The logical lines of a text.
 use super::field::Field;
 use super::word::LineWord;
+use std::alloc::Global;
 
 /// A logical line.
 #[derive(Drop)]
@@ -14,6 +15,17 @@ pub struct Line {
     /// line, the free lines, the line `////` (which has no further fields), and a line without
     /// fields, whose word is `Other`. The first field of a line with the word `Other` is not kept.
     pub fields: Vec<Field>,
+}
+
+impl Line {
+    /// A line without fields, to be filled.
+    pub fn empty(alloc: Global) -> Line {
+        Line {
+            number: 0,
+            word: LineWord::Other,
+            fields: Vec::new(alloc),
+        }
+    }
 }
 
 /// A fault of continuation, with the number of its physical line.
@@ -30,6 +42,15 @@ pub enum LineFault {
 pub struct Lines {
     /// The logical lines in order, up to the first fault of continuation.
     pub lines: Vec<Line>,
+    /// The first fault of continuation.
+    pub fault: Option<LineFault>,
+    /// The number of physical lines, those behind a fault too.
+    pub total: u32,
+}
+
+/// What is known at the end of a text.
+#[derive(Clone, Copy, Debug, PartialEq, Eq)]
+pub struct LineEnd {
     /// The first fault of continuation.
     pub fault: Option<LineFault>,
     /// The number of physical lines, those behind a fault too.

@@ -3,9 +3,8 @@ ghost use Rattle.std.specs.Prelude.{◌≡◌, ◌≤◌, length, IfOk};
 ghost use Rattle.itf_lines.specs.LogicalLines.{logical};
 ghost use Rattle.itf_lines.specs.Views.{seen};
 
+use super::feed::LineFeed;
 use super::logical::Lines;
-use super::pass::{Place, step};
-use bstr::ByteSlice;
 use ili_grammar::Codes;
 use ports::Memory;
 use std::alloc::Global;
@@ -21,15 +20,12 @@ pub fn logical_lines(alloc: Global, bytes: &[u8], codes: &Codes) -> Result<Lines
     ensures few { IfOk result (λ found. found.total ≤ length bytes.now) }
 {
     let mut lines = Vec::new(alloc);
-    let mut place = Place::Head;
-    let mut total = 0;
-    for line in bytes.lines() {
-        total += 1;
-        place = step(alloc, codes.continued, total, line, place, &mut lines)?;
-    }
+    let mut feed = LineFeed::new(alloc, codes);
+    feed.feed(bytes, &mut lines)?;
+    let end = feed.finish(&mut lines)?;
     Ok(Lines {
         lines,
-        fault: place.fault(),
-        total,
+        fault: end.fault,
+        total: end.total,
     })
 }

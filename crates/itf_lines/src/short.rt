@@ -3,10 +3,10 @@ ghost use Rattle.std.specs.Prelude.{◌≡◌, ◌≤◌, length, IfSome, IfNone
 
 use std::marker::Model;
 
-// So many bytes and their count make a field as large as three words of memory.
-const ROOM: usize = 22;
+// So many bytes, their count and the tag of an enum make a field of 16 bytes.
+const ROOM: usize = 14;
 
-/// At most 22 bytes, seen as their list.
+/// At most 14 bytes, seen as their list.
 #[derive(Drop)]
 pub struct Short {
     bytes: [u8; ROOM],
@@ -20,14 +20,14 @@ impl Model for Short {
 
     ghost view = { λ short. take short.count short.bytes };
 
-    ghost invariant = { λ short. short.count ≤ 22 };
+    ghost invariant = { λ short. short.count ≤ 14 };
 }
 
 impl Short {
     /// A copy of the bytes; none where they have no room.
     pub fn of(bytes: &[u8]) -> Option<Short>
         ensures some { IfSome result (λ short. short ≡ bytes.now) }
-        ensures none { IfNone result (22 < length bytes.now) }
+        ensures none { IfNone result (14 < length bytes.now) }
     {
         if bytes.len() > ROOM {
             return None;

@@ -1,7 +1,16 @@
-use super::{Field, LineFault, LineWord, Lines, logical_lines};
+ghost use Rattle.std.specs.Prelude.{◌≤◌, ◌<◌, length};
+
+use super::{Field, LineFault, LineFeed, LineWord, Lines, logical_lines};
 use ili_grammar::Codes;
+use ports::Memory;
 use std::alloc::Global;
 use std::process::Abort;
+
+const CODES: Codes = Codes {
+    blank: b'_',
+    undefined: b'@',
+    continued: b'\\',
+};
 
 fn lines_of(rt: &impl Abort, alloc: Global, code: u8, text: &[u8]) -> Lines {
     let codes = Codes {
@@ -202,10 +211,67 @@ fn each_word_is_told(rt: HostRuntime) {
     passes(&rt, rt.alloc(), b'\\', HEAD, &rows);
 }
 
+// The lines of a text whose first piece has `first` bytes, and each other at most `size`.
+fn in_pieces(alloc: Global, text: &[u8], first: usize, size: usize) -> Result<Lines, Memory>
+    requires first { first ≤ length text.now }
+    requires size { 0 < size }
+    requires few { length text.now ≤ 268435456 }
+{
+    let mut lines = Vec::new(alloc);
+    let mut feed = LineFeed::new(alloc, &CODES);
+    feed.feed(&text[..first], &mut lines)?;
+    let mut at = first;
+    while at < text.len() {
+        let upto = (at + size.min(268435456)).min(text.len());
+        feed.feed(&text[at..upto], &mut lines)?;
+        at = upto;
+    }
+    let end = feed.finish(&mut lines)?;
+    Ok(Lines {
+        lines,
+        fault: end.fault,
+        total: end.total,
+    })
+}
+
+fn is_same(rt: &impl Abort, alloc: Global, whole: &Lines, pieces: &Lines, cut: usize) {
+    assert_eq!(rt;
+        shown(rt, alloc, pieces),
+        shown(rt, alloc, whole),
+        "lines, cut at {}",
+        cut
+    );
+    assert_eq!(rt; pieces.fault, whole.fault, "fault, cut at {}", cut);
+    assert_eq!(rt; pieces.total, whole.total, "total, cut at {}", cut);
+}
+
+const DRAWN: &[u8] =
+    b"SCNT\n////\nMTID Rows\nMODL Land\nTOPI Cover\nTABL Parcel_Form\nOBJE 1\nSTPT 100.000 100.000\nLIPT 200.000 100.000\nLIPT 200.000 200.000\nLIPT 100.000 200.000\nLIPT 100.000 100.000\nELIN\nETAB\nTABL Parcel\nOBJE 1 77 150.000 150.000\nETAB\nETOP\nEMOD\nENDE\n";
+
+const CONTINUED: &[u8] =
+    b"SCNT\r\nfree\r\n//// \r\n\r\nMTID a \\\r\nCONT b\\ \r\nCONT\r\n\\\r\nCONT ETAB\r\n\r\r\nOBJE 1 \\\r\nENDE\r";
+
+#[test]
+fn the_cut_into_pieces_does_not_matter(rt: HostRuntime) {
+    let alloc = rt.alloc();
+    for text in [DRAWN, CONTINUED] {
+        let whole = lines_of(&rt, alloc, b'\\', text);
+        for cut in 0..text.len() + 1 {
+            for size in [1, 7, 1000] {
+                assert!(&rt; text.len() <= 268435456);
+                match in_pieces(alloc, text, cut, size) {
+                    Ok(pieces) => is_same(&rt, alloc, &whole, &pieces, cut),
+                    Err(_) => panic!(&rt; "out of memory"),
+                }
+            }
+        }
+    }
+}
+
 #[test]
 fn a_field_keeps_its_bytes(rt: HostRuntime) {
     let alloc = rt.alloc();
-    for length in [0, 1, 21, 22, 23, 24, 1000] {
+    for length in [0, 1, 13, 14, 15, 16, 1000] {
         let mut bytes = Vec::new(alloc);
         for i in 0..length {
             let byte = u8::try_from(i % 251_u32).unwrap_or(0);

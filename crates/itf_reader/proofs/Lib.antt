@@ -14,3 +14,6 @@ pub mod Refused
 pub mod Sorting
 pub mod LineByLine
 pub mod Stands
+pub mod RowLaws
+pub mod HeldRows
+pub mod ByTable

@@ -13,3 +13,5 @@ pub mod Found
 pub mod Placing
 pub mod Runs
 pub mod Directories
+pub mod RowForms
+pub mod ClosedRows

@@ -5,6 +5,8 @@ ghost use Rattle.itf_reader.specs.Forms.{Form, Row, TopicRows};
 ghost use Rattle.itf_reader.specs.TransferText.{IsText, TransferText, Begins, IsFaultAt};
 ghost use Rattle.itf_reader.specs.Machine.{State, start, done, Code, run, step};
 ghost use Rattle.itf_reader.specs.Codes.{HasCode};
+ghost use Rattle.itf_reader.specs.ClosedRows.{by_table, closed_rows};
+ghost use Rattle.itf_reader.specs.RowForms.{EachRow, IsCounted, HasForm};
 ghost use Rattle.itf_reader.specs.Readings.{Structure, IsRead, IsRefused, HasAnswer};
 
 /// Some lines are the text of at most one transfer.
@@ -37,4 +39,22 @@ pub fn one_answer()
     ensures some { (form : Form) (found : LogicalLines) → HasAnswer form found }
     ensures never_both { (form : Form) (found : LogicalLines) (transfer : List (List Row)) (n : ℕ) (code : Structure) → IsRead form found transfer → IsRefused form found n code → ⊥ }
     ensures one_refusal { (form : Form) (found : LogicalLines) (n m : ℕ) (code other : Structure) → IsRefused form found n code → IsRefused form found m other → (n ≡ m) × (code ≡ other) }
+{}
+
+/// Each row of a transfer has as many strokes as its table has lines. A stroke is undefined, or it
+/// has a start, and then straights and arcs, each arc by a point on it and its end.
+pub fn strokes_counted()
+    ensures counted { (form : Form) (lines : List LogicalLine) (transfer : List (List Row))
+        → TransferText form lines transfer → EachRow IsCounted form.tables transfer }
+    ensures form { (form : Form) (lines : List LogicalLine) (transfer : List (List Row))
+        → TransferText form lines transfer → EachRow HasForm form.tables transfer }
+{}
+
+/// The rows that the lines of a text close one after another, each with the number of its table,
+/// are all rows of its transfer: those of one table stand in their order. So who takes each row
+/// when it is closed, and keeps none, misses nothing.
+pub fn rows_by_table()
+    ensures { (form : Form) (lines : List LogicalLine) (transfer : List (List Row))
+        → TransferText form lines transfer
+        → transfer ≡ by_table form (closed_rows form lines) }
 {}

@@ -56,7 +56,10 @@ mod tests;
 mod transfer;
 
 pub use findings::{Code, Finding, Other};
-pub use laws::{machine_begins, machine_reads, machine_stops, one_answer, one_transfer};
+pub use laws::{
+    machine_begins, machine_reads, machine_stops, one_answer, one_transfer, rows_by_table,
+    strokes_counted,
+};
 pub use order::sort_findings;
 pub use reading::read_transfer;
 pub use refusal::ReadRefusal;

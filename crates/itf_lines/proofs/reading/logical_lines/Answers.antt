@@ -1,14 +1,20 @@
-use Rattle.std.proofs.Common.{rules, ◌≡◌, [], arith}
-use Rattle.itf_lines.specs.Pass.{place_of}
-use Rattle.itf_lines.specs.Views.{lines_seen}
+use Rattle.std.proofs.Common.{rules, ◌≡◌, ◌≤◌, length, [], arith, ap, subst, ℕ, List}
+use Rattle.itf_lines.specs.LogicalLines.{LogicalLine, LogicalLines, logical}
+use Rattle.itf_lines.specs.Views.{lines_seen, seen}
+use Rattle.itf_lines.specs.FeedStates.{FeedState, opening}
+use Rattle.itf_lines.specs.Feeds.{Adds}
 use Rattle.itf_lines.proofs.Counts.{few_lines}
-use Rattle.itf_lines.proofs.PassLaws.{ended}
+use Rattle.itf_lines.proofs.FeedLaws.{ends_logical}
 use Rattle.itf_lines.proofs.reading.logical_lines.Goals as goal
 
 pub returns-clause-logical : goal.returns-clause-logical
 returns-clause-logical c =
-    let e : c.loop-line.line-iterator ≡ [] = search rules in
-    rw c.fault.ensures (ended c.args.codes.now.continued c.args.bytes.now (lines_seen c.loop-line.lines.items) (place_of c.loop-line.place) c.loop-line.total c.loop-line.line-iterator e c.loop-line.invariant.told c.loop-line.invariant.counted)
+    let f = subst (λ (s : FeedState). Adds (lines_seen c.new-lines.result.items) s c.args.bytes.now (lines_seen c.feed.new.into.items) c.feed.new.self []) c.new-feed.ensures c.in_ok-feed.ensures.lines in
+    let g = subst (λ (ls : List LogicalLine). Adds ls (opening c.args.codes.now.continued) c.args.bytes.now (lines_seen c.feed.new.into.items) c.feed.new.self []) (ap lines_seen c.new-lines.ensures.items) f in
+    ends_logical c.args.codes.now.continued c.args.bytes.now (lines_seen c.feed.new.into.items) (lines_seen c.finish.new.into.items) c.feed.new.self c.in_ok-end.end g c.in_ok-end.ensures.lines
 
 pub returns-clause-few : goal.returns-clause-few
-returns-clause-few c = let h = few_lines c.args.bytes.now in let k = c.loop-line.invariant.counted in omega (arith, h, k)
+returns-clause-few c =
+    let h = few_lines c.args.bytes.now in
+    let e = ap (λ (r : LogicalLines). r.total) (returns-clause-logical c) in
+    omega (arith, h, e)

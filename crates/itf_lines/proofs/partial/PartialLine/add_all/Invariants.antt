@@ -1,7 +1,7 @@
 use Rattle.std.proofs.Common.{◌≡◌, length}
 use Rattle.itf_lines.specs.Fields.{fields}
 use Rattle.itf_lines.specs.Pass.{held_of, with_fields}
-use Rattle.itf_lines.proofs.gathered.Gathered.add_all.Given as goal
+use Rattle.itf_lines.proofs.partial.PartialLine.add_all.Given as goal
 
 -- the fields so far and those of the rest are those of all
 abbrev pub invariant-loop-field : goal.invariant-loop-field

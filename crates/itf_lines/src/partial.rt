@@ -1,0 +1,85 @@
+// A logical line whose fields are still being added.
+ghost use Rattle.std.specs.Prelude.{◌≡◌, [], OnOk};
+ghost use Rattle.itf_lines.specs.Fields.{fields};
+ghost use Rattle.itf_lines.specs.Pass.{held_of, nothing, with_field, with_fields};
+ghost use Rattle.itf_lines.specs.Pass.{line_held, any_line};
+ghost use Rattle.itf_lines.specs.Views.{line_seen};
+ghost use Rattle.itf_lines.specs.Feeds.{line_if};
+
+use super::cut::split_field;
+use super::field::Field;
+use super::logical::Line;
+use super::word::{LineWord, word_of};
+use ports::Memory;
+use std::alloc::Global;
+
+/// The fields of a logical line so far. The first one gives its word.
+#[derive(Drop)]
+pub struct PartialLine {
+    number: u32,
+    word: Option<LineWord>,
+    fields: Vec<Field>,
+}
+
+impl PartialLine {
+    /// A line without fields.
+    pub fn new(alloc: Global) -> PartialLine {
+        PartialLine {
+            number: 0,
+            word: None,
+            fields: Vec::new(alloc),
+        }
+    }
+
+    /// Begins a line of that number. The room of the fields before stays.
+    pub fn restart(&mut self, number: u32)
+        ensures { held_of self.new ≡ nothing number }
+    {
+        self.number = number;
+        self.word = None;
+        self.fields.clear();
+    }
+
+    // Adds a field.
+    fn add(&mut self, alloc: Global, field: &[u8]) -> Result<(), Memory>
+        ensures { OnOk result (held_of self.new ≡ with_field (held_of self.old) field.now) }
+    {
+        if self.word.is_none() {
+            self.word = Some(word_of(field));
+        } else {
+            self.fields.push(Field::new(alloc, field)?)?;
+        }
+        Ok(())
+    }
+
+    /// Adds the fields of a text.
+    pub fn add_all(&mut self, alloc: Global, text: &[u8]) -> Result<(), Memory>
+        ensures { OnOk result
+            (held_of self.new ≡ with_fields (held_of self.old) (fields text.now)) }
+    {
+        let mut rest = text;
+        while let Some((field, behind)) = split_field(rest) {
+            self.add(alloc, field)?;
+            rest = behind;
+        }
+        Ok(())
+    }
+
+    /// Moves the line into `line`, also where it has no field; its word is then `Other`.
+    pub fn move_any_into(&mut self, line: &mut Line)
+        ensures { line_seen line.new ≡ any_line (held_of self.old) }
+    {
+        line.number = self.number;
+        line.word = self.word.unwrap_or(LineWord::Other);
+        std::mem::swap(&mut line.fields, &mut self.fields);
+    }
+
+    /// Moves the line into `line`; false where it has no field.
+    pub fn move_into(&mut self, line: &mut Line) -> bool
+        ensures { line_if result (line_seen line.new) ≡ line_held (held_of self.old) }
+    {
+        let has_field = self.word.is_some();
+        self.move_any_into(line);
+        has_field
+    }
+}
