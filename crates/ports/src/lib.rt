@@ -18,6 +18,9 @@
 //!   lines over std, and what they read or write is trusted, not proved.
 //! - **Names.** `Name` owns the bytes of a name, `Key` borrows them as the key of a map. A contract
 //!   sees both as lists of bytes.
+//! - **Sorted keys.** `SortedKeys` has the keys of a column in order and finds the first element
+//!   with a key. It takes n log n comparisons for every input, where a map with a hash that is
+//!   known can be made slow by whoever writes the keys.
 //! - **Not here:** no layer of this crate looks at what the bytes mean.
 //!
 //! Cost: `MemoryShelf` finds a file in time linear in the number of files; a read copies what it
@@ -33,6 +36,7 @@ mod name;
 mod real;
 mod shelf;
 mod sink;
+mod sorted_keys;
 mod stored;
 #[cfg(test)]
 mod tests;
@@ -44,6 +48,7 @@ pub use name::Name;
 pub use real::{RealShelf, RealSink};
 pub use shelf::Shelf;
 pub use sink::Sink;
+pub use sorted_keys::{Keyed, Ranked, SortedKeys};
 use std::alloc::{AllocError, AllocFailed};
 
 /// A read or a write that the outside refused. It comes only where a count of faults rose.

@@ -1,5 +1,6 @@
 // Real files and the real output. They tell no bytes.
-ghost use Rattle.std.specs.Prelude.{◌≡◌, None, IfOk, length, ◌≤◌};
+ghost use Rattle.std.specs.Prelude.{◌≡◌, None, IfOk, OnErr, OnOk, length, ◌<◌, ◌≤◌};
+ghost use Rattle.ports.specs.Faults.{raised};
 
 use super::{Failed, Shelf, Sink};
 use std::fs::{File, OpenOptions};
@@ -53,7 +54,15 @@ impl Shelf for RealShelf {
 
     ghost write_faults = { λ s. s.write_faults };
 
-    fn read(&mut self, name: &str, from: u64, into: &mut [u8]) -> Result<usize, Failed> {
+    /// A fault is counted exactly where the read fails.
+    fn read(&mut self, name: &str, from: u64, into: &mut [u8]) -> Result<usize, Failed>
+        requires { 0 < length into.old }
+        ensures within { IfOk result (λ n. n ≤ length into.new) }
+        ensures uncounted { OnOk result (self.new.read_faults ≡ self.old.read_faults) }
+        ensures rises { self.old.read_faults ≤ self.new.read_faults }
+        ensures counted { OnErr result (self.new.read_faults ≡ raised self.old.read_faults) }
+        ensures writes { self.new.write_faults ≡ self.old.write_faults }
+    {
         match read_at(&self.rt, name, from, into) {
             Ok(n) => Ok(n),
             Err(_) => {
@@ -63,7 +72,13 @@ impl Shelf for RealShelf {
         }
     }
 
-    fn start(&mut self, name: &str) -> Result<(), Failed> {
+    /// A fault is counted exactly where the write fails.
+    fn start(&mut self, name: &str) -> Result<(), Failed>
+        ensures uncounted { OnOk result (self.new.write_faults ≡ self.old.write_faults) }
+        ensures rises { self.old.write_faults ≤ self.new.write_faults }
+        ensures counted { OnErr result (self.new.write_faults ≡ raised self.old.write_faults) }
+        ensures reads { self.new.read_faults ≡ self.old.read_faults }
+    {
         match start_file(&self.rt, name) {
             Ok(()) => Ok(()),
             Err(_) => {
@@ -73,7 +88,13 @@ impl Shelf for RealShelf {
         }
     }
 
-    fn append(&mut self, name: &str, bytes: &[u8]) -> Result<(), Failed> {
+    /// A fault is counted exactly where the write fails.
+    fn append(&mut self, name: &str, bytes: &[u8]) -> Result<(), Failed>
+        ensures uncounted { OnOk result (self.new.write_faults ≡ self.old.write_faults) }
+        ensures rises { self.old.write_faults ≤ self.new.write_faults }
+        ensures counted { OnErr result (self.new.write_faults ≡ raised self.old.write_faults) }
+        ensures reads { self.new.read_faults ≡ self.old.read_faults }
+    {
         match append_to(&self.rt, name, bytes) {
             Ok(()) => Ok(()),
             Err(_) => {
@@ -111,7 +132,12 @@ impl Sink for RealSink {
 
     ghost faults = { λ s. s.faults };
 
-    fn put(&mut self, bytes: &[u8]) -> Result<(), Failed> {
+    /// A fault is counted exactly where the call fails.
+    fn put(&mut self, bytes: &[u8]) -> Result<(), Failed>
+        ensures uncounted { OnOk result (self.new.faults ≡ self.old.faults) }
+        ensures rises { self.old.faults ≤ self.new.faults }
+        ensures counted { OnErr result (self.new.faults ≡ raised self.old.faults) }
+    {
         match put_all(&self.rt, bytes) {
             Ok(()) => Ok(()),
             Err(_) => {
