@@ -1,7 +1,2 @@
-pub mod Arcs
-pub mod Collinear
-pub mod SoundStrokes
-pub mod SpelledLeaves
-pub mod ValuesMeet
-pub mod WholeWords
+pub mod FieldCodes
 pub mod Zipped

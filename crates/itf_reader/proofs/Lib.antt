@@ -1,3 +1,4 @@
+pub mod Arcs
 pub mod Back
 pub mod CodeStands
 pub mod Completes
@@ -14,3 +15,5 @@ pub mod Refused
 pub mod Sorting
 pub mod LineByLine
 pub mod Stands
+pub mod VertexLaws
+pub mod Zipped

@@ -13,3 +13,8 @@ pub mod Found
 pub mod Placing
 pub mod Runs
 pub mod Directories
+pub mod Few
+pub mod StrokeFindings
+pub mod RowFindings
+pub mod RowReadings
+pub mod VertexReadings
