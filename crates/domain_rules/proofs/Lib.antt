@@ -1,2 +1,3 @@
 pub mod FieldCodes
+pub mod Places
 pub mod Zipped

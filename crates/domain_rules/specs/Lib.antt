@@ -1,1 +1,2 @@
+pub mod CleanPlaces
 pub mod ValueFindings

@@ -20,7 +20,8 @@
 //!   are told by their numbers, `1.0` as `1.00`, and by x and y alone.
 //! - **What is proved.** The answer of `check_values` is `value_findings`, which goes over tables
 //!   and rows (`row_findings` of `itf_reader`). `field_ok` answers none exactly where no word is
-//!   undefined and the words are a value of the form (`Meets`).
+//!   undefined and the words are a value of the form (`Meets`). Where nothing is found, each vertex
+//!   and each point of an area lies in its window, and each arc is one (`clean_places`).
 //! - **What it asks.** `check_values` takes a valid layout, as `layout` gives it, and a transfer
 //!   that was read for it. Rows of tables that the layout lacks are not looked at.
 //! - **Not here:** whether identifications and IDENT lists tell rows apart, and whether a reference
@@ -33,6 +34,7 @@
 #![tactic(auto)]
 
 mod field;
+mod laws;
 #[cfg(test)]
 mod tests;
 #[cfg(test)]
@@ -40,4 +42,5 @@ mod value_tests;
 mod values;
 
 pub use field::field_ok;
+pub use laws::clean_places;
 pub use values::check_values;

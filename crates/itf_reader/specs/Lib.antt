@@ -18,3 +18,4 @@ pub mod StrokeFindings
 pub mod RowFindings
 pub mod RowReadings
 pub mod VertexReadings
+pub mod RowKeys

@@ -1,4 +1,4 @@
-// How many words a row has.
+// How many words a row has, and the first of them.
 ghost use Rattle.std.specs.Prelude.{◌≡◌, ◌==◌};
 ghost use Rattle.table_layout.specs.Values.{columns_view, table_view};
 ghost use Rattle.itf_reader.specs.RowFindings.{widths, is_counted};
@@ -6,6 +6,7 @@ ghost use Rattle.itf_reader.specs.RowViews.{row_of};
 
 use super::transfer::Row;
 use field_values::width;
+use ports::Keyed;
 use table_layout::{Column, Table};
 
 /// The row has one word for its identification, and those of its table's columns.
@@ -31,4 +32,18 @@ fn are_wide(columns: &[Column], words: usize) -> bool
         left -= wide;
     }
     left == 0
+}
+
+/// The key of a row is its identification, its first field.
+impl Keyed for Row {
+    ghost use Rattle.itf_reader.specs.RowKeys.{row_key};
+
+    ghost key = { row_key };
+
+    fn key(&self) -> Option<&[u8]> {
+        match self.fields.as_slice() {
+            [word, ..] => Some(word.bytes()),
+            [] => None,
+        }
+    }
 }
