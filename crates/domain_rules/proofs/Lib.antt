@@ -1,7 +1,3 @@
-pub mod Arcs
-pub mod Collinear
-pub mod SoundStrokes
-pub mod SpelledLeaves
-pub mod ValuesMeet
-pub mod WholeWords
+pub mod FieldCodes
+pub mod Places
 pub mod Zipped

@@ -1,29 +1,20 @@
--- Lines with their strokes, and tables with their rows, one pair after the other.
+-- Tables with their rows, one pair after the other.
 use Rattle.std.proofs.Common.{◌≡◌, ◌⊎◌, inl, inr, ℕ, List, [], ◌∷◌, ◌++◌, refl, ◌∙◌, sym, ap, subst, append-nil, append_assoc}
 use Rattle.std.specs.List.{All}
 use Rattle.std.proofs.lemmas.List.Elements.{All-head, All-tail}
 use Rattle.ili_grammar.specs.Syntax.{Codes}
-use Rattle.resolver.specs.declared.models.LineForm.{LineForm}
-use Rattle.table_layout.specs.Layouts.{Role}
 use Rattle.table_layout.specs.declared.layouts.Table.{Table}
-use Rattle.table_layout.specs.Values.{lines_view, table_view, tables_view}
+use Rattle.table_layout.specs.Values.{table_view, tables_view}
 use Rattle.itf_reader.specs.declared.transfer.Row.{Row}
-use Rattle.itf_reader.specs.declared.transfer.Stroke.{Stroke}
 use Rattle.itf_reader.specs.declared.transfer.TableRows.{TableRows}
+use Rattle.itf_reader.specs.Few.{HasFew}
 use Rattle.itf_reader.specs.Findings.{Finding}
-use Rattle.itf_reader.specs.Views.{strokes_of, rows_of, tables_seen}
-use Rattle.domain_rules.specs.Few.{HasFew}
-use Rattle.domain_rules.specs.ValueFindings.{lines_findings, table_findings, tables_findings}
+use Rattle.itf_reader.specs.RowViews.{rows_of, tables_seen}
+use Rattle.domain_rules.specs.ValueFindings.{table_findings, tables_findings}
 
 -- nothing is left to be found
 pub all_found : (found left all : List Finding) → left ≡ [] → found ++ left ≡ all → found ≡ all
 all_found found left all e h = sym (append-nil found) ∙ (ap (λ (s : List Finding). found ++ s) (sym e) ∙ h)
-
-pub lines_end : (role : Role) (line column : ℕ) (ls : List LineForm) (ss : List Stroke) → (ls ≡ []) ⊎ (ss ≡ []) → lines_findings role line column (lines_view ls) (strokes_of ss) ≡ []
-lines_end role line column [] ss h = refl
-lines_end role line column (l ∷ ls) [] h = refl
-lines_end role line column (l ∷ ls) (s ∷ ss) (inl h) = cc
-lines_end role line column (l ∷ ls) (s ∷ ss) (inr h) = cc
 
 pub tables_end : (codes : Codes) (ts : List Table) (came : List TableRows) → (ts ≡ []) ⊎ (came ≡ []) → tables_findings codes (tables_view ts) (tables_seen came) ≡ []
 tables_end codes [] came h = refl

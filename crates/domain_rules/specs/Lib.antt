@@ -1,9 +1,2 @@
-pub mod Few
-pub mod Fields
-pub mod Leaves
-pub mod LineTests
-pub mod Meeting
-pub mod Places
-pub mod Sizes
-pub mod Strokes
+pub mod CleanPlaces
 pub mod ValueFindings

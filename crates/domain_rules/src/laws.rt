@@ -1,10 +1,13 @@
-// Laws of the domains.
-ghost use Rattle.std.specs.Prelude.{◌≡◌, ◌↔◌, ◌≤◌, ◌^◌, ℕ, List, true};
-ghost use Rattle.domain_rules.specs.Fields.{is_leaf};
-ghost use Rattle.domain_rules.specs.Leaves.{IsLeaf};
+// Laws of transfers in which no value is at fault.
+ghost use Rattle.std.specs.Prelude.{◌≡◌, List, []};
+ghost use Rattle.table_layout.specs.Layouts.{Layout};
+ghost use Rattle.itf_reader.specs.Forms.{Row};
+ghost use Rattle.domain_rules.specs.CleanPlaces.{HavePlaces};
+ghost use Rattle.domain_rules.specs.ValueFindings.{value_findings};
 
-/// The words that are leaves of an enumeration are the decimal spellings of their numbers,
-/// counted from 0.
-pub fn leaves_are_spelled()
-    ensures { (leaves : ℕ) (word : List ℕ) → leaves ≤ 2 ^ 32 → (is_leaf leaves word ≡ true) ↔ IsLeaf leaves word }
+/// Where no value is at fault, each vertex and each point of an object in its area has a place in
+/// its window, the ends of an arc differ, and a point of an arc that lies on one straight with its
+/// ends lies between them.
+pub fn clean_places()
+    ensures { (l : Layout) (transfer : List (List Row)) → value_findings l transfer ≡ [] → HavePlaces l.codes l.tables transfer }
 {}

@@ -1,8 +1,9 @@
 ghost use Rattle.std.specs.Prelude.{◌≡◌};
 ghost use Rattle.resolver.specs.Values.{form_of};
-ghost use Rattle.domain_rules.specs.Fields.{width};
+ghost use Rattle.field_values.specs.Fields.{width};
 
-use super::{field_ok, leaves_are_spelled};
+use super::field_ok;
+use field_values::leaves_are_spelled;
 use ili_grammar::Codes;
 use itf_lines::Field;
 use itf_reader::Code;

@@ -7,8 +7,8 @@ use Rattle.table_layout.specs.Layouts.{Column}
 use Rattle.table_layout.specs.Values.{column_view, columns_view}
 use Rattle.itf_reader.specs.Forms.{Row}
 use Rattle.itf_reader.specs.Findings.{Finding}
-use Rattle.domain_rules.specs.Fields.{width}
-use Rattle.domain_rules.specs.ValueFindings.{widths}
+use Rattle.field_values.specs.Fields.{width}
+use Rattle.itf_reader.specs.RowFindings.{widths}
 use Rattle.ident_refs.specs.KeyFindings.{referred, reference_finding, columns_references}
 use Rattle.ident_refs.proofs.Splits.{split}
 

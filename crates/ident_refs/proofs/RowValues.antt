@@ -6,8 +6,8 @@ use Rattle.ili_grammar.specs.Syntax.{Codes}
 use Rattle.resolver.specs.Values.{form_of}
 use Rattle.table_layout.specs.Layouts.{Table}
 use Rattle.itf_reader.specs.Forms.{Vertex, Row}
-use Rattle.domain_rules.specs.Fields.{width}
-use Rattle.domain_rules.specs.ValueFindings.{widths, is_counted}
+use Rattle.field_values.specs.Fields.{width}
+use Rattle.itf_reader.specs.RowFindings.{widths, is_counted}
 use Rattle.ident_refs.specs.declared.sheet.Span.{Span as CodeSpan}
 use Rattle.ident_refs.specs.ListValues.{form_value, columns_values, lines_values, row_values}
 use Rattle.ident_refs.specs.Spans.{span_view, spans_from}

@@ -5,7 +5,7 @@ use Rattle.std.specs.Option.{option_to_list, option_eq}
 use Rattle.itf_reader.specs.declared.transfer.VertexKind.{VertexKind}
 use Rattle.itf_reader.specs.declared.transfer.VertexKind.TheVariants as kinds
 use Rattle.itf_reader.specs.Views.{kind_of}
-use Rattle.domain_rules.specs.Strokes.{is_same}
+use Rattle.field_values.specs.Places.{is_same}
 use Rattle.ident_refs.specs.declared.compared.Corner.{Corner as CodeCorner}
 use Rattle.ident_refs.specs.declared.compared.Value.{Value as CodeValue}
 use Rattle.ident_refs.specs.declared.compared.Demand.{Demand}

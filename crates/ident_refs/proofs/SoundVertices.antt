@@ -1,41 +1,66 @@
--- Each vertex of a sound line has a field for each axis.
-use Rattle.std.proofs.Common.{rules, ◌≡◌, ℕ, zero, suc, ◌<◌, ◌&&◌, ◌==◌, not, Bool, true, false, List, [], ◌∷◌, length, get_or, Option, Some, None, is_none, refl, ap, ◌∙◌, arith}
+-- Each vertex of a sound line is read.
+use Rattle.std.proofs.Common.{◌≡◌, ℕ, zero, suc, ◌<◌, ◌&&◌, Bool, true, false, cond, List, [], ◌∷◌, length, get_or, Option, Some, None, is_none, Result, Ok, Err, ℤ, refl, ap, ◌∙◌, arith}
+use Rattle.std.specs.Option.{option_map}
 use Rattle.resolver.specs.Resolved.{LineForm}
 use Rattle.table_layout.specs.Layouts.{Role}
+use Rattle.field_values.specs.declared.value.ValueFault.{ValueFault}
+use Rattle.field_values.specs.Fields.{vertex_fault, line_axes}
+use Rattle.field_values.specs.Readings.{Value as FieldValue, reading, numbers_on}
 use Rattle.itf_reader.specs.declared.findings.Code.{Code}
-use Rattle.itf_reader.specs.declared.findings.Code.TheVariants.{Coord, Arcs}
 use Rattle.itf_reader.specs.declared.transfer.Vertex.{Vertex as CodeVertex}
-use Rattle.itf_reader.specs.Forms.{Vertex}
+use Rattle.itf_reader.specs.Forms.{Kind, Vertex}
 use Rattle.itf_reader.specs.Views.{vertex_of, vertices_of}
-use Rattle.domain_rules.specs.Fields.{first_code, numbers_code}
-use Rattle.domain_rules.specs.Strokes.{axes, code_if, is_on_arc, vertex_code, are_clean, is_sound_stroke}
-use Rattle.domain_rules.proofs.SoundStrokes.{sound_unclean}
+use Rattle.itf_reader.specs.StrokeFindings.{code_of, first_code, is_clean, are_clean, is_whole, all_seen, is_sound_stroke}
+use Rattle.ident_refs.specs.ListValues.{Corner, Value, compared, corner_of}
 
--- what fails at the count, where nothing does
-counted : (n m : ℕ) (b : Bool) (rest : Option Code) → (n == m) ≡ b → is_none (first_code (code_if (not b) Coord) rest) ≡ true → n ≡ m
-counted n m true rest e h = search rules
-counted n m false rest e h = absurd (grind arith)
-
-after_numbers : (n m : ℕ) (first rest : Option Code) → is_none (first_code first (first_code (code_if (not (n == m)) Coord) rest)) ≡ true → n ≡ m
-after_numbers n m (Some code) rest h = absurd (grind arith)
-after_numbers n m None rest h = counted n m (n == m) rest refl h
-
-pub sized : (l : LineForm) (v : Vertex) → is_none (vertex_code l v) ≡ true → length v.fields ≡ length (axes l)
-sized l v h = after_numbers (length v.fields) (length (axes l)) (numbers_code (axes l) v.fields) (code_if (is_on_arc v.kind && not l.arcs) Arcs) h
+unbroken : (o : Option ValueFault) (rest : Option Code) → is_none (first_code (option_map code_of o) rest) ≡ true → o ≡ None
+unbroken None rest h = refl
+unbroken (Some f) rest h = cc
 
 both_true : (a b : Bool) → (a && b) ≡ true → (a ≡ true) × (b ≡ true)
 both_true true b h = (refl, h)
 both_true false b h = absurd (grind arith)
 
-pub clean_at : (l : LineForm) (vs : List CodeVertex) (i : ℕ) (v : CodeVertex) → i < length vs → v ≡ get_or vs i v → are_clean l (vertices_of vs) ≡ true → is_none (vertex_code l (vertex_of v)) ≡ true
+clean_at : (l : LineForm) (vs : List CodeVertex) (i : ℕ) (v : CodeVertex) → i < length vs → v ≡ get_or vs i v → are_clean l (vertices_of vs) ≡ true → is_clean l (vertex_of v) ≡ true
 clean_at l [] i v lt at h = absurd (omega arith)
-clean_at l (x ∷ vs) zero v lt at h = ap (λ (y : CodeVertex). is_none (vertex_code l (vertex_of y))) at ∙ (both_true _ _ h).0
+clean_at l (x ∷ vs) zero v lt at h = ap (λ (y : CodeVertex). is_clean l (vertex_of y)) at ∙ (both_true _ _ h).0
 clean_at l (x ∷ vs) (suc i) v lt at h = clean_at l vs i v (omega arith) at (both_true _ _ h).1
 
-clean_sound : (role : Role) (l : LineForm) (vs : List Vertex) (b : Bool) → are_clean l vs ≡ b → is_sound_stroke role l vs ≡ true → are_clean l vs ≡ true
-clean_sound role l vs true e h = e
-clean_sound role l vs false e h = let k = sound_unclean role l vs e in absurd (grind arith)
+pub sound_read : (role : Role) (l : LineForm) (vs : List CodeVertex) (i : ℕ) (v : CodeVertex) → i < length vs → v ≡ get_or vs i v → is_sound_stroke role l (vertices_of vs) ≡ true
+    → vertex_fault l v.fields.items ≡ None
+sound_read role l vs i v lt at h =
+    unbroken (vertex_fault l v.fields.items) _ (clean_at l vs i v lt at (both_true (are_clean l (vertices_of vs)) (is_whole role (all_seen l (vertices_of vs))) h).0)
 
-pub sound_sized : (role : Role) (l : LineForm) (vs : List CodeVertex) (i : ℕ) (v : CodeVertex) → i < length vs → v ≡ get_or vs i v → is_sound_stroke role l (vertices_of vs) ≡ true
-    → length v.fields.items ≡ length (axes l)
-sound_sized role l vs i v lt at h = sized l (vertex_of v) (clean_at l vs i v lt at (clean_sound role l (vertices_of vs) (are_clean l (vertices_of vs)) refl h))
+-- the numbers of a vertex, over the fields as they were lent
+same_value : (o : Option ValueFault) (a v : List ℤ) → Ok v ≡ reading o a → v ≡ a
+same_value None a v h = cc
+same_value (Some f) a v h = cc
+
+pub corner_read : (l : LineForm) (v : Vertex) (lent : List (List ℕ)) (ns : List ℤ) → lent ≡ v.fields → Ok ns ≡ reading (vertex_fault l lent) (numbers_on (line_axes l) lent)
+    → ◌≡◌ {A = Corner} (record { kind = v.kind; numbers = ns }) (corner_of l v)
+corner_read l v lent ns e r =
+    let n = same_value (vertex_fault l lent) (numbers_on (line_axes l) lent) ns r in
+    ap (λ (m : List ℤ). the_corner v.kind m) (n ∙ ap (λ (fs : List (List ℕ)). numbers_on (line_axes l) fs) e)
+  where
+    the_corner : Kind → List ℤ → Corner
+    the_corner k m = record { kind = k; numbers = m }
+
+pub never : (o : Option ValueFault) (f : ValueFault) (a : List ℤ) → o ≡ None → Err f ≡ reading o a → ⊥
+never None f a e h = cc
+never (Some g) f a e h = cc
+
+pub never_at : (l : LineForm) (fields lent : List (List ℕ)) (f : ValueFault) → vertex_fault l fields ≡ None → lent ≡ fields → Err f ≡ reading (vertex_fault l lent) (numbers_on (line_axes l) lent) → ⊥
+never_at l fields lent f e s h = never (vertex_fault l lent) f (numbers_on (line_axes l) lent) (ap (λ (fs : List (List ℕ)). vertex_fault l fs) s ∙ e) h
+
+-- ---- columns
+pub value_ok : (o : Option ValueFault) (a v : FieldValue) → Ok v ≡ reading o a → Some (compared v) ≡ cond (is_none o) (Some (compared a)) None
+value_ok None a v h = ap (λ (r : Result FieldValue ValueFault). compared_in a r) h
+  where
+    compared_in : FieldValue → Result FieldValue ValueFault → Option Value
+    compared_in d (Ok v) = Some (compared v)
+    compared_in d (Err f) = Some (compared d)
+value_ok (Some f) a v h = cc
+
+pub value_err : (o : Option ValueFault) (a : FieldValue) (f : ValueFault) → Err f ≡ reading o a → None ≡ cond (is_none o) (Some (compared a)) None
+value_err None a f h = cc
+value_err (Some g) a f h = refl

@@ -9,8 +9,8 @@ use Rattle.resolver.specs.Values.{form_of}
 use Rattle.table_layout.specs.declared.layouts.Column.{Column as CodeColumn}
 use Rattle.table_layout.specs.Layouts.{Column}
 use Rattle.table_layout.specs.Values.{column_view, columns_view}
-use Rattle.domain_rules.specs.Fields.{width}
-use Rattle.domain_rules.specs.ValueFindings.{widths}
+use Rattle.field_values.specs.Fields.{width}
+use Rattle.itf_reader.specs.RowFindings.{widths}
 use Rattle.ident_refs.specs.ListValues.{form_value, columns_values}
 use Rattle.ident_refs.specs.declared.sheet.Span.{Span as CodeSpan}
 use Rattle.ident_refs.specs.Spans.{Span, span_view, spans_from}

@@ -9,8 +9,8 @@ use Rattle.itf_reader.specs.declared.findings.Code.{Code}
 use Rattle.itf_reader.specs.declared.findings.Code.TheVariants.{Tid, Ident, Reference}
 use Rattle.itf_reader.specs.Findings.{Line, Word, Finding, in_order}
 use Rattle.itf_reader.specs.Forms.{Row}
-use Rattle.domain_rules.specs.Fields.{is_undefined, width}
-use Rattle.domain_rules.specs.ValueFindings.{is_counted}
+use Rattle.field_values.specs.Fields.{is_undefined, width}
+use Rattle.itf_reader.specs.RowFindings.{is_counted}
 use Rattle.ident_refs.specs.Rows.{identification, has_identification, first_such}
 use Rattle.ident_refs.specs.ListValues.{demand, is_same_demand}
 

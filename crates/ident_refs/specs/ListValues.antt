@@ -6,9 +6,12 @@ use Rattle.resolver.specs.Resolved as model
 use Rattle.resolver.specs.Resolved.{Limits, Form, LineForm}
 use Rattle.table_layout.specs.Layouts.{Role, Column, Table}
 use Rattle.itf_reader.specs.Forms.{Kind, Start, Straight, OnArc, Vertex, Row}
-use Rattle.domain_rules.specs.Fields.{width, field_code}
-use Rattle.domain_rules.specs.Strokes.{axes, units, is_same, is_sound_stroke}
-use Rattle.domain_rules.specs.ValueFindings.{is_counted}
+use Rattle.field_values.specs.Fields.{width, field_fault, line_axes}
+use Rattle.field_values.specs.Places.{is_same}
+use Rattle.field_values.specs.Readings as reading
+use Rattle.field_values.specs.Readings.{numbers_on, value_of}
+use Rattle.itf_reader.specs.StrokeFindings.{is_sound_stroke}
+use Rattle.itf_reader.specs.RowFindings.{is_counted}
 
 -- a vertex as it is compared: its kind and its numbers
 pub record Corner : Type 0 where
@@ -22,44 +25,21 @@ pub data Value : Type 0 where
   Corners : List Corner → Value
 
 -- ---- the values of a row
--- words as numbers on some axes, a word for each
-abbrev pub numbers_on : List Limits → List (List ℕ) → List ℤ
-numbers_on [] words = []
-numbers_on (l ∷ ls) [] = []
-numbers_on (l ∷ ls) (w ∷ ws) = units l w ∷ numbers_on ls ws
-
-abbrev pub bytes_of : List (List ℕ) → List ℕ
-bytes_of [] = []
-bytes_of (word ∷ words) = word
-
--- the words of a column by its form
-abbrev pub value_of : Form → List (List ℕ) → Value
-value_of (model.Range l) words = Numbers (numbers_on (l ∷ []) words)
-value_of (model.Dim1 l) words = Numbers (numbers_on (l ∷ []) words)
-value_of (model.Dim2 l) words = Numbers (numbers_on (l ∷ []) words)
-value_of (model.Radians l) words = Numbers (numbers_on (l ∷ []) words)
-value_of (model.Grads l) words = Numbers (numbers_on (l ∷ []) words)
-value_of (model.Degrees l) words = Numbers (numbers_on (l ∷ []) words)
-value_of (model.Coord2 w) words = Numbers (numbers_on (w.x ∷ w.y ∷ []) words)
-value_of (model.AreaPoint w) words = Numbers (numbers_on (w.x ∷ w.y ∷ []) words)
-value_of (model.Coord3 b) words = Numbers (numbers_on (b.x ∷ b.y ∷ b.z ∷ []) words)
-value_of (model.Text n) words = Bytes (bytes_of words)
-value_of model.Date words = Bytes (bytes_of words)
-value_of (model.Enumeration n) words = Bytes (bytes_of words)
-value_of model.HAlignment words = Bytes (bytes_of words)
-value_of model.VAlignment words = Bytes (bytes_of words)
-value_of (model.Reference k) words = Bytes (bytes_of words)
+-- what words stand for, as it is compared
+abbrev pub compared : reading.Value → Value
+compared (reading.Numbers ns) = Numbers ns
+compared (reading.Bytes word) = Bytes word
 
 -- the value of a column by its form, none where it is undefined or has a finding
 abbrev pub form_value : Codes → Form → List (List ℕ) → Option Value
-form_value codes form words = if is_none (field_code form codes words) then Some (value_of form words) else None
+form_value codes form words = if is_none (field_fault form codes words) then Some (compared (value_of form words)) else None
 
 abbrev pub columns_values : Codes → List Column → List (List ℕ) → List (Option Value)
 columns_values codes [] words = []
 columns_values codes (c ∷ cs) words = form_value codes c.form (take (width c.form) words) ∷ columns_values codes cs (drop (width c.form) words)
 
 abbrev pub corner_of : LineForm → Vertex → Corner
-corner_of l v = record { kind = v.kind; numbers = numbers_on (axes l) v.fields }
+corner_of l v = record { kind = v.kind; numbers = numbers_on (line_axes l) v.fields }
 
 -- the value of a line, none where it is undefined or has a finding
 abbrev pub line_value : Role → LineForm → List Vertex → Option Value

@@ -3,7 +3,7 @@ use Rattle.std.specs.Prelude.{ℕ, ◌+◌, List, [], ◌∷◌}
 use Rattle.resolver.specs.Resolved.{Form}
 use Rattle.resolver.specs.Values.{form_of}
 use Rattle.table_layout.specs.Layouts.{Column}
-use Rattle.domain_rules.specs.Fields.{width}
+use Rattle.field_values.specs.Fields.{width}
 use Rattle.ident_refs.specs.declared.sheet.Span.{Span as CodeSpan}
 
 -- the form of a column, the field that its words begin at, and the one behind them

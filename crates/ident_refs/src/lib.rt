@@ -10,9 +10,9 @@
 //!   like any other, and a row with a wrong number of fields has its own too.
 //! - **IDENT lists.** A list demands of two rows that their values differ. It demands nothing of a
 //!   row with a wrong number of fields, or in which a value of the list is undefined or has a
-//!   finding by the rules of `domain_rules`, a line's vertices included. Numbers are compared at
-//!   the scale of their bounds, lines vertex by vertex, all else by bytes. The finding stands in
-//!   the column of the list's first place.
+//!   finding of its own (`row_findings` of `itf_reader`), a line's vertices included. Numbers are
+//!   compared at the scale of their bounds, lines vertex by vertex, all else by bytes. The finding
+//!   stands in the column of the list's first place.
 //! - **References.** A word that is not the undefined word must be the identification of a row of
 //!   the table that its column refers to, before or behind it.
 //! - **What is proved.** The answer is `key_findings` of `specs/KeyFindings.antt`, which goes over

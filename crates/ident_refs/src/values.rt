@@ -1,67 +1,45 @@
 // The values of a row, as they are compared.
-ghost use Rattle.std.specs.Prelude.{◌≡◌, length, map, IfOk, IsTrue};
+ghost use Rattle.std.specs.Prelude.{◌≡◌, length, map, None, IfOk, IsTrue};
 ghost use Rattle.std.specs.Option.{option_map};
 ghost use Rattle.ili_grammar.specs.Values.{codes_of};
-ghost use Rattle.resolver.specs.Values.{form_of, line_of, limits_of};
+ghost use Rattle.resolver.specs.Values.{form_of, line_of};
 ghost use Rattle.table_layout.specs.Values.{role_view};
+ghost use Rattle.field_values.specs.Fields.{vertex_fault, width};
+ghost use Rattle.field_values.specs.Readings.{bytes_of};
+ghost use Rattle.field_values.specs.Values.{value_view as read_view};
 ghost use Rattle.itf_reader.specs.Views.{vertex_of, vertices_of};
-ghost use Rattle.domain_rules.specs.Fields.{width};
-ghost use Rattle.domain_rules.specs.Strokes.{axes, units, is_sound_stroke};
+ghost use Rattle.itf_reader.specs.StrokeFindings.{is_sound_stroke};
 ghost use Rattle.ident_refs.specs.Compared.{corner_view, value_view};
-ghost use Rattle.ident_refs.specs.ListValues.{corner_of, value_of, form_value, line_value};
+ghost use Rattle.ident_refs.specs.ListValues.{compared, corner_of, form_value, line_value};
 
 use super::compared::{Corner, Value};
-use decimals::read_scaled;
-use domain_rules::{field_ok, stroke_ok};
+use field_values::{ColumnValue, read_column, read_vertex};
 use ili_grammar::Codes;
 use itf_lines::Field;
-use itf_reader::Vertex;
+use itf_reader::{Vertex, is_sound_line};
 use ports::Memory;
-use resolver::{Form, Limits, LineForm};
+use resolver::{Form, LineForm};
 use std::alloc::Global;
 use table_layout::Role;
 
-// The number of a word at the scale of its bounds; 0 where it has none.
-fn units(limits: &Limits, word: &[u8]) -> i64
-    ensures { result ≡ units (limits_of limits.now) word.now }
+// What some words stand for, as it is compared.
+fn value_of<'a>(value: ColumnValue, words: &'a [Field]) -> Value<'a>
+    ensures { value_view result ≡ compared (read_view words.now value) }
 {
-    match read_scaled(word, limits.scale) {
-        Ok(value) => value,
-        Err(_) => 0,
+    match value {
+        ColumnValue::Number(n) => Value::Number(n),
+        ColumnValue::Plane(p) => Value::Plane(p.x, p.y),
+        ColumnValue::Space(p, z) => Value::Space(p.x, p.y, z),
+        ColumnValue::Word => Value::Word(first_word(words)),
     }
 }
 
-// The value that some words write in a column.
-fn value_of<'a>(form: &Form, words: &'a [Field]) -> Value<'a>
-    requires { length words.now ≡ width (form_of form.now) }
-    ensures { value_view result ≡ value_of (form_of form.now) words.now }
+fn first_word(words: &[Field]) -> &[u8]
+    ensures { result.now ≡ bytes_of words.now }
 {
-    match form {
-        Form::Range(limits) => Value::Number(units(limits, words[0].bytes())),
-        Form::Dim1(limits) => Value::Number(units(limits, words[0].bytes())),
-        Form::Dim2(limits) => Value::Number(units(limits, words[0].bytes())),
-        Form::Radians(limits) => Value::Number(units(limits, words[0].bytes())),
-        Form::Grads(limits) => Value::Number(units(limits, words[0].bytes())),
-        Form::Degrees(limits) => Value::Number(units(limits, words[0].bytes())),
-        Form::Coord2(window) => Value::Plane(
-            units(&window.x, words[0].bytes()),
-            units(&window.y, words[1].bytes()),
-        ),
-        Form::AreaPoint(window) => Value::Plane(
-            units(&window.x, words[0].bytes()),
-            units(&window.y, words[1].bytes()),
-        ),
-        Form::Coord3(block) => Value::Space(
-            units(&block.x, words[0].bytes()),
-            units(&block.y, words[1].bytes()),
-            units(&block.z, words[2].bytes()),
-        ),
-        Form::Text(_) => Value::Word(words[0].bytes()),
-        Form::Date => Value::Word(words[0].bytes()),
-        Form::Enumeration(_) => Value::Word(words[0].bytes()),
-        Form::HAlignment => Value::Word(words[0].bytes()),
-        Form::VAlignment => Value::Word(words[0].bytes()),
-        Form::Reference(_) => Value::Word(words[0].bytes()),
+    match words {
+        [word, ..] => word.bytes(),
+        [] => &[],
     }
 }
 
@@ -70,27 +48,32 @@ pub fn form_value<'a>(form: &Form, codes: &Codes, words: &'a [Field]) -> Option<
     requires { length words.now ≡ width (form_of form.now) }
     ensures { option_map value_view result ≡ form_value (codes_of codes.now) (form_of form.now) words.now }
 {
-    match field_ok(form, codes, words) {
-        None => Some(value_of(form, words)),
-        Some(_) => None,
+    match read_column(form, codes, words) {
+        Ok(value) => Some(value_of(value, words)),
+        Err(_) => None,
     }
 }
 
-// A vertex by its kind and its numbers.
+// A sound vertex by its kind and its numbers.
 fn corner_of(form: &LineForm, vertex: &Vertex) -> Corner
-    requires { length vertex.now.fields.items ≡ length (axes (line_of form.now)) }
+    requires { vertex_fault (line_of form.now) vertex.now.fields.items ≡ None }
     ensures { corner_view result ≡ corner_of (line_of form.now) (vertex_of vertex.now) }
 {
-    let fields = vertex.fields.as_slice();
-    let height = match &form.height {
-        Some(limits) => Some(units(limits, fields[2].bytes())),
-        None => None,
-    };
-    Corner {
-        kind: vertex.kind,
-        x: units(&form.window.x, fields[0].bytes()),
-        y: units(&form.window.y, fields[1].bytes()),
-        height,
+    let kind = vertex.kind;
+    match read_vertex(form, &vertex.fields) {
+        Ok(value) => Corner {
+            kind,
+            x: value.at.x,
+            y: value.at.y,
+            height: value.height,
+        },
+        // A sound vertex is read.
+        Err(_) => Corner {
+            kind,
+            x: 0,
+            y: 0,
+            height: None,
+        },
     }
 }
 
@@ -120,7 +103,7 @@ pub fn line_value<'a>(
 ) -> Result<Option<Value<'a>>, Memory>
     ensures { IfOk result (λ value. option_map value_view value ≡ line_value (role_view role) (line_of form.now) (vertices_of vertices.now)) }
 {
-    if vertices.is_empty() || !stroke_ok(role, form, vertices) {
+    if vertices.is_empty() || !is_sound_line(alloc, role, form, vertices)? {
         return Ok(None);
     }
     Ok(Some(Value::Line(corners_of(alloc, role, form, vertices)?)))

@@ -35,6 +35,7 @@
 #![tactic(auto)]
 
 mod came;
+mod counting;
 mod directory;
 mod findings;
 mod frame;
@@ -46,6 +47,13 @@ mod order;
 mod placing;
 mod reading;
 mod refusal;
+mod report;
+mod row_columns;
+mod row_lines;
+mod row_reading;
+mod row_strokes;
+mod row_values;
+mod row_vertices;
 mod rows;
 mod running;
 mod stepping;
@@ -55,6 +63,7 @@ mod strokes;
 mod tests;
 mod transfer;
 
+pub use counting::is_counted;
 pub use findings::{Code, Finding, Other};
 pub use laws::{
     machine_begins, machine_reads, machine_stops, one_answer, one_transfer, rows_by_table,
@@ -63,4 +72,8 @@ pub use laws::{
 pub use order::sort_findings;
 pub use reading::read_transfer;
 pub use refusal::ReadRefusal;
+pub use report::code_of;
+pub use row_lines::is_sound_line;
+pub use row_reading::read_row;
+pub use row_values::{Cell, ReadVertex, RowValues, StrokeRead};
 pub use transfer::{Row, Stroke, Structure, TableRows, Transfer, Vertex, VertexKind};

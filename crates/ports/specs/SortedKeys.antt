@@ -57,6 +57,10 @@ pub record IsListed (keys : List (Option (List ℕ))) (skip : ℕ) (ranked : Lis
   pub whole : (place : ℕ) (key : List ℕ) → get_or keys place None ≡ Some key → Contains ranked (record { rank = rank skip key; place = place })
 
 -- and in order
-pub record IsSortedKeys (keys : List (Option (List ℕ))) (sorted : SortedKeys) : Type 0 where
+pub record AreSorted (keys : List (Option (List ℕ))) (sorted : SortedKeys) : Type 0 where
   pub listed : IsListed keys sorted.skip sorted.ranked.items
   pub ascending : IsSortedBy (is_before keys) sorted.ranked.items
+
+-- the same as a fact that a struct can keep
+abbrev pub IsSortedKeys : List (Option (List ℕ)) → SortedKeys → Type 0
+IsSortedKeys keys sorted = ∥ AreSorted keys sorted ∥₁

@@ -1,6 +1,7 @@
 use Rattle.std.proofs.lemmas.Slice.Zip.{either_empty_from_Zip, Zip-more}
 use Rattle.std.specs.Iterator.Adapters.{zip_first, zip_second}
 use Rattle.std.specs.Slice.Iter.{iter_rest}
+use Rattle.itf_reader.specs.Findings.{findings_of}
 use Rattle.ili_grammar.specs.Values.{codes_of}
 use Rattle.domain_rules.proofs.Zipped.{all_found, tables_end, first_few, others_few, tables_step}
 use Rattle.domain_rules.proofs.values.add_tables.Goals as goal
@@ -17,7 +18,7 @@ loop-table-preserved c =
       can_next = (tt, tt);
       is_finite = tt;
       few = others_few _ c.in-Some.table.now (iter_rest (zip_first c.next.new.self)) more.0 c.loop-table.invariant.few;
-      found = tables_step (codes_of c.args.codes.now) _ c.in-Some.table.now (iter_rest (zip_first c.next.new.self)) _ c.in-Some.objects.now (iter_rest (zip_second c.next.new.self)) c.deref.result.now c.loop-table.found c.add_rows.new.found _ more.0 more.1 c.deref.ensures.value c.in_ok-add_rows.ensures c.loop-table.invariant.found;
+      found = tables_step (codes_of c.args.codes.now) _ c.in-Some.table.now (iter_rest (zip_first c.next.new.self)) _ c.in-Some.objects.now (iter_rest (zip_second c.next.new.self)) c.deref.result.now (findings_of c.loop-table.found.items) (findings_of c.add_rows.new.found.items) _ more.0 more.1 c.deref.ensures.value c.in_ok-add_rows.ensures c.loop-table.invariant.found;
     }
 
 pub returns : goal.returns

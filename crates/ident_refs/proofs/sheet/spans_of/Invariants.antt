@@ -1,6 +1,6 @@
 use Rattle.std.proofs.Common.{◌≡◌, ◌+◌, ◌*◌, ◌≤◌, ◌++◌, drop, map}
 use Rattle.table_layout.specs.Values.{columns_view}
-use Rattle.domain_rules.specs.ValueFindings.{widths}
+use Rattle.itf_reader.specs.RowFindings.{widths}
 use Rattle.ident_refs.specs.Spans.{span_view, spans_from}
 use Rattle.ident_refs.proofs.sheet.spans_of.Given as goal
 

@@ -2,7 +2,7 @@ use Rattle.std.proofs.Common.{◌≡◌, ◌++◌, ◌+◌, drop, length}
 use Rattle.ili_grammar.specs.Values.{codes_of}
 use Rattle.table_layout.specs.Values.{columns_view}
 use Rattle.itf_reader.specs.Findings.{findings_of}
-use Rattle.domain_rules.specs.ValueFindings.{widths}
+use Rattle.itf_reader.specs.RowFindings.{widths}
 use Rattle.ident_refs.specs.KeyFindings.{columns_references}
 use Rattle.ident_refs.specs.NamedRows.{rows_in}
 use Rattle.ident_refs.proofs.references.NamedRows.add_columns.Given as goal

@@ -1,0 +1,7 @@
+pub mod Fields
+pub mod Leaves
+pub mod Meeting
+pub mod Places
+pub mod Readings
+pub mod Sizes
+pub mod Values
