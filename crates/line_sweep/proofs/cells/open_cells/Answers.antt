@@ -1,0 +1,19 @@
+use Rattle.std.proofs.Common.{rules, arith, sym, ap, subst, ◌≡◌, ◌∙◌, ◌+◌, ◌<◌, ◌≤◌, ◌++◌, ◌∷◌, [], ℕ, suc, length, take, drop, get_or, refl, inl, inr}
+use Rattle.std.proofs.Common.{drop_of_length-le}
+use Rattle.plane.specs.Runs.Gaps.{gaps_between}
+use Rattle.line_sweep.specs.Kinds.{gaps_of}
+use Rattle.line_sweep.proofs.Parts.{cells_more, cells_end}
+use Rattle.line_sweep.proofs.cells.open_cells.Goals as goal
+
+pub loop-edge-init : goal.loop-edge-init
+loop-edge-init c = λ u. ap (λ cs. gaps_of cs ++ gaps_between c.args.event c.args.lower c.args.starting.now u) c.clear.ensures.items
+
+pub loop-edge-preserved : goal.loop-edge-preserved
+loop-edge-preserved c = λ u.
+    cells_more c.loop-edge.opened.items c.push.new.self.items _ c.args.event c.loop-edge.below c.args.starting.now c.loop-edge.edge-index u c.loop-edge-test.true c.in_ok-push.ensures.items refl
+    ∙ c.loop-edge.invariant u
+
+pub returns : goal.returns
+returns c =
+    cells_end c.loop-edge.opened.items c.push-2.new.self.items _ c.args.event c.loop-edge.below c.args.lower c.args.upper c.args.starting.now (drop c.loop-edge.edge-index c.args.starting.now)
+    (drop_of_length-le c.args.starting.now c.loop-edge-test.false) (c.loop-edge.invariant c.args.upper) c.in_ok-push-2.ensures.items refl

@@ -1,0 +1,40 @@
+-- Events and cells without where they lie in memory.
+use Rattle.std.specs.Prelude.{◌≡◌, ℕ, ◌<◌, ⊤, List, length, map}
+use Rattle.plane.specs.declared.kinds.Edge.{Edge}
+use Rattle.plane.specs.Forms.Meets.{Bad}
+use Rattle.plane.specs.Runs.Moves.{Move}
+use Rattle.plane.specs.Runs.Gaps.{Gap}
+use Rattle.plane.specs.Runs.Timetables.{Timed}
+use Rattle.straight_predicates.specs.EdgeLists.{edge_of}
+use Rattle.line_sweep.specs.declared.kinds.Event.{Event}
+use Rattle.line_sweep.specs.declared.kinds.Cell.{Cell}
+use Rattle.line_sweep.specs.declared.kinds.SweepRefusal.{SweepRefusal}
+use Rattle.line_sweep.specs.declared.kinds.SweepRefusal.TheVariants as refusal
+
+abbrev pub move_of : Event → Move
+move_of v = record { at = v.at; position = v.position; ending = v.ending; starting = v.starting.items }
+
+-- The event of a timetable, with its place in the live list.
+abbrev pub move_at_block : Timed → ℕ → ℕ → Move
+move_at_block t p n = record { at = t.at; position = p; ending = n; starting = t.starting }
+
+abbrev pub moves_of : List Event → List Move
+moves_of events = map move_of events
+
+abbrev pub gap_of : Cell → Gap
+gap_of c = record { lower = c.lower; upper = c.upper; event = c.event }
+
+abbrev pub gaps_of : List Cell → List Gap
+gaps_of cells = map gap_of cells
+
+-- The two edges are different edges of the list, and bad.
+pub record AreBad (edges : List Edge) (a b : ℕ) : Type 0 where
+  pub first : a < length edges
+  pub second : b < length edges
+  pub differ : a ≡ b → ⊥
+  pub bad : Bad (edge_of edges a) (edge_of edges b)
+
+-- What a refusal shows.
+abbrev pub IsRefused : List Edge → SweepRefusal → Type 0
+IsRefused edges (refusal.Bad a b) = AreBad edges a b
+IsRefused edges refusal.Memory = ⊤

@@ -1,0 +1,4 @@
+pub mod Blocks
+pub mod Kinds
+pub mod Held
+pub mod Sweeping

@@ -1,0 +1,35 @@
+-- How far a sweep has come.
+use Rattle.std.specs.Prelude.{◌≡◌, ℕ, ◌+◌, List, [], length, map, drop}
+use Rattle.plane.specs.declared.kinds.Point.{Point}
+use Rattle.plane.specs.declared.kinds.Edge.{Edge}
+use Rattle.plane.specs.Runs.Gaps.{Gap, open_gaps, closed_gaps}
+use Rattle.plane.specs.Runs.Moves.{Move, Fit, live_from, made}
+use Rattle.plane.specs.Runs.Sweeps.{IsUnderWay}
+use Rattle.plane.specs.Runs.Timetables.{Timed}
+use Rattle.slab.specs.Slab.{Slab}
+use Rattle.straight_predicates.specs.EdgeLists.{edge_of}
+use Rattle.straight_predicates.specs.Rows.{values_of, room_of}
+use Rattle.line_sweep.specs.declared.kinds.Cell.{Cell}
+use Rattle.line_sweep.specs.declared.state.State.{State}
+use Rattle.line_sweep.specs.Held.{IsHeld}
+use Rattle.line_sweep.specs.Kinds.{gaps_of, moves_of}
+
+-- The points of the events.
+abbrev pub points_of : List Timed → List Point
+points_of table = map (λ (t : Timed). t.at) table
+
+-- The first k events are done: the sweep is under way, the live list and the open cells are those that the moves leave, and the
+-- closed cells those that they closed.
+pub record IsSweptTo (edges : List Edge) (table : List Timed) (k : ℕ) (live keys : List ℕ) (slab : Slab Cell) (moves : List Move) (told : List Gap) : Type 0 where
+  pub size : length moves ≡ k
+  pub way : IsUnderWay (length edges) (edge_of edges) (points_of table) (made [] moves) (drop k (points_of table))
+  pub fit : Fit [] moves
+  pub lives : live ≡ live_from [] moves
+  pub held : IsHeld slab keys (open_gaps moves)
+  pub closed : told ≡ closed_gaps moves
+
+-- The same of what the program keeps, which has room for all edges.
+pub record HasSwept (edges : List Edge) (table : List Timed) (k : ℕ) (s : State) : Type 0 where
+  pub swept : IsSweptTo edges table k (values_of s.live) (values_of s.keys) s.open (moves_of s.swept.events.items) (gaps_of s.swept.cells.items)
+  pub room : room_of s.live ≡ length edges
+  pub gap_room : room_of s.keys ≡ length edges + 1

@@ -1,0 +1,50 @@
+// The edges of the live list that end at an event.
+ghost use Rattle.std.specs.Prelude.{◌≡◌, ◌<◌, ◌≤◌, IfOk, IfErr, length, slice_index_or};
+ghost use Rattle.straight_predicates.specs.EdgeLists.{edge_of, AreBelow, IsCloseToAll};
+ghost use Rattle.line_sweep.specs.Blocks.{AreEnding, IsBlock, IsThrough};
+
+use plane::{Edge, Point};
+use straight_predicates::{Turn, cut, turn_over};
+
+/// The places of the live list from `from` on, `count` of them.
+#[derive(Clone, Copy)]
+pub struct Block {
+    pub from: usize,
+    pub count: usize,
+}
+
+/// The block of the edges that end at the event, or a live edge that goes through the event and
+/// does not end there. It takes a search and one turn more.
+pub fn find_block(live: &[u32], edges: &[Edge], at: Point) -> Result<Block, u32>
+    requires known { AreBelow (length edges.now) live.now }
+    requires close { IsCloseToAll edges.now at }
+    ensures block { IfOk result (λ b. IsBlock (edge_of edges.now) live.now at b.from b.count) }
+    ensures through { IfErr result (λ e. IsThrough (edge_of edges.now) live.now at e) }
+{
+    let from = cut(live, edges, at);
+    let upto = block_end(live, edges, at, from);
+    if upto < live.len() && turn_over(edges, live[upto], at) == Turn::Straight {
+        return Err(live[upto]);
+    }
+    Ok(Block {
+        from,
+        count: upto - from,
+    })
+}
+
+/// The place behind the edges from `from` on that end at the event.
+fn block_end(live: &[u32], edges: &[Edge], at: Point, from: usize) -> usize
+    requires known { AreBelow (length edges.now) live.now }
+    requires place { from ≤ length live.now }
+    ensures least { from ≤ result }
+    ensures within { result ≤ length live.now }
+    ensures ends { AreEnding (edge_of edges.now) live.now at from result }
+    ensures next { result < length live.now
+        → (edge_of edges.now (slice_index_or live.now result 0)).high ≡ at → ⊥ }
+{
+    let mut upto = from;
+    while upto < live.len() && edges[live[upto] as usize].high == at {
+        upto += 1;
+    }
+    upto
+}

@@ -1,0 +1,34 @@
+//! The sweep over edges: which of them are neighbours, from event to event, and whether any two
+//! meet badly.
+//!
+//! - **What it answers.** Either the events in order, with the place and number of the edges that
+//!   end at each and the edges that start there, and every pair of neighbours of the live list with
+//!   the event that made them so; or two edges that are `Bad` by `straight_predicates::meet`. Two
+//!   such edges are named exactly where there are any; which, where there are several, is free.
+//! - **How.** The live list holds the edges that cross the sweep line, from below. At each event
+//!   those that end there are one block, found by a search for the event in the list. The edges that
+//!   start there take its place, by slope. Only edges that become neighbours are tested, and the one
+//!   behind the block, whether it goes through the event. That this is enough is a law of `plane`:
+//!   where nothing is found the events are a complete run, in which no two edges are bad.
+//! - **What it asks for.** Fewer than 2^31 edges, the low end of each before its high end, and all
+//!   ends within 2^41 of each other in each coordinate.
+//! - **Degenerate cases.** Upright edges, edges of one line, equal edges, many edges in one point,
+//!   edges that begin where others end or on others, and no edge at all are all taken.
+//! - **Not here:** no faces, no half-edges and no points but the edges' ends.
+//!
+//! Cost: O((m + events) log m) for m edges, and what the live list moves: with L live edges an
+//! event at which more edges end than start, or fewer, moves at most L entries of 12 bytes. On maps
+//! L is some hundreds; in the worst case, where most edges lie over one upright line, it is m, and
+//! the whole takes O(m^2) moves of memory in one piece. No event takes memory but for the list of
+//! its starting edges, and for the cells where they grow.
+#![tactic(auto)]
+
+mod blocks;
+mod cells;
+mod keeping;
+mod kinds;
+mod state;
+mod sweeping;
+
+pub use kinds::{Cell, Event, SweepRefusal, Swept};
+pub use sweeping::sweep;

@@ -1,0 +1,17 @@
+// What a sweep keeps from event to event.
+use super::kinds::{Cell, Swept};
+use slab::Slab;
+use straight_predicates::Row;
+
+/// The live list, the open cells between its edges with their keys from below, and the answer so
+/// far. Of an empty live list one cell without edges is open.
+#[derive(Drop)]
+pub struct State {
+    pub live: Row<u32>,
+    pub keys: Row<usize>,
+    pub open: Slab<Cell>,
+    pub swept: Swept,
+    /// The cells that an event opens, and their keys.
+    pub opened: Vec<Cell>,
+    pub fresh: Vec<usize>,
+}

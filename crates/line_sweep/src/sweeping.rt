@@ -1,0 +1,285 @@
+// The sweep, event by event.
+ghost use Rattle.std.specs.Prelude.{◌≡◌, ℕ, ◌+◌, ◌^◌, ◌<◌, ◌≤◌, All, [], ◌∷◌, ◌++◌, IfOk, IfErr};
+ghost use Rattle.std.specs.Prelude.{OnOk, filter, length, slice_index_or, drop, take, suc};
+ghost use Rattle.plane.specs.Runs.Gaps.{closed_gaps, is_real, no_gap, opened};
+ghost use Rattle.plane.specs.Forms.Meets.{Bad, IsEnd};
+ghost use Rattle.plane.specs.Runs.Moves.{Fit, steps_from, step_of};
+ghost use Rattle.plane.specs.Lists.{Has, Once};
+ghost use Rattle.plane.specs.Runs.Steps.{Run};
+ghost use Rattle.plane.specs.Runs.Timetables.{IsTimetable, no_event};
+ghost use Rattle.straight_predicates.specs.EdgeLists.{edge_of, AreSorted, AreAllClose};
+ghost use Rattle.straight_predicates.specs.Tables.{table_of};
+ghost use Rattle.straight_predicates.specs.Rows.{values_of, room_of};
+ghost use Rattle.slab.specs.Slab.{ContainsKey};
+ghost use Rattle.line_sweep.specs.Blocks.{IsBlock};
+ghost use Rattle.line_sweep.specs.Held.{IsFineCell, IsHeld, gaps_held};
+ghost use Rattle.line_sweep.specs.Kinds.{IsRefused, gaps_of, move_at_block, moves_of};
+ghost use Rattle.line_sweep.specs.Sweeping.{HasSwept};
+
+use super::blocks::{Block, find_block};
+use super::cells::{edge_at, edge_before, open_cells, test_cells};
+use super::keeping::{close_cells, keep_cells};
+use super::kinds::{Cell, Event, SweepRefusal, Swept};
+use super::state::State;
+use plane::{Edge, Point};
+use ports::Memory;
+use slab::Slab;
+use std::alloc::Global;
+use straight_predicates::{Row, Timetable};
+
+/// The events of the edges and their neighbours, or two edges that are bad. The only other refusal
+/// is want of memory. Costs stand at the head of the crate.
+pub fn sweep(alloc: Global, edges: &[Edge]) -> Result<Swept, SweepRefusal>
+    requires few { length edges.now < 2 ^ 31 }
+    requires sorted { AreSorted edges.now }
+    requires close { AreAllClose edges.now }
+    ensures run { IfOk result (λ s. Run (length edges.now) (edge_of edges.now) (steps_from []
+        (moves_of s.events.items))) }
+    ensures fit { IfOk result (λ s. Fit [] (moves_of s.events.items)) }
+    ensures cells { IfOk result (λ s. gaps_of s.cells.items
+        ≡ closed_gaps (moves_of s.events.items)) }
+    ensures clear { IfOk result (λ s. (a b : ℕ) → a < length edges.now → b < length edges.now
+        → (a ≡ b → ⊥) → Bad (edge_of edges.now a) (edge_of edges.now b) → ⊥) }
+    ensures refused { IfErr result (IsRefused edges.now) }
+{
+    let table = Timetable::new(alloc, edges)?;
+    let mut state = begin(alloc, edges.len())?;
+    run(alloc, edges, &table, &mut state)?;
+    Ok(state.swept)
+}
+
+/// Nothing is live, and one cell without edges is open.
+fn begin(alloc: Global, edges: usize) -> Result<State, Memory>
+    requires few { edges < 2 ^ 31 }
+    ensures live { IfOk result (λ s. values_of s.live ≡ []) }
+    ensures held { IfOk result (λ s. IsHeld s.open (values_of s.keys) (no_gap ∷ [])) }
+    ensures events { IfOk result (λ s. s.swept.events.items ≡ []) }
+    ensures cells { IfOk result (λ s. s.swept.cells.items ≡ []) }
+    ensures room { IfOk result (λ s. room_of s.live ≡ edges) }
+    ensures gap_room { IfOk result (λ s. room_of s.keys ≡ edges + 1) }
+{
+    let live = Row::new(alloc, edges)?;
+    let mut keys = Row::new(alloc, edges + 1)?;
+    let mut open = Slab::new(alloc);
+    let first = open.insert(Cell {
+        lower: None,
+        upper: None,
+        event: 0,
+    })?;
+    keys.replace(0, 0, &[first]);
+    Ok(State {
+        live,
+        keys,
+        open,
+        swept: Swept {
+            events: Vec::new(alloc),
+            cells: Vec::new(alloc),
+        },
+        opened: Vec::new(alloc),
+        fresh: Vec::new(alloc),
+    })
+}
+
+fn run(
+    alloc: Global,
+    edges: &[Edge],
+    table: &Timetable,
+    state: &mut State,
+) -> Result<(), SweepRefusal>
+    requires few { length edges.now < 2 ^ 31 }
+    requires sorted { AreSorted edges.now }
+    requires close { AreAllClose edges.now }
+    requires table { IsTimetable (length edges.now) (edge_of edges.now) (table_of table.now) }
+    requires begun { HasSwept edges.now (table_of table.now) 0 state.old }
+    ensures done { OnOk result (HasSwept edges.now (table_of table.now) (length
+        (table_of table.now)) state.new) }
+    ensures refused { IfErr result (IsRefused edges.now) }
+{
+    for event in 0..table.events() {
+        step(alloc, edges, table, event, state)?;
+    }
+    Ok(())
+}
+
+fn step(
+    alloc: Global,
+    edges: &[Edge],
+    table: &Timetable,
+    event: u32,
+    state: &mut State,
+) -> Result<(), SweepRefusal>
+    requires few { length edges.now < 2 ^ 31 }
+    requires sorted { AreSorted edges.now }
+    requires close { AreAllClose edges.now }
+    requires table { IsTimetable (length edges.now) (edge_of edges.now) (table_of table.now) }
+    requires event { event < length (table_of table.now) }
+    requires swept { HasSwept edges.now (table_of table.now) event state.old }
+    ensures done { OnOk result (HasSwept edges.now (table_of table.now) (event + 1) state.new) }
+    ensures refused { IfErr result (IsRefused edges.now) }
+{
+    let block = block_at(edges, table, event, state)?;
+    open_at(edges, table, event, block, state)?;
+    let starting = table.starting(event);
+    move_cells(
+        &mut state.open,
+        &mut state.keys,
+        &mut state.fresh,
+        &mut state.swept.cells,
+        block,
+        &state.opened,
+    )?;
+    state.live.replace(block.from, block.count, starting);
+    add_event(
+        alloc,
+        &mut state.swept.events,
+        table.at(event),
+        block,
+        starting,
+    )?;
+    Ok(())
+}
+
+/// Writes the event at a point.
+fn add_event(
+    alloc: Global,
+    events: &mut Vec<Event>,
+    at: Point,
+    block: Block,
+    starting: &[u32],
+) -> Result<(), Memory>
+    requires { block.from + block.count < 2 ^ 31 }
+    ensures { OnOk result (moves_of events.new.items
+        ≡ moves_of events.old.items
+        ++ record {
+          at = at;
+          position = block.from;
+          ending = block.count;
+          starting =
+              starting.now;
+        } ∷ []) }
+{
+    let starting = starting.to_vec(alloc)?;
+    events.push(Event {
+        at,
+        position: block.from as u32,
+        ending: block.count as u32,
+        starting,
+    })?;
+    Ok(())
+}
+
+/// The block of the event, or the live edge that goes through it with an edge that ends or starts
+/// there.
+fn block_at(
+    edges: &[Edge],
+    table: &Timetable,
+    event: u32,
+    state: &State,
+) -> Result<Block, SweepRefusal>
+    requires sorted { AreSorted edges.now }
+    requires close { AreAllClose edges.now }
+    requires table { IsTimetable (length edges.now) (edge_of edges.now) (table_of table.now) }
+    requires event { event < length (table_of table.now) }
+    requires swept { HasSwept edges.now (table_of table.now) event state.now }
+    ensures block { IfOk result (λ b. IsBlock (edge_of edges.now) (values_of state.now.live)
+        (slice_index_or (table_of table.now) event no_event).at b.from b.count) }
+    ensures refused { IfErr result (IsRefused edges.now) }
+{
+    let at = table.at(event);
+    match find_block(state.live.values(), edges, at) {
+        Ok(block) => Ok(block),
+        Err(edge) => Err(SweepRefusal::Bad {
+            first: edge,
+            second: edge_of_event(edges, table, event),
+        }),
+    }
+}
+
+/// An edge that ends or starts at the event.
+fn edge_of_event(edges: &[Edge], table: &Timetable, event: u32) -> u32
+    requires table { IsTimetable (length edges.now) (edge_of edges.now) (table_of table.now) }
+    requires event { event < length (table_of table.now) }
+    ensures known { result < length edges.now }
+    ensures end { IsEnd (edge_of edges.now result) (slice_index_or
+        (table_of table.now) event no_event).at }
+{
+    let starting = table.starting(event);
+    if starting.is_empty() {
+        table.ending(event)[0]
+    } else {
+        starting[0]
+    }
+}
+
+/// Writes the cells that the event opens, and tests them.
+fn open_at(
+    edges: &[Edge],
+    table: &Timetable,
+    event: u32,
+    block: Block,
+    state: &mut State,
+) -> Result<(), SweepRefusal>
+    requires sorted { AreSorted edges.now }
+    requires close { AreAllClose edges.now }
+    requires table { IsTimetable (length edges.now) (edge_of edges.now) (table_of table.now) }
+    requires event { event < length (table_of table.now) }
+    requires swept { HasSwept edges.now (table_of table.now) event state.old }
+    requires block { IsBlock (edge_of edges.now) (values_of state.old.live) (slice_index_or
+        (table_of table.now) event no_event).at block.from block.count }
+    ensures swept { OnOk result (HasSwept edges.now (table_of table.now) event state.new) }
+    ensures block { OnOk result (IsBlock (edge_of edges.now) (values_of state.new.live)
+        (slice_index_or (table_of table.now) event no_event).at block.from block.count) }
+    ensures opened { OnOk result (gaps_of state.new.opened.items
+        ≡ opened event (step_of (values_of state.new.live) (move_at_block (slice_index_or
+        (table_of table.now) event no_event) block.from block.count))) }
+    ensures fine { OnOk result (All (IsFineCell edges.now) state.new.opened.items) }
+    ensures refused { IfErr result (IsRefused edges.now) }
+{
+    let live = state.live.values();
+    let lower = edge_before(live, block.from);
+    let upper = edge_at(live, block.from + block.count);
+    open_cells(
+        &mut state.opened,
+        lower,
+        table.starting(event),
+        upper,
+        event,
+    )?;
+    match test_cells(edges, &state.opened) {
+        Ok(()) => Ok(()),
+        Err(pair) => Err(SweepRefusal::Bad {
+            first: pair.0,
+            second: pair.1,
+        }),
+    }
+}
+
+/// Closes the cells at the block, and puts the opened ones in their place.
+fn move_cells(
+    open: &mut Slab<Cell>,
+    keys: &mut Row<usize>,
+    fresh: &mut Vec<usize>,
+    closed: &mut Vec<Cell>,
+    block: Block,
+    opened: &[Cell],
+) -> Result<(), Memory>
+    requires once { Once (values_of keys.old) }
+    requires all { (k : ℕ) → Has k (values_of keys.old) → ContainsKey open.old k }
+    requires place { block.from + block.count + 1 ≤ length (values_of keys.old) }
+    requires room { length (values_of keys.old) + length opened.now ≤ room_of keys.old +
+        (block.count + 1) }
+    ensures held { OnOk result (IsHeld open.new (values_of keys.new) (take block.from
+        (gaps_held open.old (values_of keys.old)) ++ (gaps_of opened.now
+        ++ drop (suc (block.from + block.count)) (gaps_held open.old (values_of keys.old))))) }
+    ensures closed { OnOk result (gaps_of closed.new.items
+        ≡ gaps_of closed.old.items
+        ++ filter is_real (take (suc block.count) (drop block.from (gaps_held open.old
+        (values_of keys.old))))) }
+    ensures room { OnOk result (room_of keys.new ≡ room_of keys.old) }
+{
+    let count = block.count + 1;
+    close_cells(open, &keys.values()[block.from..block.from + count], closed)?;
+    keep_cells(open, opened, fresh)?;
+    keys.replace(block.from, count, fresh);
+    Ok(())
+}

@@ -1,0 +1,27 @@
+use Rattle.std.proofs.Common.{rules, arith, ◌≡◌, [], ◌++◌, ◌∙◌, ap, length}
+use Rattle.straight_predicates.specs.Slopes.{ray_edges}
+use Rattle.straight_predicates.specs.Tables.{low_end}
+use Rattle.straight_predicates.proofs.Groups.{event_made, same_first, sizes_after, sizes_at_end}
+use Rattle.straight_predicates.proofs.events.add_event.Goals as goal
+
+pub overflow_cast-middle : goal.overflow_cast-middle
+overflow_cast-middle c =
+    let l = c.requires.few in
+    let h = sizes_after c.args.edges.now c.args.group.now c.args.numbers.now.items c.split_group.new.numbers.items c.split_group.new.rays.items c.in_ok-split_group.ensures in
+    let n : c.len-middle.result ≡ length c.split_group.new.numbers.items = search rules in
+    omega (arith, n, l, h)
+
+pub overflow_cast-upto : goal.overflow_cast-upto
+overflow_cast-upto c =
+    let l = c.requires.few in
+    let h = sizes_at_end c.args.edges.now c.args.group.now c.args.numbers.now.items c.split_group.new.numbers.items c.add_numbers.new.numbers.items c.split_group.new.rays.items c.sort_rays.new.rays.items
+    c.in_ok-split_group.ensures c.sort_rays.ensures.permutation (c.in_ok-add_numbers.ensures ∙ ap (λ rs. c.split_group.new.numbers.items ++ ray_edges rs) c.deref.ensures.value) in
+    let n : c.len-upto.result ≡ length c.add_numbers.new.numbers.items = search rules in
+    omega (arith, n, l, h)
+
+pub returns : goal.returns
+returns c =
+    event_made c.args.edges.now c.args.group.now (low_end [] 0) c.args.numbers.now.items c.split_group.new.numbers.items c.add_numbers.new.numbers.items c.args.slots.now.items c.push.new.self.items
+    c.split_group.new.rays.items c.sort_rays.new.rays.items _ _ _ _ c.requires.group c.in_ok-split_group.ensures
+    c.sort_rays.ensures.permutation c.sort_rays.ensures.sorted
+    (c.in_ok-add_numbers.ensures ∙ ap (λ rs. c.split_group.new.numbers.items ++ ray_edges rs) c.deref.ensures.value) (same_first c.args.group.now _ _ c.requires.group.some) (search rules) (search rules) (search rules) c.in_ok-push.ensures.items
