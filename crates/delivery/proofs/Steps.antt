@@ -16,7 +16,7 @@ use Rattle.delivery.specs.Gathering.{Gathered, Reads, ReadsAll, Compiles, Gather
 use Rattle.delivery.specs.Judging.{lines_of, IsChecked, at_fault, Amounts}
 use Rattle.delivery.specs.Outcomes.{Outcome, compiled}
 use Rattle.delivery.specs.Reading.{IsLonger}
-use Rattle.delivery.specs.ReadRefusals.{IsReadRefusal}
+use Rattle.delivery.specs.FileRefusals.{IsNotRead}
 use Rattle.delivery.specs.RowsRead.{IsStructure}
 use Rattle.delivery.specs.declared.files.File.{File}
 use Rattle.delivery.specs.declared.files.FileRefusal.{FileRefusal}
@@ -73,7 +73,7 @@ module _ (told : Option Files) (near far : List ℕ → Type 0) (counted : (name
   decides_on words o (formed c g i h a) = formed c g i (gathers_on c g h) a
 
 -- a file that was not read ends the call
-pub not_read_ends : (T : Type 0) (told : Option Files) (counted : List ℕ → Type 0) (f : File) (name : List ℕ) (r : FileRefusal) (o : Outcome) (P : Gathered → List ℕ → Type 0) → (IsErrOf {T = T} (Err r) Failed → counted name) → (IsErrOf {T = T} (Err r) TooLong → IsLonger told name (limit_of f)) → IsReadRefusal f r o
+pub not_read_ends : (T : Type 0) (told : Option Files) (counted : List ℕ → Type 0) (f : File) (name : List ℕ) (r : FileRefusal) (o : Outcome) (P : Gathered → List ℕ → Type 0) → (IsErrOf {T = T} (Err r) Failed → counted name) → (IsErrOf {T = T} (Err r) TooLong → IsLonger told name (limit_of f)) → IsNotRead f r o
     → (g : Gathered) × Reads told counted (record { file = f; name = name }) g (P g) × ((c : Command) → Amounts c g o)
 not_read_ends T told counted f name Failed o P a b e = (gathering.unread f, inl (a refl, refl), λ c. e)
 not_read_ends T told counted f name TooLong o P a b e = (gathering.too_long f, inr (inl (b refl, refl)), λ c. e)

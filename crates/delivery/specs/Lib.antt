@@ -5,6 +5,7 @@ pub mod CommandViews
 pub mod Deciding
 pub mod Effects
 pub mod Ending
+pub mod FileRefusals
 pub mod Gathering
 pub mod Judging
 pub mod Lines
@@ -13,7 +14,6 @@ pub mod ModelTexts
 pub mod Outcomes
 pub mod OutcomeViews
 pub mod Reading
-pub mod ReadRefusals
 pub mod RefusalViews
 pub mod RowsRead
 pub mod Statuses

@@ -27,7 +27,9 @@ fn decide_check<'a, S: Shelf>(
     shelf: &mut S,
 ) -> Result<Outcome<'a>, Memory>
     requires valid { IsValid (layout_view layout.now) }
-    ensures outcome { IfOk result (λ o. Ends (S.held shelf.old) (ReadRose (S.read_faults shelf.old) (S.read_faults shelf.new)) (check_command (check_of check.now)) (layout_view layout.now) (outcome_of o)) }
+    ensures outcome { IfOk result (λ o. Ends (S.held shelf.old)
+        (ReadRose (S.read_faults shelf.old) (S.read_faults shelf.new))
+        (check_command (check_of check.now)) (layout_view layout.now) (outcome_of o)) }
     ensures held { S.held shelf.new ≡ S.held shelf.old }
     ensures reads { NoReadFell (S.read_faults shelf.old) (S.read_faults shelf.new) }
     ensures writes { S.write_faults shelf.old ≤ S.write_faults shelf.new }
@@ -46,7 +48,9 @@ fn decide_compiled<'a, S: Shelf>(
     shelf: &mut S,
 ) -> Result<Outcome<'a>, Memory>
     requires valid { IsValid (layout_view layout.now) }
-    ensures outcome { IfOk result (λ o. Ends (S.held shelf.old) (ReadRose (S.read_faults shelf.old) (S.read_faults shelf.new)) (command_seen command.now) (layout_view layout.now) (outcome_of o)) }
+    ensures outcome { IfOk result (λ o. Ends (S.held shelf.old)
+        (ReadRose (S.read_faults shelf.old) (S.read_faults shelf.new)) (command_seen command.now)
+        (layout_view layout.now) (outcome_of o)) }
     ensures held { S.held shelf.new ≡ S.held shelf.old }
     ensures reads { NoReadFell (S.read_faults shelf.old) (S.read_faults shelf.new) }
     ensures writes { S.write_faults shelf.old ≤ S.write_faults shelf.new }
@@ -73,7 +77,9 @@ fn decide_command<'a, S: Shelf>(
     command: &Command<'a>,
     shelf: &mut S,
 ) -> Result<Outcome<'a>, Memory>
-    ensures outcome { IfOk result (λ o. EndsCommand (S.held shelf.old) (ReadRose (S.read_faults shelf.old) (S.read_faults shelf.new)) (command_seen command.now) (outcome_of o)) }
+    ensures outcome { IfOk result (λ o. EndsCommand (S.held shelf.old)
+        (ReadRose (S.read_faults shelf.old) (S.read_faults shelf.new)) (command_seen command.now)
+        (outcome_of o)) }
     ensures held { S.held shelf.new ≡ S.held shelf.old }
     ensures reads { NoReadFell (S.read_faults shelf.old) (S.read_faults shelf.new) }
     ensures writes { S.write_faults shelf.old ≤ S.write_faults shelf.new }
@@ -94,7 +100,8 @@ pub fn decide<'a, S: Shelf>(
     words: &'a [Word],
     shelf: &mut S,
 ) -> Result<Outcome<'a>, Memory>
-    ensures outcome { IfOk result (λ o. Decides (S.held shelf.old) (ReadRose (S.read_faults shelf.old) (S.read_faults shelf.new)) words.now (outcome_of o)) }
+    ensures outcome { IfOk result (λ o. Decides (S.held shelf.old)
+        (ReadRose (S.read_faults shelf.old) (S.read_faults shelf.new)) words.now (outcome_of o)) }
     ensures held { S.held shelf.new ≡ S.held shelf.old }
     ensures reads { NoReadFell (S.read_faults shelf.old) (S.read_faults shelf.new) }
     ensures writes { S.write_faults shelf.old ≤ S.write_faults shelf.new }

@@ -54,12 +54,15 @@ fn read_piece<S: Shelf>(
     requires room { 0 < length piece.old }
     requires front { IsFront (S.held shelf.old) name.now bytes.old.items }
     ensures front { OnOk result (IsFront (S.held shelf.old) name.now bytes.new.items) }
-    ensures longer { IfOk result (λ more. IsTrue more → length bytes.old.items < length bytes.new.items) }
-    ensures ended { IfOk result (λ more. IsFalse more → IsEnd (S.held shelf.old) name.now bytes.new.items × (bytes.new.items ≡ bytes.old.items)) }
+    ensures longer { IfOk result (λ more. IsTrue more
+        → length bytes.old.items < length bytes.new.items) }
+    ensures ended { IfOk result (λ more. IsFalse more
+        → IsEnd (S.held shelf.old) name.now bytes.new.items × (bytes.new.items ≡ bytes.old.items)) }
     ensures held { S.held shelf.new ≡ S.held shelf.old }
     ensures writes { S.write_faults shelf.old ≤ S.write_faults shelf.new }
     ensures reads { NoReadFell (S.read_faults shelf.old) (S.read_faults shelf.new) }
-    ensures cause { IsErrOf result FileRefusal.Failed → Rose (S.read_faults shelf.old name.now) (S.read_faults shelf.new name.now) }
+    ensures cause { IsErrOf result FileRefusal.Failed
+        → Rose (S.read_faults shelf.old name.now) (S.read_faults shelf.new name.now) }
     ensures refusal { IsErrOf result FileRefusal.TooLong → ⊥ }
 {
     let from = bytes.len() as u64;
@@ -86,7 +89,8 @@ fn read_within<S: Shelf>(
     ensures held { S.held shelf.new ≡ S.held shelf.old }
     ensures writes { S.write_faults shelf.old ≤ S.write_faults shelf.new }
     ensures reads { NoReadFell (S.read_faults shelf.old) (S.read_faults shelf.new) }
-    ensures cause { IsErrOf result FileRefusal.Failed → Rose (S.read_faults shelf.old name.now) (S.read_faults shelf.new name.now) }
+    ensures cause { IsErrOf result FileRefusal.Failed
+        → Rose (S.read_faults shelf.old name.now) (S.read_faults shelf.new name.now) }
 {
     let mut piece = match buffer(alloc, 65536) {
         Ok(piece) => piece,
@@ -114,12 +118,15 @@ pub fn read_file<S: Shelf>(
     file: File,
     name: &str,
 ) -> Result<Vec<u8>, FileRefusal>
-    ensures whole { IfOk result (λ bytes. IsWhole (S.held shelf.old) name.now (limit_of file) bytes.items) }
-    ensures long { IsErrOf result FileRefusal.TooLong → IsLonger (S.held shelf.old) name.now (limit_of file) }
+    ensures whole { IfOk result (λ bytes. IsWhole (S.held shelf.old) name.now (limit_of file)
+        bytes.items) }
+    ensures long { IsErrOf result FileRefusal.TooLong
+        → IsLonger (S.held shelf.old) name.now (limit_of file) }
     ensures held { S.held shelf.new ≡ S.held shelf.old }
     ensures writes { S.write_faults shelf.old ≤ S.write_faults shelf.new }
     ensures reads { NoReadFell (S.read_faults shelf.old) (S.read_faults shelf.new) }
-    ensures cause { IsErrOf result FileRefusal.Failed → Rose (S.read_faults shelf.old name.now) (S.read_faults shelf.new name.now) }
+    ensures cause { IsErrOf result FileRefusal.Failed
+        → Rose (S.read_faults shelf.old name.now) (S.read_faults shelf.new name.now) }
 {
     read_within(alloc, shelf, name, file.limit())
 }

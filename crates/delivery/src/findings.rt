@@ -32,7 +32,8 @@ pub fn all_findings(
     transfer: &Transfer,
 ) -> Result<Vec<Finding>, Memory>
     requires { IsValid (layout_view layout.now) }
-    ensures { IfOk result (λ found. findings_of found.items ≡ findings (layout_view layout.now) (transfer_of transfer.now)) }
+    ensures { IfOk result (λ found. findings_of found.items ≡ findings (layout_view layout.now)
+        (transfer_of transfer.now)) }
 {
     let mut found = check_values(alloc, layout, transfer)?;
     let mut keys = check_keys(alloc, layout, transfer)?;

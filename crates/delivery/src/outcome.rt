@@ -7,7 +7,7 @@ ghost use Rattle.table_layout.specs.Values.{area_view, areas_view, layout_view, 
 ghost use Rattle.delivery.specs.Outcomes.{reported, usage, unread, too_long, refused, compiled, misbuilt, rejected, areas_later, accepted, later_line, table_line, topic_at, name_at};
 ghost use Rattle.delivery.specs.LineViews.{line_of, lines_of};
 ghost use Rattle.delivery.specs.OutcomeViews.{outcome_of, table_there};
-ghost use Rattle.delivery.specs.ReadRefusals.{IsReadRefusal};
+ghost use Rattle.delivery.specs.FileRefusals.{IsNotRead};
 ghost use Rattle.delivery.specs.RefusalViews.{refusal_of};
 
 use crate::files::{File, FileRefusal};
@@ -59,7 +59,7 @@ pub fn usage<'a>(alloc: Global) -> Result<Outcome<'a>, Memory>
 
 /// A file was not read.
 pub fn not_read<'a>(alloc: Global, file: File, refusal: FileRefusal) -> Result<Outcome<'a>, Memory>
-    ensures { IfOk result (λ o. IsReadRefusal file refusal (outcome_of o)) }
+    ensures { IfOk result (λ o. IsNotRead file refusal (outcome_of o)) }
 {
     match refusal {
         FileRefusal::Failed => {
@@ -112,7 +112,8 @@ fn add_tables(
     topics: &[Name],
     tables: &[Table],
 ) -> Result<(), Memory>
-    ensures { OnOk result (lines_of lines.new.items ≡ lines_of lines.old.items ++ map (table_line topics.now) (tables_view tables.now)) }
+    ensures { OnOk result (lines_of lines.new.items ≡ lines_of lines.old.items ++ map
+        (table_line topics.now) (tables_view tables.now)) }
 {
     for table in tables {
         lines.push(table_line(alloc, topics, table)?)?;
@@ -175,7 +176,8 @@ fn title<'a>(layout: &'a Layout, table: Option<&'a Table>) -> (&'a [u8], &'a [u8
 
 // The line for an area that is not checked yet.
 fn later_line(alloc: Global, layout: &Layout, area: &AreaOf) -> Result<Line, Memory>
-    ensures { IfOk result (λ line. line_of line ≡ later_line (layout_view layout.now) (area_view area.now)) }
+    ensures { IfOk result (λ line. line_of line ≡ later_line (layout_view layout.now)
+        (area_view area.now)) }
 {
     let (topic, table) = title(layout, table_at(&layout.tables, area.main));
     Ok(Line::Area(AreaLine {
@@ -188,7 +190,8 @@ fn later_line(alloc: Global, layout: &Layout, area: &AreaOf) -> Result<Line, Mem
 
 // The lines for areas that are not checked yet.
 fn later_lines(alloc: Global, layout: &Layout) -> Result<Vec<Line>, Memory>
-    ensures { IfOk result (λ lines. lines_of lines.items ≡ map (later_line (layout_view layout.now)) (areas_view layout.now.areas.items)) }
+    ensures { IfOk result (λ lines. lines_of lines.items ≡ map (later_line (layout_view layout.now))
+        (areas_view layout.now.areas.items)) }
 {
     let mut lines = Vec::new(alloc);
     for area in &layout.areas {
@@ -208,7 +211,8 @@ pub fn areas_later<'a>(alloc: Global, layout: &Layout) -> Result<Outcome<'a>, Me
 
 /// So many objects without a finding, and the certificates for that file.
 pub fn accepted(alloc: Global, objects: u128, filing: Filing<'_>) -> Result<Outcome<'_>, Memory>
-    ensures { IfOk result (λ o. outcome_of o ≡ accepted objects filing.entry.name.now (views filing.entry.certificates.items)) }
+    ensures { IfOk result (λ o. outcome_of o ≡ accepted objects filing.entry.name.now
+        (views filing.entry.certificates.items)) }
 {
     let lines = vec![in alloc; Line::Verdict(Verdict::Accepted(objects))]?;
     Ok(Outcome {

@@ -13,7 +13,8 @@ use ports::{Failed, Shelf, Sink};
 
 // Writes certificates to their file.
 fn write_certificates<S: Shelf>(filing: &Filing<'_>, shelf: &mut S) -> Result<(), Failed>
-    ensures filed { OnOk result (Filed (Some (filing_of filing.now)) (S.held shelf.old) (S.held shelf.new)) }
+    ensures filed { OnOk result (Filed (Some (filing_of filing.now)) (S.held shelf.old)
+        (S.held shelf.new)) }
     ensures begun { Begun (Some (filing_of filing.now)) (S.held shelf.old) (S.held shelf.new) }
     ensures reads { NoReadFell (S.read_faults shelf.old) (S.read_faults shelf.new) }
     ensures writes { S.write_faults shelf.old ≤ S.write_faults shelf.new }
@@ -25,7 +26,8 @@ fn write_certificates<S: Shelf>(filing: &Filing<'_>, shelf: &mut S) -> Result<()
 
 // Writes the certificates of an outcome, where it has any.
 fn write_files<S: Shelf>(outcome: &Outcome<'_>, shelf: &mut S) -> Result<(), Failed>
-    ensures filed { OnOk result (Filed (outcome_of outcome.now).filing (S.held shelf.old) (S.held shelf.new)) }
+    ensures filed { OnOk result (Filed (outcome_of outcome.now).filing (S.held shelf.old)
+        (S.held shelf.new)) }
     ensures begun { Begun (outcome_of outcome.now).filing (S.held shelf.old) (S.held shelf.new) }
     ensures reads { NoReadFell (S.read_faults shelf.old) (S.read_faults shelf.new) }
     ensures writes { S.write_faults shelf.old ≤ S.write_faults shelf.new }
@@ -45,15 +47,22 @@ pub fn publish<S: Shelf, K: Sink>(
     out: &mut K,
 ) -> Status
     ensures status { result ≢ Status.WriteFault → result ≡ outcome.now.status }
-    ensures text { result ≢ Status.WriteFault → Adds (K.written out.old) text.now (K.written out.new) }
+    ensures text { result ≢ Status.WriteFault
+        → Adds (K.written out.old) text.now (K.written out.new) }
     ensures prefix { AddsPrefix (K.written out.old) text.now (K.written out.new) }
     ensures begun { Begun (outcome_of outcome.now).filing (S.held shelf.old) (S.held shelf.new) }
-    ensures filed { result ≢ Status.WriteFault → Filed (outcome_of outcome.now).filing (S.held shelf.old) (S.held shelf.new) }
-    ensures whole { (Rose (S.write_faults shelf.old) (S.write_faults shelf.new) → ⊥) ⊎ (K.written out.new ≢ K.written out.old) → Filed (outcome_of outcome.now).filing (S.held shelf.old) (S.held shelf.new) }
+    ensures filed { result ≢ Status.WriteFault
+        → Filed (outcome_of outcome.now).filing (S.held shelf.old) (S.held shelf.new) }
+    ensures whole { (Rose (S.write_faults shelf.old) (S.write_faults shelf.new) → ⊥)
+        ⊎ (K.written out.new ≢ K.written out.old)
+        → Filed (outcome_of outcome.now).filing (S.held shelf.old) (S.held shelf.new) }
     ensures reads { NoReadFell (S.read_faults shelf.old) (S.read_faults shelf.new) }
     ensures writes { S.write_faults shelf.old ≤ S.write_faults shelf.new }
     ensures faults { K.faults out.old ≤ K.faults out.new }
-    ensures cause { result ≡ Status.WriteFault → outcome.now.status ≢ Status.WriteFault → Rose (S.write_faults shelf.old) (S.write_faults shelf.new) ⊎ Rose (K.faults out.old) (K.faults out.new) }
+    ensures cause { result ≡ Status.WriteFault
+        → outcome.now.status ≢ Status.WriteFault
+        → Rose (S.write_faults shelf.old) (S.write_faults shelf.new)
+        ⊎ Rose (K.faults out.old) (K.faults out.new) }
 {
     if write_files(outcome, shelf).is_err() {
         return Status::WriteFault;

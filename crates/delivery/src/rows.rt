@@ -23,7 +23,8 @@ fn check_rows<'a>(
     transfer: &Transfer,
 ) -> Result<Outcome<'a>, Memory>
     requires { IsValid (layout_view layout.now) }
-    ensures { IfOk result (λ o. IsRowsChecked name.now (layout_view layout.now) (transfer_of transfer.now) (outcome_of o)) }
+    ensures { IfOk result (λ o. IsRowsChecked name.now (layout_view layout.now)
+        (transfer_of transfer.now) (outcome_of o)) }
 {
     let found = all_findings(alloc, layout, transfer)?;
     if !found.is_empty() {

@@ -116,14 +116,16 @@ impl Text {
     }
 
     fn add_finding(&mut self, finding: &Finding) -> Result<(), Memory>
-        ensures { OnOk result (self.new ≡ self.old ++ line_text (finding_line (finding_of finding.now))) }
+        ensures { OnOk result (self.new ≡ self.old ++ line_text
+            (finding_line (finding_of finding.now))) }
     {
         self.add_finding_words(finding)?;
         self.add(b"\n")
     }
 
     fn add_findings(&mut self, findings: &[Finding]) -> Result<(), Memory>
-        ensures { OnOk result (self.new ≡ self.old ++ flat_map line_text (findings_seen findings.now)) }
+        ensures { OnOk result (self.new ≡ self.old ++ flat_map line_text
+            (findings_seen findings.now)) }
     {
         for finding in findings {
             self.add_finding(finding)?;

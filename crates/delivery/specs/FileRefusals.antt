@@ -5,7 +5,7 @@ use Rattle.delivery.specs.declared.files.FileRefusal.{FileRefusal}
 use Rattle.delivery.specs.declared.files.FileRefusal.TheVariants.{Failed, TooLong, Memory}
 use Rattle.delivery.specs.Outcomes.{Outcome, unread, too_long}
 
-abbrev pub IsReadRefusal : File → FileRefusal → Outcome → Type 0
-IsReadRefusal file Failed outcome = outcome ≡ unread file
-IsReadRefusal file TooLong outcome = outcome ≡ too_long file
-IsReadRefusal file Memory outcome = ⊥
+abbrev pub IsNotRead : File → FileRefusal → Outcome → Type 0
+IsNotRead file Failed outcome = outcome ≡ unread file
+IsNotRead file TooLong outcome = outcome ≡ too_long file
+IsNotRead file Memory outcome = ⊥
