@@ -1,16 +1,15 @@
 -- Cells under keys: what taking some out and putting others in leaves.
-use Rattle.std.proofs.Common.{◌≡◌, ℕ, zero, suc, ◌+◌, ◌-◌, ◌<◌, ◌≤◌, ◌≢◌, inl, inr, Bool, true, false, cond, Option, Some, None, IsSome, List, [], ◌∷◌, ◌++◌, length, map, take, drop, filter, get_or, refl, arith, ap, sym, ◌∙◌, subst, append_assoc, append-nil}
+use Rattle.std.proofs.Common.{◌≡◌, ℕ, zero, suc, ◌+◌, ◌-◌, ◌<◌, ◌≤◌, inl, inr, Option, Some, None, IsSome, List, [], ◌∷◌, ◌++◌, length, take, drop, filter, get_or, refl, arith, ap, sym, ◌∙◌, subst, append_assoc, append-nil}
 use Rattle.std.proofs.lemmas.List.{map-append, take-append-drop, take_more}
 use Rattle.std.specs.List.{take-map, drop-map}
-use Rattle.std.proofs.lemmas.Bool.Decides.{nat_tests}
 use Rattle.std.proofs.lemmas.Grind.{common_steps}
-use Rattle.plane.specs.Runs.Gaps.{Gap, no_gap, is_real}
+use Rattle.plane.specs.Runs.Gaps.{Gap, is_real}
 use Rattle.plane.specs.Lists.{Has, Once}
 use Rattle.slab.specs.Slab.{Slab, get, ContainsKey, Updates}
 use Rattle.line_sweep.specs.declared.kinds.Cell.{Cell}
 use Rattle.line_sweep.specs.Held.{AreClosed, ArePut, IsHeld, gap_in, gaps_held}
 use Rattle.line_sweep.specs.Kinds.{gap_of, gaps_of}
-use Rattle.line_sweep.proofs.PlaneLaws.{has_front, has_back, has_append, has_at, once_front, once_back, once_apart, once_append}
+use Rattle.line_sweep.proofs.PlaneLaws.{has_front, has_back, has_append, once_front, once_back, once_apart, once_append}
 use Rattle.line_sweep.proofs.Parts.{drop_twice}
 
 none_some : {X : Type 0} (o : Option X) → o ≡ None → IsSome o → ⊥

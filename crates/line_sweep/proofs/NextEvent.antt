@@ -1,18 +1,17 @@
 -- One event of a sweep: the step that its block makes, what the fault of a block shows, and what is so after the event.
-use Rattle.std.proofs.Common.{◌≡◌, ℕ, zero, suc, ◌+◌, ◌-◌, ◌<◌, ◌≤◌, ℤ, pos, ◌*ℤ◌, ◌-ℤ◌, ◌<ℤ◌, ◌≤ℤ◌, ◌⊎◌, inl, inr, Option, Some, None, List, [], ◌∷◌, ◌++◌, length, map, take, drop, filter, get_or, refl, arith, ap, sym, ◌∙◌, subst}
+use Rattle.std.proofs.Common.{◌≡◌, ℕ, zero, suc, ◌+◌, ◌<◌, ◌≤◌, ℤ, pos, ◌<ℤ◌, ◌≤ℤ◌, inl, inr, Option, Some, None, List, [], ◌∷◌, ◌++◌, length, take, drop, filter, get_or, refl, arith, ap, sym, ◌∙◌, subst}
 use Rattle.std.proofs.lemmas.Int.{ints, by_lt_z}
 use Rattle.std.proofs.lemmas.List.{get_or-take, length-append, length-drop, length-map, length-take-le}
 use Rattle.plane.specs.declared.kinds.Point.{Point}
 use Rattle.plane.specs.declared.kinds.Edge.{Edge}
-use Rattle.plane.specs.Lists.{Has, Once}
-use Rattle.plane.specs.Runs.Gaps.{Gap, closed_at, closed_gaps, edge_at, edge_before, first_or, gaps_between, is_real, last_or, next_gaps, open_gaps, opened}
-use Rattle.plane.specs.Forms.Meets.{IsEnd, OnStraight, Fine, Bad}
+use Rattle.plane.specs.Lists.{Has}
+use Rattle.plane.specs.Runs.Gaps.{Gap, closed_gaps, edge_at, edge_before, first_or, gaps_between, is_real, last_or, next_gaps, open_gaps, opened}
+use Rattle.plane.specs.Forms.Meets.{IsEnd, Fine}
 use Rattle.plane.specs.Runs.Moves.{Move, live_from, made, step_of}
 use Rattle.plane.specs.Runs.Positions.{turn_at}
 use Rattle.plane.specs.Runs.Steps.{Step, after, live as lives}
-use Rattle.plane.specs.Runs.Sweeps.{Clear, FinePair, IsUnderWay, Made, OnLive}
+use Rattle.plane.specs.Runs.Sweeps.{Clear, IsUnderWay, Made, OnLive}
 use Rattle.plane.specs.Runs.Timetables.{Timed, IsTimed, IsTimetable, no_event}
-use Rattle.plane.specs.Rule.Turns.{cross}
 use Rattle.plane.proofs.Algebra.Ring.{at, num, minus, times, vars, ring}
 use Rattle.slab.specs.Slab.{Slab}
 use Rattle.straight_predicates.specs.EdgeLists.{edge_of, AreSorted}
@@ -23,28 +22,7 @@ use Rattle.line_sweep.specs.Kinds.{AreBad, move_at_block}
 use Rattle.line_sweep.specs.Sweeping.{IsSweptTo, points_of}
 use Rattle.line_sweep.proofs.EventEdges.{event_timed}
 use Rattle.line_sweep.proofs.Parts.{drop_twice, first_after, last_before}
-use Rattle.line_sweep.proofs.PlaneLaws.{
-  each_has,
-  has_at,
-  live_made,
-  made_more,
-  live_more,
-  fit_more,
-  open_more,
-  all_closed_more,
-  open_size,
-  opened_go_on,
-  opened_differ,
-  block_ends,
-  on_live_is_bad,
-  on_live_line,
-  false_after_event,
-  known_live,
-  room_live,
-  made_by_turns,
-  starting_once,
-  slopes_rise,
-}
+use Rattle.line_sweep.proofs.PlaneLaws.{has_at, live_made, made_more, live_more, fit_more, open_more, all_closed_more, open_size, opened_go_on, opened_differ, block_ends, on_live_is_bad, on_live_line, false_after_event, known_live, room_live, made_by_turns, starting_once, slopes_rise}
 
 drop_points : (table : List Timed) (k : ℕ) → k < length table → drop k (points_of table) ≡ (get_or table k no_event).at ∷ drop (suc k) (points_of table)
 drop_points [] k l = absurd (omega (arith, l))

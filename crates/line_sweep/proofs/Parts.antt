@@ -1,12 +1,10 @@
 -- Parts of lists, the edges beside a place, and cells opened one after another.
-use Rattle.std.proofs.Common.{◌≡◌, ℕ, zero, suc, ◌+◌, ◌-◌, ◌<◌, ◌≤◌, inl, inr, Option, Some, None, List, [], ◌∷◌, ◌++◌, length, map, take, drop, get_or, refl, arith, ap, sym, ◌∙◌, subst, append_assoc, append-nil, add-one, drop-cons}
-use Rattle.std.proofs.lemmas.List.{map-append, take-append-drop}
+use Rattle.std.proofs.Common.{◌≡◌, ℕ, zero, suc, ◌+◌, ◌-◌, ◌<◌, ◌≤◌, Option, Some, None, List, [], ◌∷◌, ◌++◌, length, take, drop, get_or, refl, arith, ap, sym, ◌∙◌, append_assoc, add-one, drop-cons}
+use Rattle.std.proofs.lemmas.List.{map-append}
 use Rattle.std.proofs.Math.Seq.{drop-nil}
 use Rattle.plane.specs.Runs.Gaps.{Gap, edge_at, edge_before, first_or, last_or, gaps_between}
-use Rattle.plane.specs.Lists.{Has}
 use Rattle.line_sweep.specs.declared.kinds.Cell.{Cell}
 use Rattle.line_sweep.specs.Kinds.{gap_of, gaps_of}
-use Rattle.line_sweep.proofs.PlaneLaws.{has_front, has_back}
 
 pub at_place : (es : List ℕ) (i : ℕ) → i < length es → edge_at es i ≡ Some (get_or es i 0)
 at_place [] i l = absurd (omega (arith, l))

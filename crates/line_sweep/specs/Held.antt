@@ -1,5 +1,5 @@
 -- Cells under keys.
-use Rattle.std.specs.Prelude.{◌≡◌, ℕ, ◌<◌, Option, Some, None, IsSome, List, ◌++◌, filter, length, map}
+use Rattle.std.specs.Prelude.{◌≡◌, ℕ, ◌<◌, Option, Some, None, List, ◌++◌, filter, length, map}
 use Rattle.plane.specs.declared.kinds.Edge.{Edge}
 use Rattle.plane.specs.Lists.{Has, Once}
 use Rattle.plane.specs.Runs.Gaps.{Gap, is_real, no_gap}

@@ -29,6 +29,8 @@ mod keeping;
 mod kinds;
 mod state;
 mod sweeping;
+#[cfg(test)]
+mod tests;
 
 pub use kinds::{Cell, Event, SweepRefusal, Swept};
 pub use sweeping::sweep;

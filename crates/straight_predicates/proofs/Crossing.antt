@@ -3,8 +3,7 @@ use Rattle.std.proofs.Common.{◌≡◌, ℕ, ℤ, pos, ◌+ℤ◌, ◌*ℤ◌, 
 use Rattle.std.proofs.lemmas.Int.{ints, by_lt_z}
 use Rattle.plane.specs.declared.kinds.Point.{Point}
 use Rattle.plane.specs.declared.kinds.Edge.{Edge}
-use Rattle.plane.specs.Rule.Places.{Vector, Place, Same, point}
-use Rattle.plane.specs.Forms.Vectors.{mix, side}
+use Rattle.plane.specs.Forms.Vectors.{Vector, Place, Same, mix, point, side}
 use Rattle.plane.specs.Forms.Meets as edges
 use Rattle.plane.proofs.Algebra.Ring.{Expr, at, num, plus, minus, times, vars, ring}
 use Rattle.plane.proofs.Algebra.Scaling.{cancel_zero, product_of_zero}

@@ -3,7 +3,7 @@ use Rattle.std.proofs.Common.{◌≡◌, ◌↔◌, pos, inl, inr, refl, arith, 
 use Rattle.std.proofs.lemmas.Int.{ints}
 use Rattle.plane.specs.declared.kinds.Point.{Point}
 use Rattle.plane.specs.declared.kinds.Edge.{Edge}
-use Rattle.plane.specs.Rule.Places.{point}
+use Rattle.plane.specs.Forms.Vectors.{point}
 use Rattle.plane.specs.Forms.Meets as edges
 use Rattle.plane.proofs.Linear.EdgePlaces.{place_point, mean_on}
 use Rattle.straight_predicates.specs.declared.meets.Meet.{Meet}

@@ -6,3 +6,14 @@ pub mod Choices
 pub mod TurnSigns
 pub mod Exactly
 pub mod WindowEdges
+pub mod Permutations
+pub mod Orders
+pub mod WeighedTurns
+pub mod RayOrder
+pub mod Cuts
+pub mod Rightward
+pub mod Filling
+pub mod Groups
+pub mod FillSteps
+pub mod RowParts
+pub mod Ends

@@ -3,8 +3,7 @@ use Rattle.std.proofs.Common.{◌≡◌, ◌+◌, ◌^◌, ℤ, pos, ◌+ℤ◌,
 use Rattle.std.proofs.lemmas.Int.{ints, by_lt_z}
 use Rattle.plane.specs.declared.kinds.Point.{Point}
 use Rattle.plane.specs.declared.kinds.Edge.{Edge}
-use Rattle.plane.specs.Rule.Places.{Vector, Place, Same, point}
-use Rattle.plane.specs.Forms.Vectors.{mix, side, sweep, rise, Before, On}
+use Rattle.plane.specs.Forms.Vectors.{Vector, Place, Same, mix, point, side, sweep, rise, Before, On}
 use Rattle.plane.specs.Forms.Weights.{Weight}
 use Rattle.plane.specs.Forms.Meets as edges
 use Rattle.plane.proofs.Algebra.Laws.{square_nonnegative, square_zero, product_comm}

@@ -1,8 +1,7 @@
 -- Two ends strictly to one side of a line: the edges are apart.
 use Rattle.std.proofs.Common.{◌≡◌, ℤ, pos, ◌+ℤ◌, ◌*ℤ◌, ◌-ℤ◌, ◌<ℤ◌, ◌≤ℤ◌, ◌⊎◌, inl, inr, [], ◌∷◌, refl, arith}
 use Rattle.std.proofs.lemmas.Int.{ints}
-use Rattle.plane.specs.Rule.Places.{point}
-use Rattle.plane.specs.Forms.Vectors.{side}
+use Rattle.plane.specs.Forms.Vectors.{point, side}
 use Rattle.plane.specs.declared.kinds.Edge.{Edge}
 use Rattle.plane.specs.Forms.Meets as edges
 use Rattle.plane.proofs.Algebra.Laws.{weight_at_most}

@@ -11,10 +11,7 @@ use Rattle.plane.specs.Forms.Vectors.{Before}
 use Rattle.plane.specs.Lists.{Has, Neighbours, Once}
 use Rattle.plane.specs.Runs.Positions.{turn_at}
 use Rattle.plane.specs.Runs.Timetables.{BySlope}
-use Rattle.plane.proofs.OneTube.TubeExits.{at}
-use Rattle.plane.proofs.CurveAreas.FaceLabels.{num}
-use Rattle.plane.proofs.Algebra.Ring.{minus, times}
-use Rattle.plane.proofs.Algebra.Ring.{vars, ring}
+use Rattle.plane.proofs.Algebra.Ring.{at, num, minus, times, vars, ring}
 use Rattle.straight_predicates.proofs.WeighedTurns.{turns_left, turns_none}
 use Rattle.straight_predicates.specs.declared.rays.Ray.{Ray}
 use Rattle.straight_predicates.specs.EdgeLists.{edge_of, no_point}

@@ -5,10 +5,7 @@ use Rattle.plane.specs.declared.kinds.Point.{Point}
 use Rattle.plane.specs.Rule.Turns.{cross}
 use Rattle.plane.specs.Forms.Vectors.{sweep, Before}
 use Rattle.plane.proofs.Algebra.Laws.{product_positive, product_nonnegative, positive_factor}
-use Rattle.plane.proofs.Algebra.Ring.{Expr, vars, ring}
-use Rattle.plane.proofs.OneTube.TubeExits.{at}
-use Rattle.plane.proofs.CurveAreas.FaceLabels.{num}
-use Rattle.plane.proofs.Algebra.Ring.{minus, plus, times}
+use Rattle.plane.proofs.Algebra.Ring.{Expr, at, num, minus, plus, times, vars, ring}
 use Rattle.plane.proofs.Runs.Meeting.{factor_zero}
 use Rattle.plane.proofs.Linear.SomeWeight.{some_weight}
 

@@ -1,5 +1,5 @@
-//! Exact predicates for straights: how three points turn, how two edges meet, and which of two
-//! points comes first.
+//! Exact predicates for straights: how three points turn, how two edges meet, which of two points
+//! comes first; and the order of many edges: by their ends, by slope, and from below at a point.
 //!
 //! - **What it answers.** `turn` has the exact sign of a cross product. `meet` is exact both ways:
 //!   `Apart` exactly where the two edges share no place at all, `CommonEnd` exactly where they
@@ -12,24 +12,49 @@
 //!   `meet` also asks for edges whose `low` is before their `high`.
 //! - **Degenerate cases.** Upright edges, equal edges, edges of one line that overlap, touch or
 //!   leave a gap, and ends that coincide in each of the four ways are all taken.
-//! - **Not here:** no half arcs, no lists of edges, and no coordinates of a crossing.
+//! - **Lists of edges.** `Timetable` is the ends of edges in order, each with the edges that end
+//!   there, by number, and those that start there, by slope and then by number. `cut` finds the place
+//!   of a point in a list of edges; it promises the two edges beside the place and asks for no order
+//!   of the list. `Row` is a list with room that is changed in place. A sweep and a replay both work
+//!   with these three; neither is here.
+//! - **Slopes.** `slope` compares directions to the right or straight up. Those have one strict order,
+//!   which a sort needs; directions of all ways round have none.
+//! - **Not here:** no half arcs, and no coordinates of a crossing.
 //!
-//! Cost: no call allocates or loops. A turn is two products of 64-bit numbers to 128 bits; `meet`
-//! takes at most four turns and a few comparisons. A layer above may call them freely.
+//! Cost: a turn is two products of 64-bit numbers to 128 bits; `meet` takes at most four turns and
+//! a few comparisons, `cut` a turn for each halving of its list. None of these takes memory. A
+//! timetable of m edges takes O(m log m) time, and 48 bytes an edge while it sorts; its readers are
+//! one load. `Row::replace` moves what lies behind the block, in one piece, where its length changes;
+//! it takes no memory.
 #![tactic(auto)]
 
+mod between;
+mod cutting;
+mod directions;
 #[cfg(test)]
 mod drawing_tests;
+mod events;
+mod live_row;
 mod meeting;
 mod meets;
 mod order;
+mod rays;
+mod slopes;
+mod slots;
 #[cfg(test)]
 mod tests;
+mod timetable;
 mod turning;
 mod turns;
 
+pub use between::edge_between;
+pub use cutting::{cut, turn_over};
+pub use directions::Direction;
+pub use live_row::Row;
 pub use meeting::meet;
 pub use meets::Meet;
 pub use order::before;
+pub use slopes::slope;
+pub use timetable::Timetable;
 pub use turning::turn;
 pub use turns::Turn;

@@ -37,7 +37,7 @@ fn cross_product(a: Point, b: Point, c: Point) -> i128
 }
 
 /// a - b
-fn difference(a: i64, b: i64) -> i64
+pub(super) fn difference(a: i64, b: i64) -> i64
     requires { IsNear (2 ^ 41) b a }
     ensures value { result ≡ a -ℤ b }
     ensures bound { IsWithin (2 ^ 41) result }
@@ -46,7 +46,7 @@ fn difference(a: i64, b: i64) -> i64
 }
 
 /// a d - b c
-fn determinant(a: i64, b: i64, c: i64, d: i64) -> i128
+pub(super) fn determinant(a: i64, b: i64, c: i64, d: i64) -> i128
     requires a { IsWithin (2 ^ 41) a }
     requires b { IsWithin (2 ^ 41) b }
     requires c { IsWithin (2 ^ 41) c }

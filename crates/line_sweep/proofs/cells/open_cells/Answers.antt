@@ -1,4 +1,4 @@
-use Rattle.std.proofs.Common.{rules, arith, sym, ap, subst, ◌≡◌, ◌∙◌, ◌+◌, ◌<◌, ◌≤◌, ◌++◌, ◌∷◌, [], ℕ, suc, length, take, drop, get_or, refl, inl, inr}
+use Rattle.std.proofs.Common.{ap, ◌∙◌, ◌++◌, drop, refl}
 use Rattle.std.proofs.Common.{drop_of_length-le}
 use Rattle.plane.specs.Runs.Gaps.{gaps_between}
 use Rattle.line_sweep.specs.Kinds.{gaps_of}

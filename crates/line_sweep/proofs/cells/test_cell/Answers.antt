@@ -1,4 +1,3 @@
-use Rattle.std.proofs.Common.{rules, arith, sym, ap, subst, ◌≡◌, ◌∙◌, ◌+◌, ◌<◌, ◌≤◌, ◌++◌, ◌∷◌, [], ℕ, suc, length, take, drop, get_or, refl, inl, inr, List}
 use Rattle.line_sweep.proofs.cells.test_cell.Goals as goal
 
 pub meet-requires-clause-close : goal.meet-requires-clause-close

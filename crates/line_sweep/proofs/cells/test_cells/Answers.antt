@@ -1,4 +1,3 @@
-use Rattle.std.proofs.Common.{rules, arith, sym, ap, subst, ◌≡◌, ◌∙◌, ◌+◌, ◌<◌, ◌≤◌, ◌++◌, ◌∷◌, [], ℕ, suc, length, take, drop, get_or, refl, inl, inr, List}
 use Rattle.line_sweep.specs.Held.{IsFineCell}
 use Rattle.line_sweep.proofs.CellGaps.{no_cell, one_more}
 use Rattle.line_sweep.proofs.PlaneLaws.{has_at}

@@ -1,4 +1,4 @@
-use Rattle.std.proofs.Common.{rules, arith, sym, ap, subst, ◌≡◌, ◌∙◌, ◌+◌, ◌<◌, ◌≤◌, ◌++◌, ◌∷◌, [], ℕ, suc, length, take, drop, get_or, refl, inl, inr, List}
+use Rattle.std.proofs.Common.{ap, ◌∙◌, ◌++◌, ◌∷◌, [], ℕ, List}
 use Rattle.std.proofs.lemmas.List.{map-append}
 use Rattle.line_sweep.specs.Kinds.{move_of, moves_of}
 use Rattle.line_sweep.proofs.sweeping.add_event.Goals as goal

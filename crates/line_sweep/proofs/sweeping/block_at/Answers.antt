@@ -1,4 +1,4 @@
-use Rattle.std.proofs.Common.{rules, arith, sym, ap, subst, ◌≡◌, ◌∙◌, ◌+◌, ◌<◌, ◌≤◌, ◌++◌, ◌∷◌, [], ℕ, suc, length, take, drop, get_or, refl, inl, inr, List}
+use Rattle.std.proofs.Common.{sym, subst, ℕ, length, List}
 use Rattle.straight_predicates.specs.EdgeLists.{edge_of, AreBelow, IsCloseToAll}
 use Rattle.straight_predicates.specs.Rows.{values_of}
 use Rattle.straight_predicates.specs.Tables.{table_of}

@@ -1,4 +1,3 @@
-use Rattle.std.proofs.Common.{rules, arith, sym, ap, subst, ◌≡◌, ◌∙◌, ◌+◌, ◌<◌, ◌≤◌, ◌++◌, ◌∷◌, [], ℕ, suc, length, take, drop, get_or, refl, inl, inr, List}
 use Rattle.straight_predicates.specs.Rows.{values_of}
 use Rattle.line_sweep.proofs.Keys.{once_block, held_after, closed_after}
 use Rattle.line_sweep.proofs.sweeping.move_cells.Goals as goal

@@ -1,4 +1,4 @@
-use Rattle.std.proofs.Common.{rules, arith, sym, ap, subst, ◌≡◌, ◌∙◌, ◌+◌, ◌<◌, ◌≤◌, ◌++◌, ◌∷◌, [], ℕ, suc, length, take, drop, get_or, refl, inl, inr, List}
+use Rattle.std.proofs.Common.{sym, subst, ◌∙◌, get_or}
 use Rattle.std.proofs.Common.{All}
 use Rattle.plane.specs.Runs.Timetables.{no_event}
 use Rattle.straight_predicates.specs.Rows.{values_of}

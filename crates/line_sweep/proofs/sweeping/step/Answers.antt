@@ -1,4 +1,4 @@
-use Rattle.std.proofs.Common.{rules, arith, sym, ap, subst, ◌≡◌, ◌∙◌, ◌+◌, ◌<◌, ◌≤◌, ◌++◌, ◌∷◌, [], ℕ, suc, length, take, drop, get_or, refl, inl, inr, List}
+use Rattle.std.proofs.Common.{arith, ap, subst, ◌∙◌, ◌+◌, ◌++◌, ◌∷◌, [], suc, length, take, drop}
 use Rattle.straight_predicates.specs.Rows.{values_of}
 use Rattle.straight_predicates.specs.Tables.{table_of}
 use Rattle.line_sweep.specs.Held.{IsHeld, gaps_held}

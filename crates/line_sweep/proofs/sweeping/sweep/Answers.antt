@@ -1,4 +1,4 @@
-use Rattle.std.proofs.Common.{rules, arith, sym, ap, subst, ◌≡◌, ◌∙◌, ◌+◌, ◌<◌, ◌≤◌, ◌++◌, ◌∷◌, [], ℕ, suc, length, take, drop, get_or, refl, inl, inr, List}
+use Rattle.std.proofs.Common.{ap}
 use Rattle.straight_predicates.specs.Tables.{table_of}
 use Rattle.line_sweep.specs.Kinds.{gaps_of, moves_of}
 use Rattle.line_sweep.proofs.Stepping.{begun, run_at_end, clear_at_end}

@@ -1,4 +1,4 @@
-use Rattle.std.proofs.Common.{rules, arith, sym, ap, subst, ◌≡◌, ◌∙◌, ◌<◌, ◌≤◌, [], ℕ, length, get_or, refl, inl, inr, vec_len, List}
+use Rattle.std.proofs.Common.{subst}
 use Rattle.plane.specs.Forms.Segments.{IsEdgeOf}
 use Rattle.meetings.specs.StraightEdges.{curve_of}
 use Rattle.meetings.proofs.BadCurves.{none_yet, one_more, distinct_at, whole}

@@ -1,4 +1,4 @@
-use Rattle.std.proofs.Common.{rules, arith, sym, ap, subst, ◌≡◌, ◌∙◌, ◌<◌, ◌≤◌, [], ℕ, length, get_or, refl, inl, inr, vec_len, List}
+use Rattle.std.proofs.Common.{rules, arith, sym, subst, ◌≡◌, length, vec_len}
 use Rattle.plane.specs.Rule.Plans.{plan}
 use Rattle.meetings.specs.StraightEdges.{AreEdgesTo}
 use Rattle.meetings.proofs.BadCurves.{all_sorted, all_close, pair_is_bad, pair_not_apart, none_is_bad}

@@ -1,4 +1,4 @@
-use Rattle.std.proofs.Common.{rules, arith, sym, ap, subst, ◌≡◌, ◌∙◌, ◌<◌, ◌≤◌, [], ℕ, length, get_or, refl, inl, inr}
+use Rattle.std.proofs.Common.{arith}
 use Rattle.meetings.proofs.BadCurves.{bad_back}
 use Rattle.meetings.proofs.finding.in_order.Goals as goal
 
