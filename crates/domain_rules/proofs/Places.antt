@@ -96,8 +96,8 @@ point_in codes w (x ∷ y ∷ ws) n h = inside w x y [] ws (defined (list_any (i
 
 point : (codes : Codes) (optional : Bool) (form : Form) (words : List (List ℕ)) → length words ≡ width form → ((optional && list_all (is_undefined codes) words) ≡ true) ⊎ (field_fault form codes words ≡ None) → HasPoint codes optional form words
 point codes optional (model.AreaPoint w) words n h = elim h as (λ s. ((optional && list_all (is_undefined codes) words) ≡ true) ⊎ IsInside w (place_named w words)) [
-  inl u ↦ inl u |
-  inr f ↦ inr (point_in codes w words n f)
+  | inl u ↦ inl u
+  | inr f ↦ inr (point_in codes w words n f)
 ]
 point codes optional (model.Range l) words n h = tt
 point codes optional (model.Dim1 l) words n h = tt
@@ -126,7 +126,7 @@ points codes line number (c ∷ cs) words n h =
     let e = empty_both (finding_at line number (column_code codes c (take (width c.form) words))) (columns_findings codes line (number + 1) cs (drop (width c.form) words)) h in
     let own = take (width c.form) words in (
       point codes c.optional c.form own (taken (width c.form) (widths cs) words n)
-      (either_none (c.optional && list_all (is_undefined codes) own) (field_fault c.form codes own) (told_none line number (column_code codes c own) e.0)),
+          (either_none (c.optional && list_all (is_undefined codes) own) (field_fault c.form codes own) (told_none line number (column_code codes c own) e.0)),
       points codes line (number + 1) cs (drop (width c.form) words) (left (width c.form) (widths cs) words n) e.1,
     )
 

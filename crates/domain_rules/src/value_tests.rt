@@ -8,7 +8,7 @@ use super::check_values;
 use field_values::{is_undefined, width};
 use ili_grammar::Codes;
 use itf_lines::logical_lines;
-use itf_reader::{Finding, RowValues, StrokeRead, Transfer, read_row, read_transfer};
+use itf_reader::{Finding, Transfer, is_counted, is_sound_line, read_transfer};
 use ports::Name;
 use resolver::{
     Attribute, AttributeForm, Form, Limits, LineForm, LinePart, ModelTable, ResolvedModel, Topic,
@@ -317,27 +317,19 @@ fn a_line_of_an_area_has_two_points(rt: HostRuntime) {
     told(&rt, rt.alloc(), "", &tables);
 }
 
-// Whether each row has its words, and how each of its lines was read.
-fn sound(rt: &impl Abort, alloc: Global, layout: &Layout, transfer: &Transfer) -> String
-    requires { IsValid (layout_view layout.now) }
-{
+// Whether each row has its words, and whether nothing is wrong with its lines.
+fn sound(rt: &impl Abort, alloc: Global, layout: &Layout, transfer: &Transfer) -> String {
     let mut text = String::new(alloc);
-    let mut values = RowValues::new(alloc);
-    let mut found = Vec::new(alloc);
     for (table, came) in layout.tables.iter().zip(&transfer.tables) {
         for row in &came.rows {
-            let counted = read_row(&layout.codes, table, row, &mut values, &mut found).expect(
-                rt, "memory",
-            );
-            let one = format!(in alloc; "{counted}").expect(rt, "memory");
+            let one = format!(in alloc; "{}", is_counted(table, row)).expect(rt, "memory");
             text.push_str(&one).expect(rt, "memory");
-            for stroke in &values.strokes {
-                let how = match stroke {
-                    StrokeRead::Undefined => " none",
-                    StrokeRead::Sound(_) => " sound",
-                    StrokeRead::Faulty(_) => " faulty",
-                };
-                text.push_str(how).expect(rt, "memory");
+            for (form, stroke) in table.lines.iter().zip(&row.strokes) {
+                let good = is_sound_line(alloc, table.role, form, &stroke.vertices).expect(
+                    rt, "memory",
+                );
+                let one = format!(in alloc; " {good}").expect(rt, "memory");
+                text.push_str(&one).expect(rt, "memory");
             }
             text.push_str("\n").expect(rt, "memory");
         }
@@ -352,7 +344,7 @@ fn a_row_and_its_lines_are_sound(rt: HostRuntime) {
     let text =
         "TABL Parcel_Form\nOBJE 1\nOBJE\nSTPT 1 1\nLIPT 1 1.0\nELIN\nOBJE 2 3\nSTPT 1 1\nLIPT 1 2\nELIN\nETAB\nTABL Parcel\nOBJE 1 5 @ @ 1 1\nSTPT 1 1 5\nELIN\nSTPT 1 1\nARCP 2 2\nLIPT 1 1\nELIN\nOBJE 2 5\nSTPT 1 1\nELIN\n";
     let transfer = read(&rt, alloc, &layout, text);
-    let want = "true none\nfalse\nfalse\ntrue sound faulty\nfalse\n";
+    let want = "true true\nfalse false\nfalse true\ntrue true false\nfalse false true\n";
     assert_eq!(rt; sound(&rt, alloc, &layout, &transfer).as_str(), want);
     assert!(rt; is_undefined(&CODES, b"@"));
     assert!(rt; !is_undefined(&CODES, b"@@"));

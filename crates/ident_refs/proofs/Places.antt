@@ -1,41 +1,19 @@
 -- Places of rows in their table.
-use Rattle.std.proofs.Common.{◌≡◌, ℕ, suc, zero, ◌+◌, ◌<◌, ◌≤◌, Bool, true, false, cond, nat_eq, ◌||◌, List, [], ◌∷◌, length, take, drop, get_or, slice_get, ◌-◌, Option, Some, None, refl, sym, ap, ◌∙◌, arith, add-one, drop-cons}
+use Rattle.std.proofs.Common.{◌≡◌, ℕ, suc, zero, ◌+◌, ◌<◌, ◌≤◌, Bool, true, false, cond, nat_eq, ◌||◌, List, [], ◌∷◌, length, take, drop, map, get_or, slice_get, ◌-◌, Option, Some, None, refl, sym, ap, ◌∙◌, arith, add-one, drop-cons}
 use Rattle.std.specs.List.{list_any, position_from}
 use Rattle.std.specs.Option.{is_some, option_map}
-use Rattle.std.specs.Cmp.Lexicographic.{pointwise, nat_list_eq_equiv}
+use Rattle.ports.specs.SortedKeys.{is_key}
+use Rattle.itf_reader.specs.RowKeys.{row_key}
 use Rattle.itf_reader.specs.declared.transfer.Row.{Row as CodeRow}
 use Rattle.itf_reader.specs.Forms.{Row}
 use Rattle.itf_reader.specs.Views.{row_of, rows_of}
-use Rattle.ident_refs.specs.Rows.{identification, has_identification, is_word, first_such}
+use Rattle.ident_refs.specs.Rows.{identification, has_identification, first_such}
 use Rattle.ident_refs.specs.KeyFindings.{first_named}
 
--- the row at i stands in front of the rows behind it
-pub rows_down : (test : Row → Bool) (i p : ℕ) (rows : List CodeRow) (r : CodeRow)
-    → p ≡ i + 1 → i < length rows → r ≡ get_or rows i r
-    → position_from test i (rows_of (drop i rows)) ≡ cond (test (row_of r)) (Some i) (position_from test p (rows_of (drop p rows)))
-rows_down test i p rows r e lt at =
-    let d : drop i rows ≡ r ∷ drop p rows = drop-cons rows i r lt ∙ ap (λ (x : CodeRow). x ∷ drop (suc i) rows) (sym at) ∙ ap (λ (q : ℕ). r ∷ drop q rows) (sym (e ∙ add-one i)) in
-    ap (λ (l : List CodeRow). position_from test i (rows_of l)) d
-    ∙ ap (λ (q : ℕ). cond (test (row_of r)) (Some i) (position_from test q (rows_of (drop p rows)))) (sym e)
-
--- a row with an identification is put in front of the rows behind it
-pub named_down : (word key : List ℕ) (i p : ℕ) (rows : List CodeRow) (r : CodeRow) (got new : Option ℕ)
-    → p ≡ i + 1 → i < length rows → r ≡ get_or rows i r → Some key ≡ identification (row_of r)
-    → got ≡ position_from (has_identification word) p (rows_of (drop p rows)) → new ≡ cond (pointwise nat_eq key word) (Some i) got
-    → new ≡ position_from (has_identification word) i (rows_of (drop i rows))
-named_down word key i p rows r got new e lt at k g u =
-    u ∙ ap (λ (t : Bool). cond t (Some i) got) (nat_list_eq_equiv.symm key word ∙ ap (is_word word) k)
-    ∙ ap (λ (o : Option ℕ). cond (has_identification word (row_of r)) (Some i) o) g
-    ∙ sym (rows_down (has_identification word) i p rows r e lt at)
-
--- a row without identification changes nothing
-pub nameless_down : (word : List ℕ) (i p : ℕ) (rows : List CodeRow) (r : CodeRow) (got : Option ℕ)
-    → p ≡ i + 1 → i < length rows → r ≡ get_or rows i r → None ≡ identification (row_of r)
-    → got ≡ position_from (has_identification word) p (rows_of (drop p rows))
-    → got ≡ position_from (has_identification word) i (rows_of (drop i rows))
-nameless_down word i p rows r got e lt at k g =
-    g ∙ ap (λ (o : Option (List ℕ)). cond (is_word word o) (Some i) (position_from (has_identification word) p (rows_of (drop p rows)))) k
-    ∙ sym (rows_down (has_identification word) i p rows r e lt at)
+-- the first place of a key is that of the first row with that identification
+pub first_row : (word : List ℕ) (i : ℕ) (rows : List CodeRow) → position_from (is_key word) i (map row_key rows) ≡ position_from (has_identification word) i (rows_of rows)
+first_row word i [] = refl
+first_row word i (r ∷ rows) = ap (λ (o : Option ℕ). cond (is_key word (row_key r)) (Some i) o) (first_row word (i + 1) rows)
 
 -- a row passes the test where there is a first place of one
 pub any_place : (test : Row → Bool) (j : ℕ) (rows : List Row) → is_some (position_from test j rows) ≡ list_any test rows

@@ -1,23 +1,17 @@
 -- Identifications of rows, and the rows that stand before another.
 use Rattle.std.specs.Prelude.{ℕ, Bool, false, nat_eq, if◌then◌else◌, List, [], ◌∷◌, Option, Some, None}
 use Rattle.std.specs.Cmp.Lexicographic.{pointwise}
+use Rattle.ports.specs.SortedKeys.{is_key}
 use Rattle.itf_reader.specs.Forms.{Row}
+use Rattle.itf_reader.specs.RowKeys.{first_field}
 
 -- the first field of a row is its identification
-abbrev pub identification_in : List (List ℕ) → Option (List ℕ)
-identification_in [] = None
-identification_in (word ∷ fields) = Some word
-
 abbrev pub identification : Row → Option (List ℕ)
-identification r = identification_in r.fields
+identification r = first_field r.fields
 
 -- the row has that identification
-abbrev pub is_word : List ℕ → Option (List ℕ) → Bool
-is_word word None = false
-is_word word (Some other) = pointwise nat_eq word other
-
 abbrev pub has_identification : List ℕ → Row → Bool
-has_identification word r = is_word word (identification r)
+has_identification word r = is_key word (identification r)
 
 -- the first of some rows that passes a test
 abbrev pub first_such : (Row → Bool) → List Row → Option Row

@@ -1,9 +1,9 @@
 // Identifications: those that stand already in their table, and the rows that they name.
-ghost use Rattle.std.specs.Prelude.{◌≡◌, nat_eq, List, ℕ, IfOk, OnOk, take, ◌++◌, []};
-ghost use Rattle.std.specs.Cmp.Lexicographic.{pointwise};
+ghost use Rattle.std.specs.Prelude.{◌≡◌, IfOk, OnOk, take, map, ◌++◌, []};
 ghost use Rattle.std.specs.List.{position_from};
 ghost use Rattle.std.specs.Option.{option_map};
-ghost use Rattle.indexmap.specs.IndexMap.{get};
+ghost use Rattle.ports.specs.SortedKeys.{IsSortedKeys};
+ghost use Rattle.itf_reader.specs.RowKeys.{row_key};
 ghost use Rattle.itf_reader.specs.declared.findings.Code.TheVariants.{Tid};
 ghost use Rattle.itf_reader.specs.Findings.{finding_of, findings_of};
 ghost use Rattle.itf_reader.specs.Views.{row_of, rows_of};
@@ -11,17 +11,16 @@ ghost use Rattle.ident_refs.specs.Rows.{identification, has_identification};
 ghost use Rattle.ident_refs.specs.KeyFindings.{clash, first_named, tid_findings, names_a_row};
 
 use super::found::add_clash;
-use indexmap::IndexMap;
 use itf_reader::{Code, Finding, Row};
-use ports::{Key, Memory};
+use ports::{Memory, SortedKeys};
 use std::alloc::Global;
 
-/// The rows of a table, and the place of the first of each identification.
+/// The rows of a table, and their identifications in order.
 #[derive(Drop)]
 pub struct Names<'a> {
     pub rows: &'a [Row],
-    places: IndexMap<Key<'a>, usize>,
-    ghost told: { (word : List ℕ) → get (pointwise nat_eq) places word ≡ position_from (has_identification word) 0 (rows_of rows.now) },
+    sorted: SortedKeys,
+    ghost told: { IsSortedKeys (map row_key rows.now) sorted },
 }
 
 /// The identification of a row: its first field.
@@ -34,26 +33,13 @@ pub fn identification(row: &Row) -> Option<&[u8]>
     }
 }
 
-// The place of the first row of each identification.
-fn first_places<'a>(alloc: Global, rows: &'a [Row]) -> Result<IndexMap<Key<'a>, usize>, Memory>
-    ensures { IfOk result (λ places. (word : List ℕ) → get (pointwise nat_eq) places word ≡ position_from (has_identification word) 0 (rows_of rows.now)) }
-{
-    let mut places = IndexMap::new(alloc);
-    for place in (0..rows.len()).rev() {
-        if let Some(word) = identification(&rows[place]) {
-            places.insert(Key::new(word), place)?;
-        }
-    }
-    Ok(places)
-}
-
 impl<'a> Names<'a> {
     /// The rows of a table.
     pub fn new(alloc: Global, rows: &'a [Row]) -> Result<Names<'a>, Memory>
         ensures { IfOk result (λ names. names.rows.now ≡ rows.now) }
     {
-        let places = first_places(alloc, rows)?;
-        Ok(Names { rows, places })
+        let sorted = SortedKeys::new(alloc, rows)?;
+        Ok(Names { rows, sorted })
     }
 
     /// Whether some row has that identification.
@@ -64,11 +50,12 @@ impl<'a> Names<'a> {
         self.place(word).is_some()
     }
 
-    // The place of the first row with that identification.
+    // The place of the first row with that identification, by binary search.
+    #[tactic(auto, using(crate::proofs::Places::first_row))]
     fn place(&self, word: &[u8]) -> Option<usize>
         ensures { result ≡ position_from (has_identification word.now) 0 (rows_of self.now.rows.now) }
     {
-        self.places.get(&Key::new(word)).copied()
+        self.sorted.first(self.rows, word)
     }
 
     // The line of the first row before that place that has the identification of a row.

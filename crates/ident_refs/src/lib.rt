@@ -24,10 +24,11 @@
 //!   place give two findings. A list without places is the same for all rows. Where a transfer has
 //!   fewer tables than the layout, the others have no rows.
 //!
-//! Cost: for each table one map of its identifications, and for each IDENT list one map of what
-//! its rows demand, each filled once. So `check_keys` takes time and memory in proportion to the
-//! layout and the transfer, once for each list, and what the order of the findings takes. A map
-//! borrows the words, and owns the numbers of vertices.
+//! Cost: the identifications of each table are sorted, and found by binary search, in n log n
+//! comparisons for every input and 16 bytes for each row. For each IDENT list there is one map of
+//! what its rows demand, filled once: expected linear time, which a file that aims its values at
+//! the map makes quadratic. A map borrows the words, and owns the numbers of vertices. The order
+//! of the findings takes what a sort takes.
 #![tactic(auto)]
 
 mod compared;

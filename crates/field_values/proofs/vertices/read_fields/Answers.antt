@@ -9,7 +9,7 @@ pub returns-in_err-height-clause-read : goal.returns-in_err-height-clause-read
 returns-in_err-height-clause-read c =
     let l = c.args.form.now in
     let h = rest_bad (limits_of l.window.x) (limits_of l.window.y) (option_to_list (option_map limits_of l.height)) c.args.x.now c.args.y.now c.args.heights.now (place_view c.in_ok-at.at) c.in_err-height.field-0.0
-        c.in_ok-at.ensures c.in_err-height.ensures in
+    c.in_ok-at.ensures c.in_err-height.ensures in
     search rules
 
 pub returns-clause-read : goal.returns-clause-read
