@@ -13,7 +13,8 @@ use ports::{Failed, Shelf};
 
 /// Appends the bytes that wait.
 pub fn flush<S: Shelf>(shelf: &mut S, name: &str, page: &mut Page) -> Result<(), Failed>
-    ensures written { Writes name.now [] (S.held shelf.old) page.old result (S.held shelf.new) page.new }
+    ensures written { Writes name.now [] (S.held shelf.old) page.old result (S.held shelf.new)
+        page.new }
     ensures empty { OnOk result (page.new ≡ []) }
     ensures reads { NoReadFell (S.read_faults shelf.old) (S.read_faults shelf.new) }
     ensures writes { S.write_faults shelf.old ≤ S.write_faults shelf.new }
@@ -26,7 +27,8 @@ pub fn flush<S: Shelf>(shelf: &mut S, name: &str, page: &mut Page) -> Result<(),
 
 // Adds some bytes; what has no room in a page is appended at once.
 fn put<S: Shelf>(shelf: &mut S, name: &str, page: &mut Page, bytes: &[u8]) -> Result<(), Failed>
-    ensures written { Writes name.now bytes.now (S.held shelf.old) page.old result (S.held shelf.new) page.new }
+    ensures written { Writes name.now bytes.now (S.held shelf.old) page.old result
+        (S.held shelf.new) page.new }
     ensures reads { NoReadFell (S.read_faults shelf.old) (S.read_faults shelf.new) }
     ensures writes { S.write_faults shelf.old ≤ S.write_faults shelf.new }
     ensures cause { OnErr result (Rose (S.write_faults shelf.old) (S.write_faults shelf.new)) }
@@ -48,7 +50,8 @@ fn put_number<S: Shelf>(
     page: &mut Page,
     number: u64,
 ) -> Result<(), Failed>
-    ensures written { Writes name.now (decimal number) (S.held shelf.old) page.old result (S.held shelf.new) page.new }
+    ensures written { Writes name.now (decimal number) (S.held shelf.old) page.old result
+        (S.held shelf.new) page.new }
     ensures reads { NoReadFell (S.read_faults shelf.old) (S.read_faults shelf.new) }
     ensures writes { S.write_faults shelf.old ≤ S.write_faults shelf.new }
     ensures cause { OnErr result (Rose (S.write_faults shelf.old) (S.write_faults shelf.new)) }
@@ -59,7 +62,8 @@ fn put_number<S: Shelf>(
 
 // Adds `C` and the number of a half-edge.
 fn put_across<S: Shelf>(shelf: &mut S, name: &str, page: &mut Page, half: u64) -> Result<(), Failed>
-    ensures written { Writes name.now (codes "C" ++ decimal half) (S.held shelf.old) page.old result (S.held shelf.new) page.new }
+    ensures written { Writes name.now (codes "C" ++ decimal half) (S.held shelf.old) page.old result
+        (S.held shelf.new) page.new }
     ensures reads { NoReadFell (S.read_faults shelf.old) (S.read_faults shelf.new) }
     ensures writes { S.write_faults shelf.old ≤ S.write_faults shelf.new }
     ensures cause { OnErr result (Rose (S.write_faults shelf.old) (S.write_faults shelf.new)) }
@@ -75,7 +79,8 @@ fn put_word<S: Shelf>(
     page: &mut Page,
     word: &Word<'_>,
 ) -> Result<(), Failed>
-    ensures written { Writes name.now (word_text word.now) (S.held shelf.old) page.old result (S.held shelf.new) page.new }
+    ensures written { Writes name.now (word_text word.now) (S.held shelf.old) page.old result
+        (S.held shelf.new) page.new }
     ensures reads { NoReadFell (S.read_faults shelf.old) (S.read_faults shelf.new) }
     ensures writes { S.write_faults shelf.old ≤ S.write_faults shelf.new }
     ensures cause { OnErr result (Rose (S.write_faults shelf.old) (S.write_faults shelf.new)) }
@@ -94,7 +99,8 @@ fn put_next<S: Shelf>(
     page: &mut Page,
     word: &Word<'_>,
 ) -> Result<(), Failed>
-    ensures written { Writes name.now (next_word word.now) (S.held shelf.old) page.old result (S.held shelf.new) page.new }
+    ensures written { Writes name.now (next_word word.now) (S.held shelf.old) page.old result
+        (S.held shelf.new) page.new }
     ensures reads { NoReadFell (S.read_faults shelf.old) (S.read_faults shelf.new) }
     ensures writes { S.write_faults shelf.old ≤ S.write_faults shelf.new }
     ensures cause { OnErr result (Rose (S.write_faults shelf.old) (S.write_faults shelf.new)) }
@@ -110,7 +116,8 @@ fn put_words<S: Shelf>(
     page: &mut Page,
     words: &[Word<'_>],
 ) -> Result<(), Failed>
-    ensures written { Writes name.now (flat_map next_word words.now) (S.held shelf.old) page.old result (S.held shelf.new) page.new }
+    ensures written { Writes name.now (flat_map next_word words.now) (S.held shelf.old) page.old
+        result (S.held shelf.new) page.new }
     ensures reads { NoReadFell (S.read_faults shelf.old) (S.read_faults shelf.new) }
     ensures writes { S.write_faults shelf.old ≤ S.write_faults shelf.new }
     ensures cause { OnErr result (Rose (S.write_faults shelf.old) (S.write_faults shelf.new)) }
@@ -129,7 +136,8 @@ pub fn put_line<S: Shelf>(
     first: &[u8],
     words: &[Word<'_>],
 ) -> Result<(), Failed>
-    ensures written { Writes name.now (line (first.now ∷ map word_text words.now)) (S.held shelf.old) page.old result (S.held shelf.new) page.new }
+    ensures written { Writes name.now (line (first.now ∷ map word_text words.now))
+        (S.held shelf.old) page.old result (S.held shelf.new) page.new }
     ensures reads { NoReadFell (S.read_faults shelf.old) (S.read_faults shelf.new) }
     ensures writes { S.write_faults shelf.old ≤ S.write_faults shelf.new }
     ensures cause { OnErr result (Rose (S.write_faults shelf.old) (S.write_faults shelf.new)) }

@@ -19,7 +19,8 @@ fn line_of<'a, T: Copy>(
     found: Option<(Option<T>, &'a [u8])>,
 ) -> Result<(T, Text<'a>), CertFault>
     requires { IfSome found (λ found. length found.1.now < length text.rest.now) }
-    ensures { Gives (λ x. (x.0, text_of x.1)) result (line_of (text_of text.entry) (option_map seen found.entry)) }
+    ensures { Gives (λ x. (x.0, text_of x.1)) result (line_of (text_of text.entry)
+        (option_map seen found.entry)) }
 {
     if text.rest.is_empty() {
         return Err(CertFault::Short(text.line));
@@ -42,7 +43,8 @@ fn positions_at<'a>(
     count: u32,
     text: Text<'a>,
 ) -> Result<(Vec<u32>, Text<'a>), CertFault>
-    ensures { Gives (λ x. (x.0.items, text_of x.1)) result (many_at (line_at event_at) count (text_of text.entry)) }
+    ensures { Gives (λ x. (x.0.items, text_of x.1)) result
+        (many_at (line_at event_at) count (text_of text.entry)) }
 {
     let mut positions = Vec::new(alloc);
     let mut left = text;
@@ -59,7 +61,8 @@ fn notes_at<'a>(
     count: u32,
     text: Text<'a>,
 ) -> Result<(Vec<HalfNote>, Text<'a>), CertFault>
-    ensures value { Gives (λ x. (pairs x.0.items, text_of x.1)) result (many_at (line_at edge_at) count (text_of text.entry)) }
+    ensures value { Gives (λ x. (pairs x.0.items, text_of x.1)) result
+        (many_at (line_at edge_at) count (text_of text.entry)) }
     ensures paired { IfOk result (λ x. ArePaired x.0.items) }
 {
     let mut notes = Vec::new(alloc);
@@ -78,7 +81,8 @@ fn places_at<'a>(
     count: u32,
     text: Text<'a>,
 ) -> Result<(Vec<PointPlace>, Text<'a>), CertFault>
-    ensures { Gives (λ x. (x.0.items, text_of x.1)) result (many_at (line_at place_at) count (text_of text.entry)) }
+    ensures { Gives (λ x. (x.0.items, text_of x.1)) result
+        (many_at (line_at place_at) count (text_of text.entry)) }
 {
     let mut places = Vec::new(alloc);
     let mut left = text;
@@ -92,7 +96,8 @@ fn places_at<'a>(
 
 #[tactic(auto, unfolding(crate::specs::Reading::certificate_at))]
 fn certificate_at<'a>(alloc: Global, text: Text<'a>) -> Result<(Certificate, Text<'a>), CertFault>
-    ensures value { Gives (λ x. (view x.0, text_of x.1)) result (certificate_at (text_of text.entry)) }
+    ensures value { Gives (λ x. (view x.0, text_of x.1)) result
+        (certificate_at (text_of text.entry)) }
     ensures paired { IfOk result (λ x. ArePaired x.0.notes.items) }
 {
     let (title, text) = line_of(text, title_at(text.rest))?;
@@ -118,7 +123,8 @@ fn certificates_at<'a>(
     count: u32,
     text: Text<'a>,
 ) -> Result<(Vec<Certificate>, Text<'a>), CertFault>
-    ensures value { Gives (λ x. (views x.0.items, text_of x.1)) result (many_at certificate_at count (text_of text.entry)) }
+    ensures value { Gives (λ x. (views x.0.items, text_of x.1)) result
+        (many_at certificate_at count (text_of text.entry)) }
     ensures paired { IfOk result (λ x. AllByRecursion (λ c. ArePaired c.notes.items) x.0.items) }
 {
     let mut list = Vec::new(alloc);
@@ -154,9 +160,11 @@ fn list_of(alloc: Global, bytes: &[u8]) -> Result<Vec<Certificate>, CertFault>
 pub fn read(alloc: Global, bytes: &[u8]) -> Result<Vec<Certificate>, CertFault>
     requires { length bytes.now ≤ 2 ^ 30 }
     // What is read is spelt so.
-    ensures found { IfOk result (λ list. AreSpelt (views list.items) × (bytes.now ≡ spelling (views list.items))) }
+    ensures found { IfOk result (λ list. AreSpelt (views list.items) ×
+        (bytes.now ≡ spelling (views list.items))) }
     // What is spelt so is read, unless memory runs out.
-    ensures only { (list : List Plain) → AreSpelt list → bytes.now ≡ spelling list → Gives (λ list. views list.items) result (Ok list) }
+    ensures only { (list : List Plain) → AreSpelt list
+        → bytes.now ≡ spelling list → Gives (λ list. views list.items) result (Ok list) }
     // Which line is the first bad one, and what is wrong with it.
     ensures exact { Gives (λ list. views list.items) result (list_of bytes.now) }
     // Each note has a partner.

@@ -19,7 +19,8 @@ fn put_event<S: Shelf>(
     page: &mut Page,
     position: u32,
 ) -> Result<(), Failed>
-    ensures written { Writes name.now (event_line position) (S.held shelf.old) page.old result (S.held shelf.new) page.new }
+    ensures written { Writes name.now (event_line position) (S.held shelf.old) page.old result
+        (S.held shelf.new) page.new }
     ensures reads { NoReadFell (S.read_faults shelf.old) (S.read_faults shelf.new) }
     ensures writes { S.write_faults shelf.old ≤ S.write_faults shelf.new }
     ensures cause { OnErr result (Rose (S.write_faults shelf.old) (S.write_faults shelf.new)) }
@@ -41,7 +42,8 @@ fn put_edge<S: Shelf>(
     below: &HalfNote,
     above: &HalfNote,
 ) -> Result<(), Failed>
-    ensures written { Writes name.now (edge_line (below.now, above.now)) (S.held shelf.old) page.old result (S.held shelf.new) page.new }
+    ensures written { Writes name.now (edge_line (below.now, above.now)) (S.held shelf.old) page.old
+        result (S.held shelf.new) page.new }
     ensures reads { NoReadFell (S.read_faults shelf.old) (S.read_faults shelf.new) }
     ensures writes { S.write_faults shelf.old ≤ S.write_faults shelf.new }
     ensures cause { OnErr result (Rose (S.write_faults shelf.old) (S.write_faults shelf.new)) }
@@ -64,7 +66,8 @@ fn put_place<S: Shelf>(
     page: &mut Page,
     place: &PointPlace,
 ) -> Result<(), Failed>
-    ensures written { Writes name.now (place_line place.now) (S.held shelf.old) page.old result (S.held shelf.new) page.new }
+    ensures written { Writes name.now (place_line place.now) (S.held shelf.old) page.old result
+        (S.held shelf.new) page.new }
     ensures reads { NoReadFell (S.read_faults shelf.old) (S.read_faults shelf.new) }
     ensures writes { S.write_faults shelf.old ≤ S.write_faults shelf.new }
     ensures cause { OnErr result (Rose (S.write_faults shelf.old) (S.write_faults shelf.new)) }
@@ -97,7 +100,8 @@ fn put_title<S: Shelf>(
     page: &mut Page,
     certificate: &Certificate,
 ) -> Result<(), Failed>
-    ensures written { Writes name.now (title_line (view certificate.now)) (S.held shelf.old) page.old result (S.held shelf.new) page.new }
+    ensures written { Writes name.now (title_line (view certificate.now)) (S.held shelf.old)
+        page.old result (S.held shelf.new) page.new }
     ensures reads { NoReadFell (S.read_faults shelf.old) (S.read_faults shelf.new) }
     ensures writes { S.write_faults shelf.old ≤ S.write_faults shelf.new }
     ensures cause { OnErr result (Rose (S.write_faults shelf.old) (S.write_faults shelf.new)) }
@@ -125,7 +129,8 @@ fn put_sizes<S: Shelf>(
     page: &mut Page,
     certificate: &Certificate,
 ) -> Result<(), Failed>
-    ensures written { Writes name.now (sizes_line (view certificate.now)) (S.held shelf.old) page.old result (S.held shelf.new) page.new }
+    ensures written { Writes name.now (sizes_line (view certificate.now)) (S.held shelf.old)
+        page.old result (S.held shelf.new) page.new }
     ensures reads { NoReadFell (S.read_faults shelf.old) (S.read_faults shelf.new) }
     ensures writes { S.write_faults shelf.old ≤ S.write_faults shelf.new }
     ensures cause { OnErr result (Rose (S.write_faults shelf.old) (S.write_faults shelf.new)) }
@@ -146,7 +151,8 @@ fn put_events<S: Shelf>(
     page: &mut Page,
     positions: &[u32],
 ) -> Result<(), Failed>
-    ensures written { Writes name.now (flat_map event_line positions.now) (S.held shelf.old) page.old result (S.held shelf.new) page.new }
+    ensures written { Writes name.now (flat_map event_line positions.now) (S.held shelf.old)
+        page.old result (S.held shelf.new) page.new }
     ensures reads { NoReadFell (S.read_faults shelf.old) (S.read_faults shelf.new) }
     ensures writes { S.write_faults shelf.old ≤ S.write_faults shelf.new }
     ensures cause { OnErr result (Rose (S.write_faults shelf.old) (S.write_faults shelf.new)) }
@@ -176,7 +182,8 @@ fn put_edges<S: Shelf>(
     page: &mut Page,
     notes: &[HalfNote],
 ) -> Result<(), Failed>
-    ensures written { Writes name.now (flat_map edge_line (pairs notes.now)) (S.held shelf.old) page.old result (S.held shelf.new) page.new }
+    ensures written { Writes name.now (flat_map edge_line (pairs notes.now)) (S.held shelf.old)
+        page.old result (S.held shelf.new) page.new }
     ensures reads { NoReadFell (S.read_faults shelf.old) (S.read_faults shelf.new) }
     ensures writes { S.write_faults shelf.old ≤ S.write_faults shelf.new }
     ensures cause { OnErr result (Rose (S.write_faults shelf.old) (S.write_faults shelf.new)) }
@@ -196,7 +203,8 @@ fn put_places<S: Shelf>(
     page: &mut Page,
     places: &[PointPlace],
 ) -> Result<(), Failed>
-    ensures written { Writes name.now (flat_map place_line places.now) (S.held shelf.old) page.old result (S.held shelf.new) page.new }
+    ensures written { Writes name.now (flat_map place_line places.now) (S.held shelf.old) page.old
+        result (S.held shelf.new) page.new }
     ensures reads { NoReadFell (S.read_faults shelf.old) (S.read_faults shelf.new) }
     ensures writes { S.write_faults shelf.old ≤ S.write_faults shelf.new }
     ensures cause { OnErr result (Rose (S.write_faults shelf.old) (S.write_faults shelf.new)) }
@@ -214,7 +222,8 @@ fn put_certificate<S: Shelf>(
     page: &mut Page,
     certificate: &Certificate,
 ) -> Result<(), Failed>
-    ensures written { Writes name.now (certificate_text (view certificate.now)) (S.held shelf.old) page.old result (S.held shelf.new) page.new }
+    ensures written { Writes name.now (certificate_text (view certificate.now)) (S.held shelf.old)
+        page.old result (S.held shelf.new) page.new }
     ensures reads { NoReadFell (S.read_faults shelf.old) (S.read_faults shelf.new) }
     ensures writes { S.write_faults shelf.old ≤ S.write_faults shelf.new }
     ensures cause { OnErr result (Rose (S.write_faults shelf.old) (S.write_faults shelf.new)) }
@@ -234,7 +243,8 @@ fn put_certificates<S: Shelf>(
     page: &mut Page,
     all: &[Certificate],
 ) -> Result<(), Failed>
-    ensures written { Writes name.now (flat_map certificate_text (views all.now)) (S.held shelf.old) page.old result (S.held shelf.new) page.new }
+    ensures written { Writes name.now (flat_map certificate_text (views all.now)) (S.held shelf.old)
+        page.old result (S.held shelf.new) page.new }
     ensures reads { NoReadFell (S.read_faults shelf.old) (S.read_faults shelf.new) }
     ensures writes { S.write_faults shelf.old ≤ S.write_faults shelf.new }
     ensures cause { OnErr result (Rose (S.write_faults shelf.old) (S.write_faults shelf.new)) }
@@ -252,7 +262,8 @@ fn put_text<S: Shelf>(
     page: &mut Page,
     all: &[Certificate],
 ) -> Result<(), Failed>
-    ensures written { Writes name.now (spelling (views all.now)) (S.held shelf.old) page.old result (S.held shelf.new) page.new }
+    ensures written { Writes name.now (spelling (views all.now)) (S.held shelf.old) page.old result
+        (S.held shelf.new) page.new }
     ensures reads { NoReadFell (S.read_faults shelf.old) (S.read_faults shelf.new) }
     ensures writes { S.write_faults shelf.old ≤ S.write_faults shelf.new }
     ensures cause { OnErr result (Rose (S.write_faults shelf.old) (S.write_faults shelf.new)) }
@@ -274,9 +285,11 @@ fn put_text<S: Shelf>(
 /// blank and LF, and every count below 2^32.
 pub fn write<S: Shelf>(all: &[Certificate], shelf: &mut S, name: &str) -> Result<(), Failed>
     // The file gained exactly the text.
-    ensures done { OnOk result (Puts (S.held shelf.old) name.now (λ file. bytes_of file ++ spelling (views all.now)) (S.held shelf.new)) }
+    ensures done { OnOk result (Puts (S.held shelf.old) name.now
+        (λ file. bytes_of file ++ spelling (views all.now)) (S.held shelf.new)) }
     // After a failure it gained at most a front of the text.
-    ensures failed { OnErr result (Gained (S.held shelf.old) name.now (spelling (views all.now)) (S.held shelf.new)) }
+    ensures failed { OnErr result (Gained (S.held shelf.old) name.now (spelling (views all.now))
+        (S.held shelf.new)) }
     ensures others { OthersStay (S.held shelf.old) name.now (S.held shelf.new) }
     ensures reads { NoReadFell (S.read_faults shelf.old) (S.read_faults shelf.new) }
     ensures writes { S.write_faults shelf.old ≤ S.write_faults shelf.new }

@@ -9,5 +9,6 @@ ghost use Rattle.domain_rules.specs.ValueFindings.{value_findings};
 /// its window, the ends of an arc differ, and a point of an arc that lies on one straight with its
 /// ends lies between them.
 pub fn clean_places()
-    ensures { (l : Layout) (transfer : List (List Row)) → value_findings l transfer ≡ [] → HavePlaces l.codes l.tables transfer }
+    ensures { (l : Layout) (transfer : List (List Row))
+        → value_findings l transfer ≡ [] → HavePlaces l.codes l.tables transfer }
 {}

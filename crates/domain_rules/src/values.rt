@@ -23,7 +23,8 @@ pub fn check_values(
     transfer: &Transfer,
 ) -> Result<Vec<Finding>, Memory>
     requires { IsValid (layout_view layout.now) }
-    ensures { IfOk result (λ found. findings_of found.items ≡ value_findings (layout_view layout.now) (transfer_of transfer.now)) }
+    ensures { IfOk result (λ found. findings_of found.items ≡ value_findings
+        (layout_view layout.now) (transfer_of transfer.now)) }
 {
     let mut values = RowValues::new(alloc);
     let mut found = Vec::new(alloc);
@@ -47,7 +48,8 @@ fn add_tables(
     found: &mut Vec<Finding>,
 ) -> Result<(), Memory>
     requires { All HasFew (tables_view tables.now) }
-    ensures { OnOk result (findings_of found.new.items ≡ findings_of found.old.items ++ tables_findings (codes_of codes.now) (tables_view tables.now) (tables_seen came.now)) }
+    ensures { OnOk result (findings_of found.new.items ≡ findings_of found.old.items ++
+        tables_findings (codes_of codes.now) (tables_view tables.now) (tables_seen came.now)) }
 {
     for (table, objects) in tables.iter().zip(came) {
         add_rows(codes, table, &objects.rows, values, found)?;
@@ -64,7 +66,8 @@ fn add_rows(
     found: &mut Vec<Finding>,
 ) -> Result<(), Memory>
     requires { HasFew (table_view table.now) }
-    ensures { OnOk result (findings_of found.new.items ≡ findings_of found.old.items ++ table_findings (codes_of codes.now) (table_view table.now) (rows_of rows.now)) }
+    ensures { OnOk result (findings_of found.new.items ≡ findings_of found.old.items ++
+        table_findings (codes_of codes.now) (table_view table.now) (rows_of rows.now)) }
 {
     for row in rows {
         read_row(codes, table, row, values, found)?;

@@ -21,7 +21,8 @@ use resolver::Form;
 /// coordinate of three axes, and one for each other form.
 pub fn read_column(form: &Form, codes: &Codes, words: &[Field]) -> Result<ColumnValue, ValueFault>
     requires { length words.now ≡ width (form_of form.now) }
-    ensures { column_view words.now result ≡ column_reading (form_of form.now) (codes_of codes.now) words.now }
+    ensures { column_view words.now result ≡ column_reading (form_of form.now) (codes_of codes.now)
+        words.now }
 {
     if holds_undefined(codes, words) {
         return Err(ValueFault::Undefined);
@@ -37,7 +38,8 @@ fn holds_undefined(codes: &Codes, words: &[Field]) -> bool
 
 fn read_value(form: &Form, words: &[Field]) -> Result<ColumnValue, ValueFault>
     requires { length words.now ≡ width (form_of form.now) }
-    ensures { column_view words.now result ≡ reading (value_fault (form_of form.now) words.now) (value_of (form_of form.now) words.now) }
+    ensures { column_view words.now result ≡ reading (value_fault (form_of form.now) words.now)
+        (value_of (form_of form.now) words.now) }
 {
     match form {
         Form::Range(limits) => read_single(limits, words),

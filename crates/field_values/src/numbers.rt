@@ -15,7 +15,8 @@ use resolver::{Block, Limits, Window};
 
 /// The number of a word at the scale of these bounds, within them.
 pub fn read_number(limits: &Limits, word: &[u8]) -> Result<i64, ValueFault>
-    ensures read { result ≡ reading (number_fault (limits_of limits.now) word.now) (units (limits_of limits.now) word.now) }
+    ensures read { result ≡ reading (number_fault (limits_of limits.now) word.now)
+        (units (limits_of limits.now) word.now) }
     ensures short { IfOk result IsShort }
 {
     match read_scaled(word, limits.scale) {
@@ -41,7 +42,9 @@ fn within(limits: &Limits, value: i64) -> Result<i64, ValueFault>
 
 /// The place of two words, one for each axis.
 pub fn read_place(across: &Limits, upward: &Limits, x: &[u8], y: &[u8]) -> Result<Place, ValueFault>
-    ensures { place_reading result ≡ reading (place_fault (limits_of across.now) (limits_of upward.now) x.now y.now) (place_at (limits_of across.now) (limits_of upward.now) x.now y.now) }
+    ensures { place_reading result ≡ reading (place_fault (limits_of across.now)
+        (limits_of upward.now) x.now y.now) (place_at (limits_of across.now) (limits_of upward.now)
+        x.now y.now) }
 {
     let x = read_number(across, x)?;
     let y = read_number(upward, y)?;
@@ -62,7 +65,8 @@ pub fn read_single(limits: &Limits, words: &[Field]) -> Result<ColumnValue, Valu
 /// The numbers on two axes.
 pub fn read_plane(window: &Window, words: &[Field]) -> Result<ColumnValue, ValueFault>
     requires { length words.now ≡ 2 }
-    ensures { column_view words.now result ≡ axes_reading (limits_of window.now.x ∷ limits_of window.now.y ∷ []) words.now }
+    ensures { column_view words.now result ≡ axes_reading
+        (limits_of window.now.x ∷ limits_of window.now.y ∷ []) words.now }
 {
     match words {
         [x, y] => {
@@ -77,7 +81,8 @@ pub fn read_plane(window: &Window, words: &[Field]) -> Result<ColumnValue, Value
 /// The numbers on three axes.
 pub fn read_space(block: &Block, words: &[Field]) -> Result<ColumnValue, ValueFault>
     requires { length words.now ≡ 3 }
-    ensures { column_view words.now result ≡ axes_reading (limits_of block.now.x ∷ limits_of block.now.y ∷ limits_of block.now.z ∷ []) words.now }
+    ensures { column_view words.now result ≡ axes_reading
+        (limits_of block.now.x ∷ limits_of block.now.y ∷ limits_of block.now.z ∷ []) words.now }
 {
     match words {
         [x, y, z] => read_axes(block, x.bytes(), y.bytes(), z.bytes()),
@@ -86,7 +91,9 @@ pub fn read_space(block: &Block, words: &[Field]) -> Result<ColumnValue, ValueFa
 }
 
 fn read_axes(block: &Block, x: &[u8], y: &[u8], z: &[u8]) -> Result<ColumnValue, ValueFault>
-    ensures { (words : List (List ℕ)) → column_view words result ≡ axes_reading (limits_of block.now.x ∷ limits_of block.now.y ∷ limits_of block.now.z ∷ []) (x.now ∷ y.now ∷ z.now ∷ []) }
+    ensures { (words : List (List ℕ)) → column_view words result ≡ axes_reading
+        (limits_of block.now.x ∷ limits_of block.now.y ∷ limits_of block.now.z ∷ [])
+        (x.now ∷ y.now ∷ z.now ∷ []) }
 {
     let at = read_place(&block.x, &block.y, x, y)?;
     let z = read_number(&block.z, z)?;

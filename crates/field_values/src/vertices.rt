@@ -15,8 +15,10 @@ use resolver::{Limits, LineForm};
 /// What the fields of a vertex stand for, or the first rule that they break: a field that has an
 /// axis is no number within its bounds, or there is not one field for each axis.
 pub fn read_vertex(form: &LineForm, words: &[Field]) -> Result<VertexValue, ValueFault>
-    ensures read { vertex_view result ≡ reading (vertex_fault (line_of form.now) words.now) (numbers_on (line_axes (line_of form.now)) words.now) }
-    ensures place { IfOk result (λ v. place_view v.at ≡ place_named (line_of form.now).window words.now) }
+    ensures read { vertex_view result ≡ reading (vertex_fault (line_of form.now) words.now)
+        (numbers_on (line_axes (line_of form.now)) words.now) }
+    ensures place { IfOk result (λ v. place_view v.at ≡ place_named (line_of form.now).window
+        words.now) }
 {
     match words {
         [] => Err(ValueFault::Coord),
@@ -35,8 +37,11 @@ fn read_fields(
     y: &[u8],
     heights: &[Field],
 ) -> Result<VertexValue, ValueFault>
-    ensures read { vertex_view result ≡ reading (vertex_fault (line_of form.now) (x.now ∷ y.now ∷ heights.now)) (numbers_on (line_axes (line_of form.now)) (x.now ∷ y.now ∷ heights.now)) }
-    ensures place { IfOk result (λ v. place_view v.at ≡ place_named (line_of form.now).window (x.now ∷ y.now ∷ heights.now)) }
+    ensures read { vertex_view result ≡ reading (vertex_fault (line_of form.now)
+        (x.now ∷ y.now ∷ heights.now)) (numbers_on (line_axes (line_of form.now))
+        (x.now ∷ y.now ∷ heights.now)) }
+    ensures place { IfOk result (λ v. place_view v.at ≡ place_named (line_of form.now).window
+        (x.now ∷ y.now ∷ heights.now)) }
 {
     let at = read_place(&form.window.x, &form.window.y, x, y)?;
     let height = read_height(form.height, heights)?;
@@ -45,7 +50,8 @@ fn read_fields(
 
 // The fields behind the two of a place: one for the height, where the line has heights.
 fn read_height(height: Option<Limits>, words: &[Field]) -> Result<Option<i64>, ValueFault>
-    ensures { height_view result ≡ reading (axes_fault (option_to_list (option_map limits_of height)) words.now) (numbers_on (option_to_list (option_map limits_of height)) words.now) }
+    ensures { height_view result ≡ reading (axes_fault (option_to_list (option_map limits_of height))
+        words.now) (numbers_on (option_to_list (option_map limits_of height)) words.now) }
 {
     match (height, words) {
         (Some(limits), [z, more @ ..]) => {

@@ -14,7 +14,9 @@ pub fn note_first<K: Hash + Eq + Drop>(
     line: u32,
 ) -> Result<Option<u32>, Memory>
     ensures first { IfOk result (λ first. first ≡ get K.eq lines.old key) }
-    ensures noted { OnOk result ((other : K) → get K.eq lines.new other ≡ first_of (get K.eq lines.old other) (if K.eq other key then Some line else None)) }
+    ensures noted { OnOk result ((other : K)
+        → get K.eq lines.new other ≡ first_of (get K.eq lines.old other)
+        (if K.eq other key then Some line else None)) }
 {
     if let Some(first) = lines.get(&key) {
         return Ok(Some(*first));

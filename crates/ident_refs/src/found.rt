@@ -17,7 +17,10 @@ pub fn add_clash(
     row: &Row,
     first: Option<u32>,
 ) -> Result<(), Memory>
-    ensures { OnOk result ((other : Option GivenRow) → first ≡ option_map (λ r. r.line) other → findings_of found.new.items ≡ findings_of found.old.items ++ clash code column (row_of row.now) other) }
+    ensures { OnOk result ((other : Option GivenRow)
+        → first ≡ option_map (λ r. r.line) other
+        → findings_of found.new.items ≡ findings_of found.old.items ++ clash code column
+        (row_of row.now) other) }
 {
     if let Some(first) = first {
         found.push(Finding {

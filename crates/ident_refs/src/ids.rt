@@ -60,7 +60,8 @@ impl<'a> Names<'a> {
 
     // The line of the first row before that place that has the identification of a row.
     fn first_before(&self, row: &Row, place: usize) -> Option<u32>
-        ensures { result ≡ option_map (λ r. r.line) (first_named (identification (row_of row.now)) (take place (rows_of self.now.rows.now))) }
+        ensures { result ≡ option_map (λ r. r.line) (first_named (identification (row_of row.now))
+            (take place (rows_of self.now.rows.now))) }
     {
         let first = self.place(identification(row)?)?;
         if first < place {
@@ -72,7 +73,8 @@ impl<'a> Names<'a> {
 
     /// Adds a finding for each row whose identification stands already in a row before it.
     pub fn add_clashes(&self, found: &mut Vec<Finding>) -> Result<(), Memory>
-        ensures { OnOk result (findings_of found.new.items ≡ findings_of found.old.items ++ tid_findings [] (rows_of self.now.rows.now)) }
+        ensures { OnOk result (findings_of found.new.items ≡ findings_of found.old.items ++
+            tid_findings [] (rows_of self.now.rows.now)) }
     {
         for (place, row) in self.rows.iter().enumerate() {
             add_clash(found, Code::Tid, 0, row, self.first_before(row, place))?;

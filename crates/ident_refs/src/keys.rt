@@ -27,7 +27,8 @@ pub fn check_keys(
     transfer: &Transfer,
 ) -> Result<Vec<Finding>, Memory>
     requires { IsValid (layout_view layout.now) }
-    ensures { IfOk result (λ found. findings_of found.items ≡ key_findings (layout_view layout.now) (transfer_of transfer.now)) }
+    ensures { IfOk result (λ found. findings_of found.items ≡ key_findings (layout_view layout.now)
+        (transfer_of transfer.now)) }
 {
     let named = NamedRows::new(alloc, &layout.codes, transfer)?;
     let mut found = Vec::new(alloc);
@@ -49,7 +50,9 @@ fn add_table(
 ) -> Result<(), Memory>
     requires few { length table.now.columns.items ≤ 4194306 }
     requires places { All (All (λ p. p < 4194306)) (places_of table.now.idents.items) }
-    ensures { OnOk result (findings_of found.new.items ≡ findings_of found.old.items ++ table_keys (codes_of named.now.codes.now) (rows_in named.now) (table_view table.now) (rows_of names.now.rows.now)) }
+    ensures { OnOk result (findings_of found.new.items ≡ findings_of found.old.items ++ table_keys
+        (codes_of named.now.codes.now) (rows_in named.now) (table_view table.now)
+        (rows_of names.now.rows.now)) }
 {
     names.add_clashes(found)?;
     add_idents(alloc, table, names.rows, named.codes, found)?;
@@ -66,7 +69,9 @@ fn add_idents(
 ) -> Result<(), Memory>
     requires few { length table.now.columns.items ≤ 4194306 }
     requires places { All (All (λ p. p < 4194306)) (places_of table.now.idents.items) }
-    ensures { OnOk result (findings_of found.new.items ≡ findings_of found.old.items ++ flat_map (λ list. ident_findings (codes_of codes.now) (table_view table.now) list [] (rows_of rows.now)) (places_of table.now.idents.items)) }
+    ensures { OnOk result (findings_of found.new.items ≡ findings_of found.old.items ++ flat_map (λ
+        list. ident_findings (codes_of codes.now) (table_view table.now) list [] (rows_of rows.now))
+        (places_of table.now.idents.items)) }
 {
     let sheet = Sheet::new(alloc, codes, table)?;
     for list in &table.idents {
@@ -83,7 +88,9 @@ fn add_references(
     found: &mut Vec<Finding>,
 ) -> Result<(), Memory>
     requires { length table.now.columns.items ≤ 4194306 }
-    ensures { OnOk result (findings_of found.new.items ≡ findings_of found.old.items ++ flat_map (row_references (codes_of named.now.codes.now) (rows_in named.now) (table_view table.now)) (rows_of rows.now)) }
+    ensures { OnOk result (findings_of found.new.items ≡ findings_of found.old.items ++ flat_map
+        (row_references (codes_of named.now.codes.now) (rows_in named.now) (table_view table.now))
+        (rows_of rows.now)) }
 {
     for row in rows {
         named.add_row(table, row, found)?;

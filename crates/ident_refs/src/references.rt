@@ -62,7 +62,8 @@ impl<'a> NamedRows<'a> {
 
     // Whether the word of a reference should name a row, and names none.
     fn is_dangling(&self, table: u32, word: &[u8]) -> bool
-        ensures { result ≡ (not (is_undefined (codes_of self.now.codes.now) word.now) && not (names_a_row word.now (slice_index_or (rows_in self.now) table []))) }
+        ensures { result ≡ (not (is_undefined (codes_of self.now.codes.now) word.now) && not
+            (names_a_row word.now (slice_index_or (rows_in self.now) table []))) }
     {
         !is_undefined(self.codes, word) && !self.has(table, word)
     }
@@ -77,7 +78,9 @@ impl<'a> NamedRows<'a> {
         found: &mut Vec<Finding>,
     ) -> Result<(), Memory>
         requires { length words.now ≡ width (form_of form.now) }
-        ensures { OnOk result (findings_of found.new.items ≡ findings_of found.old.items ++ reference_finding (codes_of self.now.codes.now) (rows_in self.now) line number (referred (form_of form.now)) words.now) }
+        ensures { OnOk result (findings_of found.new.items ≡ findings_of found.old.items ++
+            reference_finding (codes_of self.now.codes.now) (rows_in self.now) line number
+            (referred (form_of form.now)) words.now) }
     {
         match (form, words) {
             (Form::Reference(table), [word]) if self.is_dangling(*table, word.bytes()) => {
@@ -103,7 +106,9 @@ impl<'a> NamedRows<'a> {
     ) -> Result<(), Memory>
         requires few { length columns.now ≤ 4194306 }
         requires counted { length words.now ≡ widths (columns_view columns.now) }
-        ensures { OnOk result (findings_of found.new.items ≡ findings_of found.old.items ++ columns_references (codes_of self.now.codes.now) (rows_in self.now) line 1 (columns_view columns.now) words.now) }
+        ensures { OnOk result (findings_of found.new.items ≡ findings_of found.old.items ++
+            columns_references (codes_of self.now.codes.now) (rows_in self.now) line 1
+            (columns_view columns.now) words.now) }
     {
         let mut left = words;
         for (place, column) in columns.iter().enumerate() {
@@ -118,7 +123,9 @@ impl<'a> NamedRows<'a> {
     /// none.
     pub fn add_row(&self, table: &Table, row: &Row, found: &mut Vec<Finding>) -> Result<(), Memory>
         requires few { length table.now.columns.items ≤ 4194306 }
-        ensures { OnOk result (findings_of found.new.items ≡ findings_of found.old.items ++ row_references (codes_of self.now.codes.now) (rows_in self.now) (table_view table.now) (row_of row.now)) }
+        ensures { OnOk result (findings_of found.new.items ≡ findings_of found.old.items ++
+            row_references (codes_of self.now.codes.now) (rows_in self.now) (table_view table.now)
+            (row_of row.now)) }
     {
         if is_counted(table, row) {
             self.add_columns(&table.columns, row.line, &row.fields[1..], found)?;

@@ -65,7 +65,8 @@ pub struct Sheet<'a> {
 // Where the words of some columns stand, behind the identification, and where they end.
 fn spans_of<'a>(alloc: Global, columns: &'a [Column]) -> Result<(Vec<Span<'a>>, usize), Memory>
     requires { length columns.now ≤ 4194306 }
-    ensures spread { IfOk result (λ r. map span_view r.0.items ≡ spans_from 1 (columns_view columns.now)) }
+    ensures spread { IfOk result (λ r. map span_view r.0.items ≡ spans_from 1
+        (columns_view columns.now)) }
     ensures wide { IfOk result (λ r. r.1 ≡ 1 + widths (columns_view columns.now)) }
 {
     let mut spans = Vec::with_capacity(alloc, columns.len())?;
@@ -112,7 +113,9 @@ impl<'a> Sheet<'a> {
 
     // The value of the line of that number.
     fn line_at<'b>(&self, strokes: &[Stroke], number: usize) -> Result<Option<Value<'b>>, Memory>
-        ensures { IfOk result (λ value. option_map value_view value ≡ slice_index_or (lines_values (role_view self.now.table.now.role) (map line_of self.now.table.now.lines.items) (strokes_of strokes.now)) number None) }
+        ensures { IfOk result (λ value. option_map value_view value ≡ slice_index_or (lines_values
+            (role_view self.now.table.now.role) (map line_of self.now.table.now.lines.items)
+            (strokes_of strokes.now)) number None) }
     {
         let Some(form) = self.table.lines.get(number) else {
             return Ok(None);
@@ -126,7 +129,9 @@ impl<'a> Sheet<'a> {
     // The value at a place: that of a column, or that of a line behind the columns.
     fn value_at<'b>(&self, row: &'b Row, place: usize) -> Result<Option<Value<'b>>, Memory>
         requires { IsTrue (is_counted (table_view self.now.table.now) (row_of row.now)) }
-        ensures { IfOk result (λ value. option_map value_view value ≡ slice_index_or (row_values (codes_of self.now.codes.now) (table_view self.now.table.now) (row_of row.now)) place None) }
+        ensures { IfOk result (λ value. option_map value_view value ≡ slice_index_or (row_values
+            (codes_of self.now.codes.now) (table_view self.now.table.now) (row_of row.now)) place
+            None) }
     {
         match self.spans.get(place) {
             Some(span) => Ok(form_value(span.form, self.codes, span.words(&row.fields))),
@@ -136,7 +141,9 @@ impl<'a> Sheet<'a> {
 
     // What a row demands by a list: that no other row has these values.
     fn demand<'b>(&self, places: &[u32], row: &'b Row) -> Result<Option<Demand<'b>>, Memory>
-        ensures { IfOk result (λ demanded. option_map demand_view demanded ≡ demand (codes_of self.now.codes.now) (table_view self.now.table.now) places.now (row_of row.now)) }
+        ensures { IfOk result (λ demanded. option_map demand_view demanded ≡ demand
+            (codes_of self.now.codes.now) (table_view self.now.table.now) places.now
+            (row_of row.now)) }
     {
         if row.fields.len() != self.fields {
             return Ok(None);
@@ -160,8 +167,17 @@ impl<'a> Sheet<'a> {
         lines: &mut IndexMap<Demand<'b>, u32>,
         found: &mut Vec<Finding>,
     ) -> Result<(), Memory>
-        ensures noted { OnOk result ((before : List GivenRow) → Notes (codes_of self.now.codes.now) (table_view self.now.table.now) places.now before lines.old → Notes (codes_of self.now.codes.now) (table_view self.now.table.now) places.now (before ++ row_of row.now ∷ []) lines.new) }
-        ensures told { OnOk result ((before : List GivenRow) → Notes (codes_of self.now.codes.now) (table_view self.now.table.now) places.now before lines.old → findings_of found.new.items ≡ findings_of found.old.items ++ clash Ident column (row_of row.now) (first_such (λ other. is_same_demand (demand (codes_of self.now.codes.now) (table_view self.now.table.now) places.now (row_of row.now)) (demand (codes_of self.now.codes.now) (table_view self.now.table.now) places.now other)) before)) }
+        ensures noted { OnOk result ((before : List GivenRow)
+            → Notes (codes_of self.now.codes.now) (table_view self.now.table.now) places.now before
+            lines.old → Notes (codes_of self.now.codes.now) (table_view self.now.table.now)
+            places.now (before ++ row_of row.now ∷ []) lines.new) }
+        ensures told { OnOk result ((before : List GivenRow)
+            → Notes (codes_of self.now.codes.now) (table_view self.now.table.now) places.now before
+            lines.old → findings_of found.new.items ≡ findings_of found.old.items ++ clash Ident
+            column (row_of row.now) (first_such (λ other. is_same_demand (demand
+            (codes_of self.now.codes.now) (table_view self.now.table.now) places.now
+            (row_of row.now)) (demand (codes_of self.now.codes.now) (table_view self.now.table.now)
+            places.now other)) before)) }
     {
         match self.demand(places, row)? {
             Some(demand) => {
@@ -180,7 +196,9 @@ impl<'a> Sheet<'a> {
         found: &mut Vec<Finding>,
     ) -> Result<(), Memory>
         requires { All (λ p. p < 4194306) places.now }
-        ensures { OnOk result (findings_of found.new.items ≡ findings_of found.old.items ++ ident_findings (codes_of self.now.codes.now) (table_view self.now.table.now) places.now [] (rows_of rows.now)) }
+        ensures { OnOk result (findings_of found.new.items ≡ findings_of found.old.items ++
+            ident_findings (codes_of self.now.codes.now) (table_view self.now.table.now) places.now
+            [] (rows_of rows.now)) }
     {
         let column = column_of(places);
         let mut lines = IndexMap::new(self.alloc);

@@ -46,7 +46,8 @@ fn first_word(words: &[Field]) -> &[u8]
 /// The value of a column by its form, none where it is undefined or has a finding.
 pub fn form_value<'a>(form: &Form, codes: &Codes, words: &'a [Field]) -> Option<Value<'a>>
     requires { length words.now ≡ width (form_of form.now) }
-    ensures { option_map value_view result ≡ form_value (codes_of codes.now) (form_of form.now) words.now }
+    ensures { option_map value_view result ≡ form_value (codes_of codes.now) (form_of form.now)
+        words.now }
 {
     match read_column(form, codes, words) {
         Ok(value) => Some(value_of(value, words)),
@@ -84,8 +85,10 @@ fn corners_of(
     form: &LineForm,
     vertices: &[Vertex],
 ) -> Result<Vec<Corner>, Memory>
-    requires { IsTrue (is_sound_stroke (role_view role) (line_of form.now) (vertices_of vertices.now)) }
-    ensures { IfOk result (λ corners. map corner_view corners.items ≡ map (corner_of (line_of form.now)) (vertices_of vertices.now)) }
+    requires { IsTrue (is_sound_stroke (role_view role) (line_of form.now)
+        (vertices_of vertices.now)) }
+    ensures { IfOk result (λ corners. map corner_view corners.items ≡ map
+        (corner_of (line_of form.now)) (vertices_of vertices.now)) }
 {
     let mut corners = Vec::with_capacity(alloc, vertices.len())?;
     for vertex in vertices {
@@ -101,7 +104,8 @@ pub fn line_value<'a>(
     form: &LineForm,
     vertices: &[Vertex],
 ) -> Result<Option<Value<'a>>, Memory>
-    ensures { IfOk result (λ value. option_map value_view value ≡ line_value (role_view role) (line_of form.now) (vertices_of vertices.now)) }
+    ensures { IfOk result (λ value. option_map value_view value ≡ line_value (role_view role)
+        (line_of form.now) (vertices_of vertices.now)) }
 {
     if vertices.is_empty() || !is_sound_line(alloc, role, form, vertices)? {
         return Ok(None);
