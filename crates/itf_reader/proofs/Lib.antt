@@ -17,3 +17,4 @@ pub mod Stands
 pub mod RowLaws
 pub mod HeldRows
 pub mod ByTable
+pub mod Twice

@@ -15,3 +15,4 @@ pub mod Runs
 pub mod Directories
 pub mod RowForms
 pub mod ClosedRows
+pub mod CameBefore
