@@ -1,5 +1,5 @@
 -- How many physical lines there are.
-use Rattle.std.proofs.Common.{◌≡◌, ◌≤◌, ℕ, zero, suc, List, [], ◌∷◌, length, map, drop, arith, ap, ◌∙◌}
+use Rattle.std.proofs.Common.{◌≤◌, ℕ, zero, suc, List, [], ◌∷◌, length, drop, arith}
 use Rattle.std.proofs.lemmas.List.{length-map}
 use Rattle.bstr.specs.Text.{lines_from, lines_of, line_len, without_terminator}
 use Rattle.itf_lines.specs.Fields.{physical_lines}

@@ -1,14 +1,13 @@
 -- The numbers of logical lines rise.
-use Rattle.std.proofs.Common.{◌≡◌, ◌≤◌, ◌<◌, ◌+◌, ℕ, suc, Bool, true, false, List, [], ◌∷◌, ◌++◌, length, refl, ap, sym, ◌∙◌, subst, arith, if◌then◌else◌, Some, None, Option}
+use Rattle.std.proofs.Common.{◌≡◌, ◌≤◌, ◌<◌, ◌+◌, ℕ, suc, Bool, true, false, List, [], ◌∷◌, ◌++◌, length, refl, ◌∙◌, subst, arith, if◌then◌else◌, Some, None, Option}
 use Rattle.itf_lines.specs.declared.word.LineWord.{LineWord}
-use Rattle.itf_lines.specs.declared.logical.LineFault.{LineFault}
 use Rattle.itf_lines.specs.declared.logical.LineFault.TheVariants.{OpenContinue, StrayCont}
 use Rattle.itf_lines.specs.Fields.{fields, physical_lines}
 use Rattle.itf_lines.specs.LogicalLines.{LogicalLine, LogicalLines, logical, is_slashes, is_cont, further, without_code, goes_on, head_line}
 use Rattle.itf_lines.specs.Places.{Held, Place, in_the_head, between, waiting, broken}
-use Rattle.itf_lines.specs.Pass.{nothing, with_field, with_fields, line_held, whole, settled, breaks, begun, gone_on, step, pass}
+use Rattle.itf_lines.specs.Pass.{nothing, with_field, with_fields, whole, settled, breaks, pass}
 use Rattle.itf_lines.specs.FeedStates.{FeedState, opening}
-use Rattle.itf_lines.specs.Feeds.{Reads, lines_from_state, with_lines}
+use Rattle.itf_lines.specs.Feeds.{Reads, lines_from_state}
 use Rattle.itf_lines.specs.Rising.{Rise, AreAtMost}
 use Rattle.itf_lines.proofs.FeedLaws.{opening_is}
 

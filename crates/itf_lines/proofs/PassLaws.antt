@@ -4,10 +4,10 @@ use Rattle.std.proofs.lemmas.List.{append_assoc, append-nil}
 use Rattle.std.specs.List.{flat_map}
 use Rattle.itf_lines.specs.declared.logical.LineFault.{LineFault}
 use Rattle.itf_lines.specs.declared.logical.LineFault.TheVariants.{OpenContinue, StrayCont}
-use Rattle.itf_lines.specs.LogicalLines.{Piece, LogicalLine, is_cont, further, fault_of, line_of, line_with, logical, logical_of, groups, join, sound, first_fault, pieces, head, body, head_line, head_lines, is_slashes, without_code, goes_on}
-use Rattle.itf_lines.specs.Fields.{fields, physical_lines}
+use Rattle.itf_lines.specs.LogicalLines.{Piece, LogicalLine, is_cont, further, fault_of, line_of, line_with, logical_of, groups, join, sound, first_fault, pieces, head, body, head_line, head_lines, is_slashes, without_code, goes_on}
+use Rattle.itf_lines.specs.Fields.{fields}
 use Rattle.itf_lines.specs.Places.{Held, Place, in_the_head, between, waiting, broken}
-use Rattle.itf_lines.specs.Pass.{Step, Rest, nothing, with_fields, line_held, settled, breaks, behind, pass, fault_at}
+use Rattle.itf_lines.specs.Pass.{Step, Rest, nothing, with_fields, line_held, settled, breaks, behind, pass}
 use Rattle.itf_lines.proofs.Gathering.{gathered_line}
 use Rattle.itf_lines.proofs.OpenGroups.{Opens, piece_at, opened, opened_more, open_end, open_broken, open_closed, open_line}
 

@@ -45,7 +45,7 @@ impl Model for LineFeed {
     ghost invariant = { λ feed. (feed.ended < 4294967295) × (has_no_lf feed.begun.items ≡ true) };
 }
 
-// Adds a copy of the line that takes its fields away, in a vector without further room, since a
+// Moves the line to the end of `into`, with its fields in a vector without further room, since a
 // transfer has millions of lines.
 fn add_line(alloc: Global, line: &mut Line, into: &mut Vec<Line>) -> Result<(), Memory>
     ensures added { OnOk result
@@ -170,13 +170,9 @@ impl LineFeed {
         if self.failed {
             return Err(Memory);
         }
-        match self.next_line(piece, line) {
-            Ok(found) => Ok(found),
-            Err(memory) => {
-                self.failed = true;
-                Err(memory)
-            }
-        }
+        let found = self.next_line(piece, line);
+        self.failed = found.is_err();
+        found
     }
 
     // Adds the logical lines of a piece, by a feed that did not fail.
@@ -223,13 +219,9 @@ impl LineFeed {
         if self.failed {
             return Err(Memory);
         }
-        match self.feed_lines(piece, into) {
-            Ok(()) => Ok(()),
-            Err(memory) => {
-                self.failed = true;
-                Err(memory)
-            }
-        }
+        let added = self.feed_lines(piece, into);
+        self.failed = added.is_err();
+        added
     }
 
     /// The text ends here: fills `line` with the logical line that is whole by its last bytes,

@@ -1,14 +1,14 @@
 -- The rows of a text, sorted by their tables.
-use Rattle.std.proofs.Common.{◌≡◌, ◌≤◌, ◌<◌, ◌+◌, ℕ, suc, Bool, true, false, cond, ◌&&◌, List, [], ◌∷◌, ◌++◌, map, Option, Some, None, Ok, refl, ap, sym, subst, ◌∙◌, arith, if◌then◌else◌, nat_eq}
+use Rattle.std.proofs.Common.{◌≡◌, ◌≤◌, ◌<◌, ◌+◌, ℕ, Bool, true, false, cond, ◌&&◌, List, [], ◌∷◌, ◌++◌, map, Option, Some, None, refl, ap, sym, subst, ◌∙◌, arith, if◌then◌else◌, nat_eq}
 use Rattle.std.proofs.lemmas.List.{append-nil}
 use Rattle.std.proofs.lemmas.Bool.{eqb-true, eqb-false, ne_eqb, eq-eqb}
 use Rattle.itf_lines.specs.LogicalLines.{LogicalLine}
-use Rattle.itf_reader.specs.Forms.{Table, Form, Row, TableRows, TopicRows, names, table_named, topic_named, table_came, topic_came, rows_in, rows_from, tables_of, placed}
+use Rattle.itf_reader.specs.Forms.{Table, Form, Row, TableRows, TopicRows, names, table_named, table_came, topic_came, rows_in, rows_from, tables_of}
 use Rattle.itf_reader.specs.TransferText.{IsTables, no_table, more_tables, IsTopics, no_topic, more_topics, IsText, text, TransferText}
 use Rattle.itf_reader.specs.ClosedRows.{closed_rows, of_table, by_table_from, by_table}
 use Rattle.itf_reader.proofs.Counted.{table_more, topic_more}
 use Rattle.itf_reader.proofs.Drive.{text_drive}
-use Rattle.itf_reader.proofs.HeldRows.{pairs, all_pairs, closed_whole}
+use Rattle.itf_reader.proofs.HeldRows.{all_pairs, closed_whole}
 
 -- no table has that number
 abbrev Without : ℕ → List TableRows → Type 0

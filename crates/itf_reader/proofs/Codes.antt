@@ -126,7 +126,7 @@ stands_only f front s w h (more, others, n, fs, b) =
     may (widened f more others) s t.0 w n fs t.1
 
 -- ---- the open topic
-abbrev Opens : Option ℕ → State → Type 0
+abbrev pub Opens : Option ℕ → State → Type 0
 Opens topic (tables o) = topic ≡ Some o.number
 Opens topic (objects t) = topic ≡ Some (t.inside).number
 Opens topic (strokes r) = topic ≡ Some ((r.inside).inside).number
@@ -181,7 +181,7 @@ opens_on : (f : Form) (topic : Option ℕ) (s t : State) (l : LogicalLine) (ls :
 opens_on f topic s t l ls (Ok u) e h o rest = rest u h (step_opens f topic s u l.word l.number l.fields e o)
 opens_on f topic s t l ls (Err c) e h o rest = absurd cc
 
-run_opens : (f : Form) (topic : Option ℕ) (s t : State) (ls : List LogicalLine) → run f s ls ≡ Ok t → Opens topic s → Opens (open_topic f topic ls) t
+pub run_opens : (f : Form) (topic : Option ℕ) (s t : State) (ls : List LogicalLine) → run f s ls ≡ Ok t → Opens topic s → Opens (open_topic f topic ls) t
 run_opens f topic s t [] h o = lands topic s t h o
 run_opens f topic s t (l ∷ ls) h o = opens_on f topic s t l ls (step f s l) refl h o (λ u k p. run_opens f (opened f topic l.word l.fields) u t ls k p)
 

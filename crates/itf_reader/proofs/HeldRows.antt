@@ -1,11 +1,11 @@
 -- The rows that a machine holds are those that the lines before closed.
-use Rattle.std.proofs.Common.{◌≡◌, ℕ, Bool, true, false, List, [], ◌∷◌, ◌++◌, map, flat_map, Option, Some, None, Result, Ok, Err, refl, ap, sym, ◌∙◌, if◌then◌else◌}
+use Rattle.std.proofs.Common.{◌≡◌, ℕ, Bool, true, false, List, [], ◌∷◌, ◌++◌, map, Option, Some, None, Result, Ok, Err, refl, ap, sym, ◌∙◌, if◌then◌else◌}
 use Rattle.std.proofs.lemmas.List.{append_assoc, append-nil, map-append}
 use Rattle.itf_lines.specs.declared.word.LineWord.{LineWord}
 use Rattle.itf_lines.specs.declared.word.LineWord.TheVariants.{Scnt, Slashes, Mtid, Modl, Topi, Tabl, Obje, Stpt, Lipt, Arcp, Elin, Etab, Etop, Emod, Ende}
 use Rattle.itf_lines.specs.LogicalLines.{LogicalLine}
-use Rattle.itf_reader.specs.Forms.{Table, Form, Start, Straight, OnArc, Vertex, vertex, Row, TableRows, TopicRows, names, table_named, topic_named, table_came, topic_came, tables_of}
-use Rattle.itf_reader.specs.Machine.{InTopic, InTable, InRow, State, start, free, title, model, topics, tables, objects, strokes, vertices, arc, last, done, Code, Name, Twice, Word, closed_topic, closed_table, closed_row, opened_row, named_topic, named_table, opened_table, opened_topic, more_of, has_room, by_word, step, then_run, run}
+use Rattle.itf_reader.specs.Forms.{Table, Form, Start, Straight, OnArc, vertex, Row, TableRows, TopicRows, names, table_named, topic_named, table_came, topic_came, tables_of}
+use Rattle.itf_reader.specs.Machine.{InTopic, InTable, InRow, State, start, free, title, model, topics, tables, objects, strokes, vertices, arc, last, done, Code, Name, Twice, Word, closed_topic, closed_table, closed_row, opened_row, named_topic, named_table, has_room, by_word, step, then_run, run}
 use Rattle.itf_reader.specs.ClosedRows.{row_closed, closes, closed_behind, closed_from}
 
 -- the rows of a table that came, each with its number

@@ -17,6 +17,7 @@ pub mod Refused
 pub mod RowLaws
 pub mod Sorting
 pub mod Stands
+pub mod Twice
 pub mod VertexLaws
 pub mod Wider
 pub mod Zipped

@@ -1,10 +1,10 @@
 -- What every row of a transfer meets.
-use Rattle.std.proofs.Common.{◌≡◌, ◌≤◌, ◌<◌, ◌+◌, ◌-◌, ℕ, suc, Bool, true, false, List, [], ◌∷◌, ◌++◌, length, All, Option, Some, None, refl, ap, sym, subst, ◌∙◌, arith, if◌then◌else◌, nat_eq, ◌&&◌, replicate}
+use Rattle.std.proofs.Common.{◌≡◌, ◌≤◌, ◌<◌, ◌+◌, ◌-◌, ℕ, Bool, true, false, List, [], ◌∷◌, length, All, Option, Some, None, refl, ap, sym, subst, arith, if◌then◌else◌, nat_eq, ◌&&◌, replicate}
 use Rattle.std.proofs.lemmas.List.{length-append, length-replicate}
 use Rattle.std.proofs.lemmas.List.Elements.{All-append, All-replicate, All-nil, All-cons, All-head, All-tail}
 use Rattle.std.proofs.lemmas.Bool.{eqb-true}
 use Rattle.itf_lines.specs.LogicalLines.{LogicalLine}
-use Rattle.itf_reader.specs.Forms.{Table, Form, Vertex, Row, TableRows, TopicRows, names, table_named, filled, rows_in, rows_from, tables_of, placed}
+use Rattle.itf_reader.specs.Forms.{Table, Form, Vertex, Row, TableRows, TopicRows, names, table_named, filled, rows_in, rows_from, tables_of}
 use Rattle.itf_reader.specs.TransferText.{IsVertices, no_vertex, straight_vertex, arc_vertex, IsStroke, undefined_stroke, defined_stroke, IsStrokes, no_stroke, more_strokes, IsObjects, no_object, more_objects, IsTables, no_table, more_tables, IsTopics, no_topic, more_topics, IsText, text, TransferText}
 use Rattle.itf_reader.specs.RowForms.{GoesOn, HasStrokeForm, IsCounted, HasForm, EachRow}
 use Rattle.itf_reader.specs.RowForms as form

@@ -1,3 +1,4 @@
+pub mod CameBefore
 pub mod ClosedRows
 pub mod Codes
 pub mod Directories

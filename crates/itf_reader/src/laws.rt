@@ -3,8 +3,9 @@ ghost use Rattle.std.specs.Prelude.{◌≡◌, List, ℕ, Ok, Err, ◌++◌, ◌
 ghost use Rattle.itf_lines.specs.LogicalLines.{LogicalLine, LogicalLines};
 ghost use Rattle.itf_reader.specs.Forms.{Form, Row, TopicRows};
 ghost use Rattle.itf_reader.specs.TransferText.{IsText, TransferText, Begins, IsFaultAt};
-ghost use Rattle.itf_reader.specs.Machine.{State, start, done, Code, run, step};
+ghost use Rattle.itf_reader.specs.Machine.{State, start, done, Code, Twice, run, step};
 ghost use Rattle.itf_reader.specs.Codes.{HasCode};
+ghost use Rattle.itf_reader.specs.CameBefore.{CameBefore};
 ghost use Rattle.itf_reader.specs.ClosedRows.{by_table, closed_rows};
 ghost use Rattle.itf_reader.specs.RowForms.{EachRow, IsCounted, HasForm};
 ghost use Rattle.itf_reader.specs.Readings.{Structure, IsRead, IsRefused, HasAnswer};
@@ -57,4 +58,12 @@ pub fn rows_by_table()
     ensures { (form : Form) (lines : List LogicalLine) (transfer : List (List Row))
         → TransferText form lines transfer
         → transfer ≡ by_table form (closed_rows form lines) }
+{}
+
+/// A line with the code `twice` names a topic that a line TOPI behind the head named before, or a
+/// table that a line TABL named since the last line TOPI.
+pub fn twice_came()
+    ensures { (form : Form) (front : List LogicalLine) (l : LogicalLine)
+        → IsFaultAt form front l → HasCode form front l Twice
+        → CameBefore form front l.word l.fields }
 {}

@@ -14,6 +14,9 @@
 //!   (`one_answer`). What a code means is said of the lines alone (`HasCode`): whether a line of
 //!   that word may stand there at all is asked with names put aside, of the form with further
 //!   topics and tables, so that a line TOPI is no wrong word where every topic came.
+//! - **Rows.** Each row has as many strokes as its table has lines (`strokes_counted`), and the
+//!   rows that lines close one after another are those of the transfer (`rows_by_table`). A line
+//!   with the code `twice` names what an earlier line named (`twice_came`).
 //! - **Reading.** `read_transfer` takes the lines of a text one after another, by the names of a
 //!   layout, and keeps what is open between two of them. It gives the rows of each table in the
 //!   order of the layout, none for a table that did not come, each row with as many strokes as
@@ -67,7 +70,7 @@ pub use counting::is_counted;
 pub use findings::{Code, Finding, Other};
 pub use laws::{
     machine_begins, machine_reads, machine_stops, one_answer, one_transfer, rows_by_table,
-    strokes_counted,
+    strokes_counted, twice_came,
 };
 pub use order::sort_findings;
 pub use reading::read_transfer;

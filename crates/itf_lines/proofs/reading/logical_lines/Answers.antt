@@ -1,6 +1,6 @@
-use Rattle.std.proofs.Common.{rules, ◌≡◌, ◌≤◌, length, [], arith, ap, subst, ℕ, List}
-use Rattle.itf_lines.specs.LogicalLines.{LogicalLine, LogicalLines, logical}
-use Rattle.itf_lines.specs.Views.{lines_seen, seen}
+use Rattle.std.proofs.Common.{[], arith, ap, subst, List}
+use Rattle.itf_lines.specs.LogicalLines.{LogicalLine, LogicalLines}
+use Rattle.itf_lines.specs.Views.{lines_seen}
 use Rattle.itf_lines.specs.FeedStates.{FeedState, opening}
 use Rattle.itf_lines.specs.Feeds.{Adds}
 use Rattle.itf_lines.proofs.Counts.{few_lines}

@@ -1,4 +1,4 @@
-use Rattle.std.proofs.Common.{◌≡◌, ◌-◌, ◌≤◌, false, length}
+use Rattle.std.proofs.Common.{◌-◌, ◌≤◌, length}
 use Rattle.itf_lines.proofs.tests.in_pieces.Given as goal
 
 abbrev pub invariant-loop-at : goal.invariant-loop-at

@@ -1,4 +1,4 @@
-use Rattle.std.proofs.Common.{rules, ◌≡◌, ◌+◌, ◌-◌, length, drop, refl}
+use Rattle.std.proofs.Common.{rules, drop, refl}
 use Rattle.itf_lines.specs.Views.{line_seen, lines_seen}
 use Rattle.itf_lines.proofs.FeedLaws.{adds_more, adds_last, adds_front, further_on, none_is}
 use Rattle.itf_lines.proofs.feed.LineFeed.feed_lines.Goals as goal

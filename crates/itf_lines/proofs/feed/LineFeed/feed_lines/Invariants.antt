@@ -1,4 +1,4 @@
-use Rattle.std.proofs.Common.{◌≡◌, ◌+◌, ◌-◌, ◌≤◌, false, [], length, drop}
+use Rattle.std.proofs.Common.{◌+◌, ◌-◌, ◌≤◌, length, drop}
 use Rattle.itf_lines.specs.Views.{lines_seen}
 use Rattle.itf_lines.specs.Feeds.{Adds}
 use Rattle.itf_lines.proofs.feed.LineFeed.feed_lines.Given as goal

@@ -1,5 +1,3 @@
-use Rattle.std.proofs.Common.{rules, ◌≡◌, true}
-use Rattle.itf_lines.specs.FeedStates.{has_no_lf}
 use Rattle.itf_lines.proofs.LineCuts.{no_lf-append}
 use Rattle.itf_lines.proofs.feed.LineFeed.keep.Goals as goal
 

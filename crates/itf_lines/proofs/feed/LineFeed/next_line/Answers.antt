@@ -1,8 +1,8 @@
-use Rattle.std.proofs.Common.{rules, ◌≡◌, ◌+◌, ◌-◌, [], take, drop, true, false, Bool, subst, ◌∙◌, arith}
+use Rattle.std.proofs.Common.{◌+◌, ◌-◌, [], take, drop, true, false, Bool, subst, ◌∙◌, arith}
 use Rattle.itf_lines.specs.Views.{line_seen}
 use Rattle.itf_lines.specs.Feeds.{line_if, Reads}
 use Rattle.itf_lines.proofs.LineCuts.{found_from, found_within, none_from}
-use Rattle.itf_lines.proofs.FeedLaws.{reads_next, reads_last}
+use Rattle.itf_lines.proofs.FeedLaws.{reads_next}
 use Rattle.itf_lines.proofs.feed.LineFeed.next_line.Goals as goal
 
 pub take_ended-requires-clause-ended : goal.take_ended-requires-clause-ended

@@ -1,4 +1,4 @@
-use Rattle.std.proofs.Common.{◌≡◌, ◌+◌, ◌-◌, ◌≤◌, false, [], length, drop}
+use Rattle.std.proofs.Common.{◌≡◌, ◌+◌, ◌-◌, ◌≤◌, [], length, drop}
 use Rattle.itf_lines.specs.Feeds.{Reads}
 use Rattle.itf_lines.proofs.feed.LineFeed.next_line.Given as goal
 
