@@ -26,7 +26,8 @@ pub struct Directory<'a> {
 
 // The number of each topic.
 fn topic_numbers<'a>(alloc: Global, topics: &'a [Name]) -> Result<IndexMap<Key<'a>, usize>, Memory>
-    ensures { IfOk result (λ numbers. (name : List ℕ) → get (pointwise nat_eq) numbers name ≡ topic_named 0 (name ∷ []) topics.now) }
+    ensures { IfOk result (λ numbers. (name : List ℕ)
+        → get (pointwise nat_eq) numbers name ≡ topic_named 0 (name ∷ []) topics.now) }
 {
     let mut numbers = IndexMap::new(alloc);
     for number in (0..topics.len()).rev() {
@@ -41,7 +42,9 @@ fn table_numbers<'a>(
     tables: &'a [Table],
 ) -> Result<IndexMap<(usize, Key<'a>), (u32, usize)>, Memory>
     requires { length tables.now ≤ 4194304 }
-    ensures { IfOk result (λ numbers. (topic : ℕ) (name : List ℕ) → get same_key numbers (topic, name) ≡ lines_found (table_named 0 topic (name ∷ []) (map wanted_of (tables_view tables.now)))) }
+    ensures { IfOk result (λ numbers. (topic : ℕ) (name : List ℕ)
+        → get same_key numbers (topic, name) ≡ lines_found
+        (table_named 0 topic (name ∷ []) (map wanted_of (tables_view tables.now)))) }
 {
     let mut numbers = IndexMap::new(alloc);
     for number in (0..tables.len()).rev() {

@@ -23,7 +23,8 @@ fn open_topic(
     came: CameTopics,
     fields: &[Field],
 ) -> Result<Place, Stopped>
-    ensures { Stands result (named_topic (came_topics came.list.items) (topic_named 0 fields.now (form_in directory.now).topics)) }
+    ensures { Stands result (named_topic (came_topics came.list.items)
+        (topic_named 0 fields.now (form_in directory.now).topics)) }
 {
     let Some(number) = directory.find_topic(fields) else {
         return Err(Stopped::At(Structure::Name));
@@ -45,7 +46,8 @@ fn open_table(
     inside: OpenTopic,
     fields: &[Field],
 ) -> Result<Place, Stopped>
-    ensures { Stands result (named_table (topic_of inside) (table_named 0 inside.number fields.now (form_in directory.now).tables)) }
+    ensures { Stands result (named_table (topic_of inside)
+        (table_named 0 inside.number fields.now (form_in directory.now).tables)) }
 {
     let Some((number, lines)) = directory.find_table(inside.number, fields) else {
         return Err(Stopped::At(Structure::Name));
@@ -69,7 +71,8 @@ pub fn between_topics(
     came: CameTopics,
     line: &Line,
 ) -> Result<Place, Stopped>
-    ensures { Stands result (by_word (form_in directory.now) (topics (came_topics came.list.items)) line.now.word line.now.number line.now.fields.items) }
+    ensures { Stands result (by_word (form_in directory.now) (topics (came_topics came.list.items))
+        line.now.word line.now.number line.now.fields.items) }
 {
     match line.word {
         LineWord::Topi => open_topic(alloc, directory, came, &line.fields),
@@ -85,7 +88,8 @@ pub fn between_tables(
     inside: OpenTopic,
     line: &Line,
 ) -> Result<Place, Stopped>
-    ensures { Stands result (by_word (form_in directory.now) (tables (topic_of inside)) line.now.word line.now.number line.now.fields.items) }
+    ensures { Stands result (by_word (form_in directory.now) (tables (topic_of inside))
+        line.now.word line.now.number line.now.fields.items) }
 {
     match line.word {
         LineWord::Tabl => open_table(alloc, directory, inside, &line.fields),
@@ -99,7 +103,8 @@ pub fn between_tables(
 
 /// Behind MTID.
 pub fn behind_title(alloc: Global, directory: &Directory, line: &Line) -> Result<Place, Stopped>
-    ensures { Stands result (by_word (form_in directory.now) model line.now.word line.now.number line.now.fields.items) }
+    ensures { Stands result (by_word (form_in directory.now) model line.now.word line.now.number
+        line.now.fields.items) }
 {
     match line.word {
         LineWord::Modl => {
@@ -115,7 +120,8 @@ pub fn behind_title(alloc: Global, directory: &Directory, line: &Line) -> Result
 
 /// The first line.
 pub fn at_start(line: &Line) -> Result<Place, Stopped>
-    ensures { (form : Form) → Stands result (by_word form start line.now.word line.now.number line.now.fields.items) }
+    ensures { (form : Form) → Stands result (by_word form start line.now.word line.now.number
+        line.now.fields.items) }
 {
     match line.word {
         LineWord::Scnt => Ok(Place::Free),
@@ -125,7 +131,8 @@ pub fn at_start(line: &Line) -> Result<Place, Stopped>
 
 /// Behind the line of four slashes.
 pub fn behind_slashes(line: &Line) -> Result<Place, Stopped>
-    ensures { (form : Form) → Stands result (by_word form title line.now.word line.now.number line.now.fields.items) }
+    ensures { (form : Form) → Stands result (by_word form title line.now.word line.now.number
+        line.now.fields.items) }
 {
     match line.word {
         LineWord::Mtid => Ok(Place::Model),
@@ -135,7 +142,8 @@ pub fn behind_slashes(line: &Line) -> Result<Place, Stopped>
 
 /// Between the first line and that of four slashes.
 pub fn in_head(line: &Line) -> Place
-    ensures { (form : Form) → by_word form free line.now.word line.now.number line.now.fields.items ≡ Ok (state_of result) }
+    ensures { (form : Form) → by_word form free line.now.word line.now.number line.now.fields.items
+        ≡ Ok (state_of result) }
 {
     match line.word {
         LineWord::Slashes => Place::Title,
@@ -145,7 +153,8 @@ pub fn in_head(line: &Line) -> Place
 
 /// Behind EMOD.
 pub fn behind_model(came: CameTopics, line: &Line) -> Result<Place, Stopped>
-    ensures { (form : Form) → Stands result (by_word form (last (came_topics came.list.items)) line.now.word line.now.number line.now.fields.items) }
+    ensures { (form : Form) → Stands result (by_word form (last (came_topics came.list.items))
+        line.now.word line.now.number line.now.fields.items) }
 {
     match line.word {
         LineWord::Ende => Ok(Place::Done(came)),

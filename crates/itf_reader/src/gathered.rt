@@ -41,7 +41,8 @@ impl CameTables {
 
     /// With one more table.
     pub fn with(self, table: CameTable) -> Result<CameTables, Memory>
-        ensures { IfOk result (λ new. came_tables new.list.items ≡ came_tables self.list.items ++ came_table table ∷ []) }
+        ensures { IfOk result (λ new. came_tables new.list.items ≡ came_tables self.list.items ++
+            came_table table ∷ []) }
     {
         let mut list = self.list;
         let mut numbers = self.numbers;
@@ -83,7 +84,8 @@ impl CameTopics {
 
     /// With one more topic.
     pub fn with(self, topic: CameTopic) -> Result<CameTopics, Memory>
-        ensures { IfOk result (λ new. came_topics new.list.items ≡ came_topics self.list.items ++ came_topic topic ∷ []) }
+        ensures { IfOk result (λ new. came_topics new.list.items ≡ came_topics self.list.items ++
+            came_topic topic ∷ []) }
     {
         let mut list = self.list;
         let mut numbers = self.numbers;

@@ -12,34 +12,50 @@ ghost use Rattle.itf_reader.specs.Readings.{Structure, IsRead, IsRefused, HasAns
 
 /// Some lines are the text of at most one transfer.
 pub fn one_transfer()
-    ensures { (form : Form) (lines : List LogicalLine) (a b : List (List Row)) → TransferText form lines a → TransferText form lines b → a ≡ b }
+    ensures { (form : Form) (lines : List LogicalLine) (a b : List (List Row))
+        → TransferText form lines a → TransferText form lines b
+        → a ≡ b }
 {}
 
 /// A machine that takes line after line comes to its end with a text's topics exactly where the
 /// lines are that text.
 pub fn machine_reads()
-    ensures reads { (form : Form) (lines : List LogicalLine) (ts : List TopicRows) → IsText form ts lines → run form start lines ≡ Ok (done ts) }
-    ensures only { (form : Form) (lines : List LogicalLine) (ts : List TopicRows) → run form start lines ≡ Ok (done ts) → IsText form ts lines }
+    ensures reads { (form : Form) (lines : List LogicalLine) (ts : List TopicRows)
+        → IsText form ts lines → run form start lines ≡ Ok (done ts) }
+    ensures only { (form : Form) (lines : List LogicalLine) (ts : List TopicRows)
+        → run form start lines ≡ Ok (done ts)
+        → IsText form ts lines }
 {}
 
 /// It takes some lines exactly where they begin a text: what it takes can be carried on to one,
 /// and what it refuses cannot.
 pub fn machine_begins()
-    ensures taken { (form : Form) (lines : List LogicalLine) (s : State) → run form start lines ≡ Ok s → Begins form lines }
-    ensures refused { (form : Form) (lines : List LogicalLine) (c : Code) → run form start lines ≡ Err c → Begins form lines → ⊥ }
+    ensures taken { (form : Form) (lines : List LogicalLine) (s : State)
+        → run form start lines ≡ Ok s → Begins form lines }
+    ensures refused { (form : Form) (lines : List LogicalLine) (c : Code)
+        → run form start lines ≡ Err c → Begins form lines
+        → ⊥ }
 {}
 
 /// So the line at which it stops is the line at fault, and its code is the first that fits.
 pub fn machine_stops()
-    ensures fault { (form : Form) (front : List LogicalLine) (l : LogicalLine) (s : State) (c : Code) → run form start front ≡ Ok s → step form s l ≡ Err c → IsFaultAt form front l }
-    ensures code { (form : Form) (front : List LogicalLine) (l : LogicalLine) (s : State) (c : Code) → run form start front ≡ Ok s → step form s l ≡ Err c → HasCode form front l c }
+    ensures fault { (form : Form) (front : List LogicalLine) (l : LogicalLine) (s : State)
+        (c : Code) → run form start front ≡ Ok s
+        → step form s l ≡ Err c → IsFaultAt form front l }
+    ensures code { (form : Form) (front : List LogicalLine) (l : LogicalLine) (s : State) (c : Code)
+        → run form start front ≡ Ok s → step form s l ≡ Err c
+        → HasCode form front l c }
 {}
 
 /// Some lines are read or refused, never both, and they are refused at one line with one code.
 pub fn one_answer()
     ensures some { (form : Form) (found : LogicalLines) → HasAnswer form found }
-    ensures never_both { (form : Form) (found : LogicalLines) (transfer : List (List Row)) (n : ℕ) (code : Structure) → IsRead form found transfer → IsRefused form found n code → ⊥ }
-    ensures one_refusal { (form : Form) (found : LogicalLines) (n m : ℕ) (code other : Structure) → IsRefused form found n code → IsRefused form found m other → (n ≡ m) × (code ≡ other) }
+    ensures never_both { (form : Form) (found : LogicalLines) (transfer : List (List Row)) (n : ℕ)
+        (code : Structure) → IsRead form found transfer
+        → IsRefused form found n code → ⊥ }
+    ensures one_refusal { (form : Form) (found : LogicalLines) (n m : ℕ) (code other : Structure)
+        → IsRefused form found n code → IsRefused form found m other
+        → (n ≡ m) × (code ≡ other) }
 {}
 
 /// Each row of a transfer has as many strokes as its table has lines. A stroke is undefined, or it

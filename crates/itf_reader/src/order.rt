@@ -43,7 +43,8 @@ fn compare(a: &Finding, b: &Finding) -> Ordering
 /// want of memory. It takes time linear in the findings where few stand out of order, and else
 /// n log n.
 pub fn sort_findings(findings: &mut Vec<Finding>) -> Result<(), Memory>
-    ensures { OnOk result (findings_of findings.new.items ≡ in_order (findings_of findings.old.items)) }
+    ensures { OnOk result (findings_of findings.new.items ≡ in_order
+        (findings_of findings.old.items)) }
 {
     findings.sort_by(compare)?;
     Ok(())

@@ -27,7 +27,8 @@ fn empty_tables(alloc: Global, count: usize) -> Result<Vec<TableRows>, Memory>
 
 // The rows of a table that came are put in its place.
 fn put(tables: &mut [TableRows], came: CameTable)
-    ensures { tables_seen tables.new ≡ slice_set (tables_seen tables.old) came.table (rows_of came.rows.items) }
+    ensures { tables_seen tables.new ≡ slice_set (tables_seen tables.old) came.table
+        (rows_of came.rows.items) }
 {
     let place = came.table as usize;
     if place < tables.len() {
@@ -47,7 +48,8 @@ fn put_tables(tables: &mut [TableRows], came: Vec<CameTable>)
 
 // The tables of all topics.
 fn put_topics(tables: &mut [TableRows], came: Vec<CameTopic>)
-    ensures { tables_seen tables.new ≡ laid 0 (tables_of (came_topics came.items)) (tables_seen tables.old) }
+    ensures { tables_seen tables.new ≡ laid 0 (tables_of (came_topics came.items))
+        (tables_seen tables.old) }
 {
     let mut left = came;
     while let Some(topic) = left.pop() {
@@ -57,7 +59,8 @@ fn put_topics(tables: &mut [TableRows], came: Vec<CameTopic>)
 
 /// The rows of each table in the order of the layout.
 pub fn placed(alloc: Global, layout: &Layout, came: Vec<CameTopic>) -> Result<Transfer, Memory>
-    ensures { IfOk result (λ transfer. transfer_of transfer ≡ placed (form_of (layout_view layout.now)) (came_topics came.items)) }
+    ensures { IfOk result (λ transfer. transfer_of transfer ≡ placed
+        (form_of (layout_view layout.now)) (came_topics came.items)) }
 {
     let mut tables = empty_tables(alloc, layout.tables.len())?;
     put_topics(&mut tables, came);

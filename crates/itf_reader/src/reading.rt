@@ -24,7 +24,8 @@ use table_layout::Layout;
 
 // The topics that came, where ENDE has come.
 fn topics_at_end(place: Place) -> Option<Vec<CameTopic>>
-    ensures { MatchOption result (has_ended (state_of place) ≡ false) (λ came. state_of place ≡ done (came_topics came.items)) }
+    ensures { MatchOption result (has_ended (state_of place) ≡ false)
+        (λ came. state_of place ≡ done (came_topics came.items)) }
 {
     match place {
         Place::Done(came) => Some(came.list),
@@ -72,8 +73,10 @@ fn broken(fault: Option<LineFault>) -> Option<ReadRefusal>
 pub fn read_transfer(alloc: Global, layout: &Layout, lines: &Lines) -> Result<Transfer, ReadRefusal>
     requires valid { IsValid (layout_view layout.now) }
     requires few { lines.now.total < 4294967295 }
-    ensures read { IfOk result (λ transfer. IsRead (form_of (layout_view layout.now)) (seen lines.now) (transfer_of transfer)) }
-    ensures refused { IfErr result (λ refusal. Refuses (form_of (layout_view layout.now)) (seen lines.now) refusal) }
+    ensures read { IfOk result (λ transfer. IsRead (form_of (layout_view layout.now))
+        (seen lines.now) (transfer_of transfer)) }
+    ensures refused { IfErr result (λ refusal. Refuses (form_of (layout_view layout.now))
+        (seen lines.now) refusal) }
 {
     let came = all_topics(alloc, layout, &lines.lines)?;
     if let Some(refusal) = broken(lines.fault) {

@@ -15,7 +15,8 @@ pub fn report(
     column: u32,
     failed: Option<Code>,
 ) -> Result<(), Memory>
-    ensures { OnOk result (findings_of found.new.items ≡ findings_of found.old.items ++ finding_at line column failed) }
+    ensures { OnOk result (findings_of found.new.items ≡ findings_of found.old.items ++ finding_at
+        line column failed) }
 {
     if let Some(code) = failed {
         found.push(Finding {

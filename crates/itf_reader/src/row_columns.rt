@@ -25,7 +25,8 @@ use table_layout::Column;
 // A column, and what fails at it: in an optional one not that all its words are the undefined word.
 fn read_cell(codes: &Codes, column: &Column, words: &[Field]) -> (Cell, Option<Code>)
     requires { length words.now ≡ width (form_of column.now.form) }
-    ensures cell { cell_view result.0 ≡ cell_of (codes_of codes.now) (column_view column.now) words.now }
+    ensures cell { cell_view result.0 ≡ cell_of (codes_of codes.now) (column_view column.now)
+        words.now }
     ensures code { result.1 ≡ column_code (codes_of codes.now) (column_view column.now) words.now }
 {
     if column.optional && are_undefined(codes, words) {
@@ -36,7 +37,8 @@ fn read_cell(codes: &Codes, column: &Column, words: &[Field]) -> (Cell, Option<C
 
 fn read_mandatory(codes: &Codes, form: &Form, words: &[Field]) -> (Cell, Option<Code>)
     requires { length words.now ≡ width (form_of form.now) }
-    ensures cell { cell_view result.0 ≡ cell_by (column_reading (form_of form.now) (codes_of codes.now) words.now) }
+    ensures cell { cell_view result.0 ≡ cell_by (column_reading (form_of form.now)
+        (codes_of codes.now) words.now) }
     ensures code { result.1 ≡ field_code (form_of form.now) (codes_of codes.now) words.now }
 {
     match read_column(form, codes, words) {
@@ -62,8 +64,10 @@ fn add_column(
     found: &mut Vec<Finding>,
 ) -> Result<(), Memory>
     requires { length words.now ≡ width (form_of column.now.form) }
-    ensures cells { OnOk result (cells_view cells.new.items ≡ cells_view cells.old.items ++ cell_of (codes_of codes.now) (column_view column.now) words.now ∷ []) }
-    ensures found { OnOk result (findings_of found.new.items ≡ findings_of found.old.items ++ finding_at line number (column_code (codes_of codes.now) (column_view column.now) words.now)) }
+    ensures cells { OnOk result (cells_view cells.new.items ≡ cells_view cells.old.items ++ cell_of
+        (codes_of codes.now) (column_view column.now) words.now ∷ []) }
+    ensures found { OnOk result (findings_of found.new.items ≡ findings_of found.old.items ++
+        finding_at line number (column_code (codes_of codes.now) (column_view column.now) words.now)) }
 {
     let (cell, failed) = read_cell(codes, column, words);
     cells.push(cell)?;
@@ -81,8 +85,10 @@ pub fn read_columns(
 ) -> Result<(), Memory>
     requires counted { length words.now ≡ widths (columns_view columns.now) }
     requires few { length columns.now ≤ 4194306 }
-    ensures cells { OnOk result (cells_view cells.new.items ≡ cells_view cells.old.items ++ cells_of (codes_of codes.now) (columns_view columns.now) words.now) }
-    ensures found { OnOk result (findings_of found.new.items ≡ findings_of found.old.items ++ columns_findings (codes_of codes.now) line 1 (columns_view columns.now) words.now) }
+    ensures cells { OnOk result (cells_view cells.new.items ≡ cells_view cells.old.items ++ cells_of
+        (codes_of codes.now) (columns_view columns.now) words.now) }
+    ensures found { OnOk result (findings_of found.new.items ≡ findings_of found.old.items ++
+        columns_findings (codes_of codes.now) line 1 (columns_view columns.now) words.now) }
 {
     let mut number = 1;
     let mut rest = words;

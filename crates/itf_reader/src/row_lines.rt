@@ -32,10 +32,15 @@ pub fn read_lines(
 ) -> Result<(), Memory>
     requires { first + length forms.now ≤ 4294967295 }
     ensures cells { OnOk result (values.new.cells.items ≡ values.old.cells.items) }
-    ensures strokes { OnOk result (strokes_view values.new.strokes.items ≡ strokes_view values.old.strokes.items ++ lines_of (role_view role) (lines_view forms.now) (strokes_of strokes.now)) }
-    ensures vertices { OnOk result (vertices_view values.new.vertices.items ≡ vertices_view values.old.vertices.items ++ lines_vertices (lines_view forms.now) (strokes_of strokes.now)) }
-    ensures heights { OnOk result (values.new.heights.items ≡ values.old.heights.items ++ lines_heights (lines_view forms.now) (strokes_of strokes.now)) }
-    ensures found { OnOk result (findings_of found.new.items ≡ findings_of found.old.items ++ lines_findings (role_view role) line first (lines_view forms.now) (strokes_of strokes.now)) }
+    ensures strokes { OnOk result (strokes_view values.new.strokes.items ≡ strokes_view
+        values.old.strokes.items ++ lines_of (role_view role) (lines_view forms.now)
+        (strokes_of strokes.now)) }
+    ensures vertices { OnOk result (vertices_view values.new.vertices.items ≡ vertices_view
+        values.old.vertices.items ++ lines_vertices (lines_view forms.now) (strokes_of strokes.now)) }
+    ensures heights { OnOk result (values.new.heights.items ≡ values.old.heights.items ++
+        lines_heights (lines_view forms.now) (strokes_of strokes.now)) }
+    ensures found { OnOk result (findings_of found.new.items ≡ findings_of found.old.items ++
+        lines_findings (role_view role) line first (lines_view forms.now) (strokes_of strokes.now)) }
 {
     let mut column = first;
     for (form, stroke) in forms.iter().zip(strokes) {
@@ -56,10 +61,15 @@ fn read_line(
     found: &mut Vec<Finding>,
 ) -> Result<(), Memory>
     ensures cells { OnOk result (values.new.cells.items ≡ values.old.cells.items) }
-    ensures strokes { OnOk result (strokes_view values.new.strokes.items ≡ strokes_view values.old.strokes.items ++ line_read (role_view role) (line_of form.now) (stroke_of stroke.now) ∷ []) }
-    ensures vertices { OnOk result (vertices_view values.new.vertices.items ≡ vertices_view values.old.vertices.items ++ sound_vertices (line_of form.now) (stroke_of stroke.now)) }
-    ensures heights { OnOk result (values.new.heights.items ≡ values.old.heights.items ++ sound_heights (line_of form.now) (stroke_of stroke.now)) }
-    ensures found { OnOk result (findings_of found.new.items ≡ findings_of found.old.items ++ line_findings (role_view role) line column (line_of form.now) (stroke_of stroke.now)) }
+    ensures strokes { OnOk result (strokes_view values.new.strokes.items ≡ strokes_view
+        values.old.strokes.items ++ line_read (role_view role) (line_of form.now)
+        (stroke_of stroke.now) ∷ []) }
+    ensures vertices { OnOk result (vertices_view values.new.vertices.items ≡ vertices_view
+        values.old.vertices.items ++ sound_vertices (line_of form.now) (stroke_of stroke.now)) }
+    ensures heights { OnOk result (values.new.heights.items ≡ values.old.heights.items ++
+        sound_heights (line_of form.now) (stroke_of stroke.now)) }
+    ensures found { OnOk result (findings_of found.new.items ≡ findings_of found.old.items ++
+        line_findings (role_view role) line column (line_of form.now) (stroke_of stroke.now)) }
 {
     if stroke.vertices.is_empty() {
         let missing = if form.optional {
@@ -83,7 +93,8 @@ pub fn is_sound_line(
     form: &LineForm,
     vertices: &[Vertex],
 ) -> Result<bool, Memory>
-    ensures { IfOk result (λ sound. sound ≡ is_sound_stroke (role_view role) (line_of form.now) (vertices_of vertices.now)) }
+    ensures { IfOk result (λ sound. sound ≡ is_sound_stroke (role_view role) (line_of form.now)
+        (vertices_of vertices.now)) }
 {
     let mut values = RowValues::new(alloc);
     let mut found = Vec::new(alloc);
@@ -109,12 +120,16 @@ fn read_stroke(
     values: &mut RowValues,
     found: &mut Vec<Finding>,
 ) -> Result<StrokeRead, Memory>
-    ensures stroke { IfOk result (λ read. stroke_view read ≡ stroke_read (role_view role) (line_of form.now) (vertices_of vertices.now)) }
+    ensures stroke { IfOk result (λ read. stroke_view read ≡ stroke_read (role_view role)
+        (line_of form.now) (vertices_of vertices.now)) }
     ensures cells { OnOk result (values.new.cells.items ≡ values.old.cells.items) }
     ensures strokes { OnOk result (values.new.strokes.items ≡ values.old.strokes.items) }
-    ensures vertices { OnOk result (vertices_view values.new.vertices.items ≡ vertices_view values.old.vertices.items ++ sound_vertices (line_of form.now) (vertices_of vertices.now)) }
-    ensures heights { OnOk result (values.new.heights.items ≡ values.old.heights.items ++ sound_heights (line_of form.now) (vertices_of vertices.now)) }
-    ensures found { OnOk result (findings_of found.new.items ≡ findings_of found.old.items ++ stroke_findings (role_view role) (line_of form.now) column (vertices_of vertices.now)) }
+    ensures vertices { OnOk result (vertices_view values.new.vertices.items ≡ vertices_view
+        values.old.vertices.items ++ sound_vertices (line_of form.now) (vertices_of vertices.now)) }
+    ensures heights { OnOk result (values.new.heights.items ≡ values.old.heights.items ++
+        sound_heights (line_of form.now) (vertices_of vertices.now)) }
+    ensures found { OnOk result (findings_of found.new.items ≡ findings_of found.old.items ++
+        stroke_findings (role_view role) (line_of form.now) column (vertices_of vertices.now)) }
 {
     let start = values.vertices.len();
     let clean = add_vertices(form, column, vertices, values, found)?;
@@ -144,8 +159,11 @@ fn judge(
     vertices: &[ReadVertex],
     found: &mut Vec<Finding>,
 ) -> Result<StrokeRead, Memory>
-    ensures stroke { IfOk result (λ read. stroke_view read ≡ whole_stroke (role_view role) (vertices_view vertices.now)) }
-    ensures found { OnOk result (findings_of found.new.items ≡ findings_of found.old.items ++ (short_finding (role_view role) column (vertices_view vertices.now) ++ arc_findings column (vertices_view vertices.now))) }
+    ensures stroke { IfOk result (λ read. stroke_view read ≡ whole_stroke (role_view role)
+        (vertices_view vertices.now)) }
+    ensures found { OnOk result (findings_of found.new.items ≡ findings_of found.old.items ++ (
+        short_finding (role_view role) column (vertices_view vertices.now) ++ arc_findings column
+        (vertices_view vertices.now))) }
 {
     if is_whole(role, vertices) {
         return Ok(StrokeRead::Sound(vertices.len()));
@@ -162,7 +180,8 @@ fn add_short(
     vertices: &[ReadVertex],
     found: &mut Vec<Finding>,
 ) -> Result<(), Memory>
-    ensures { OnOk result (findings_of found.new.items ≡ findings_of found.old.items ++ short_finding (role_view role) column (vertices_view vertices.now)) }
+    ensures { OnOk result (findings_of found.new.items ≡ findings_of found.old.items ++
+        short_finding (role_view role) column (vertices_view vertices.now)) }
 {
     let Some(first) = vertices.first() else {
         return Ok(());
@@ -175,7 +194,8 @@ fn add_short(
 
 // A bad arc is told where it ends.
 fn add_arcs(column: u32, vertices: &[ReadVertex], found: &mut Vec<Finding>) -> Result<(), Memory>
-    ensures { OnOk result (findings_of found.new.items ≡ findings_of found.old.items ++ arc_findings column (vertices_view vertices.now)) }
+    ensures { OnOk result (findings_of found.new.items ≡ findings_of found.old.items ++ arc_findings
+        column (vertices_view vertices.now)) }
 {
     let mut rest = vertices;
     while let [s, m, e, ..] = rest {

@@ -31,9 +31,12 @@ pub fn read_row(
     found: &mut Vec<Finding>,
 ) -> Result<bool, Memory>
     requires { HasFew (table_view table.now) }
-    ensures counted { IfOk result (λ counted. counted ≡ is_counted (table_view table.now) (row_of row.now)) }
-    ensures values { OnOk result (Reads (codes_of codes.now) (table_view table.now) (row_of row.now) values.new) }
-    ensures found { OnOk result (findings_of found.new.items ≡ findings_of found.old.items ++ row_findings (codes_of codes.now) (table_view table.now) (row_of row.now)) }
+    ensures counted { IfOk result (λ counted. counted ≡ is_counted (table_view table.now)
+        (row_of row.now)) }
+    ensures values { OnOk result (Reads (codes_of codes.now) (table_view table.now) (row_of row.now)
+        values.new) }
+    ensures found { OnOk result (findings_of found.new.items ≡ findings_of found.old.items ++
+        row_findings (codes_of codes.now) (table_view table.now) (row_of row.now)) }
 {
     values.clear();
     if !is_counted(table, row) {

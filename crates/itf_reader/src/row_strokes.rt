@@ -58,7 +58,8 @@ fn is_one_place(vertices: &[ReadVertex]) -> bool
 
 // All these vertices lie at that place.
 fn are_at(place: Place, vertices: &[ReadVertex]) -> bool
-    ensures { result ≡ list_all (λ v. is_same_place (place_view place) v.at) (vertices_view vertices.now) }
+    ensures { result ≡ list_all (λ v. is_same_place (place_view place) v.at)
+        (vertices_view vertices.now) }
 {
     for vertex in vertices {
         if !is_same_place(place, vertex.at) {

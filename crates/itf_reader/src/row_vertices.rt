@@ -51,11 +51,14 @@ fn add_vertex(
     found: &mut Vec<Finding>,
 ) -> Result<bool, Memory>
     ensures clean { IfOk result (λ clean. clean ≡ is_clean (line_of form.now) (vertex_of vertex.now)) }
-    ensures vertices { OnOk result (vertices_view values.new.vertices.items ≡ vertices_view values.old.vertices.items ++ sound_vertex (line_of form.now) (vertex_of vertex.now)) }
-    ensures heights { OnOk result (values.new.heights.items ≡ values.old.heights.items ++ sound_height (line_of form.now) (vertex_of vertex.now)) }
+    ensures vertices { OnOk result (vertices_view values.new.vertices.items ≡ vertices_view
+        values.old.vertices.items ++ sound_vertex (line_of form.now) (vertex_of vertex.now)) }
+    ensures heights { OnOk result (values.new.heights.items ≡ values.old.heights.items ++
+        sound_height (line_of form.now) (vertex_of vertex.now)) }
     ensures cells { OnOk result (values.new.cells.items ≡ values.old.cells.items) }
     ensures strokes { OnOk result (values.new.strokes.items ≡ values.old.strokes.items) }
-    ensures found { OnOk result (findings_of found.new.items ≡ findings_of found.old.items ++ vertex_finding (line_of form.now) column (vertex_of vertex.now)) }
+    ensures found { OnOk result (findings_of found.new.items ≡ findings_of found.old.items ++
+        vertex_finding (line_of form.now) column (vertex_of vertex.now)) }
 {
     match value_of(form, vertex) {
         Ok(value) => {
@@ -70,8 +73,11 @@ fn add_vertex(
 }
 
 fn add_sound(vertex: &Vertex, value: VertexValue, values: &mut RowValues) -> Result<(), Memory>
-    ensures vertices { OnOk result (vertices_view values.new.vertices.items ≡ vertices_view values.old.vertices.items ++ record { at = place_view value.at; line = vertex.now.line; kind = kind_of vertex.now.kind } ∷ []) }
-    ensures heights { OnOk result (values.new.heights.items ≡ values.old.heights.items ++ option_to_list value.height) }
+    ensures vertices { OnOk result (vertices_view values.new.vertices.items ≡ vertices_view
+        values.old.vertices.items ++ record
+        { at = place_view value.at; line = vertex.now.line; kind = kind_of vertex.now.kind } ∷ []) }
+    ensures heights { OnOk result (values.new.heights.items ≡ values.old.heights.items ++
+        option_to_list value.height) }
     ensures cells { OnOk result (values.new.cells.items ≡ values.old.cells.items) }
     ensures strokes { OnOk result (values.new.strokes.items ≡ values.old.strokes.items) }
 {
@@ -101,12 +107,16 @@ pub fn add_vertices(
     values: &mut RowValues,
     found: &mut Vec<Finding>,
 ) -> Result<bool, Memory>
-    ensures clean { IfOk result (λ clean. clean ≡ are_clean (line_of form.now) (vertices_of vertices.now)) }
-    ensures vertices { OnOk result (vertices_view values.new.vertices.items ≡ vertices_view values.old.vertices.items ++ sound_vertices (line_of form.now) (vertices_of vertices.now)) }
-    ensures heights { OnOk result (values.new.heights.items ≡ values.old.heights.items ++ sound_heights (line_of form.now) (vertices_of vertices.now)) }
+    ensures clean { IfOk result (λ clean. clean ≡ are_clean (line_of form.now)
+        (vertices_of vertices.now)) }
+    ensures vertices { OnOk result (vertices_view values.new.vertices.items ≡ vertices_view
+        values.old.vertices.items ++ sound_vertices (line_of form.now) (vertices_of vertices.now)) }
+    ensures heights { OnOk result (values.new.heights.items ≡ values.old.heights.items ++
+        sound_heights (line_of form.now) (vertices_of vertices.now)) }
     ensures cells { OnOk result (values.new.cells.items ≡ values.old.cells.items) }
     ensures strokes { OnOk result (values.new.strokes.items ≡ values.old.strokes.items) }
-    ensures found { OnOk result (findings_of found.new.items ≡ findings_of found.old.items ++ flat_map (vertex_finding (line_of form.now) column) (vertices_of vertices.now)) }
+    ensures found { OnOk result (findings_of found.new.items ≡ findings_of found.old.items ++
+        flat_map (vertex_finding (line_of form.now) column) (vertices_of vertices.now)) }
 {
     let mut clean = true;
     for vertex in vertices {

@@ -31,7 +31,8 @@ pub fn add_vertex(
     kind: VertexKind,
     line: &Line,
 ) -> Result<(), Memory>
-    ensures { OnOk result (vertices_of vertices.new.items ≡ vertices_of vertices.old.items ++ vertex (kind_of kind) line.now.number line.now.fields.items ∷ []) }
+    ensures { OnOk result (vertices_of vertices.new.items ≡ vertices_of vertices.old.items ++ vertex
+        (kind_of kind) line.now.number line.now.fields.items ∷ []) }
 {
     vertices.push(Vertex {
         line: line.number,
@@ -43,7 +44,8 @@ pub fn add_vertex(
 
 /// The first vertex of a stroke. There is room for one more, since most strokes are one straight.
 pub fn start_stroke(alloc: Global, line: &Line) -> Result<Vec<Vertex>, Memory>
-    ensures { IfOk result (λ vertices. vertices_of vertices.items ≡ vertex Start line.now.number line.now.fields.items ∷ []) }
+    ensures { IfOk result (λ vertices. vertices_of vertices.items ≡ vertex Start line.now.number
+        line.now.fields.items ∷ []) }
 {
     let mut vertices = Vec::with_capacity(alloc, 2)?;
     add_vertex(alloc, &mut vertices, VertexKind::Start, line)?;
@@ -53,7 +55,8 @@ pub fn start_stroke(alloc: Global, line: &Line) -> Result<Vec<Vertex>, Memory>
 /// Opens the object of a line. There is room for the strokes of its table and no more, which it has
 /// when it is closed, since a transfer has millions of objects with one stroke.
 pub fn open_row(alloc: Global, inside: Box<OpenTable>, line: &Line) -> Result<OpenRow, Memory>
-    ensures { IfOk result (λ row. in_row_of row ≡ opened_row (table_of inside.value) line.now.number line.now.fields.items) }
+    ensures { IfOk result (λ row. in_row_of row ≡ opened_row (table_of inside.value) line.now.number
+        line.now.fields.items) }
 {
     let strokes = Vec::with_capacity(alloc, inside.lines)?;
     Ok(OpenRow {
@@ -66,7 +69,8 @@ pub fn open_row(alloc: Global, inside: Box<OpenTable>, line: &Line) -> Result<Op
 
 /// The object with one more stroke.
 pub fn add_stroke(row: OpenRow, vertices: Vec<Vertex>) -> Result<OpenRow, Memory>
-    ensures { IfOk result (λ new. in_row_of new ≡ with_stroke (in_row_of row) (vertices_of vertices.items)) }
+    ensures { IfOk result (λ new. in_row_of new ≡ with_stroke (in_row_of row)
+        (vertices_of vertices.items)) }
 {
     let mut row = row;
     row.strokes.push(Stroke { vertices })?;
@@ -75,7 +79,8 @@ pub fn add_stroke(row: OpenRow, vertices: Vec<Vertex>) -> Result<OpenRow, Memory
 
 // Adds undefined strokes, up to so many in all.
 fn fill(alloc: Global, strokes: &mut Vec<Stroke>, lines: usize) -> Result<(), Memory>
-    ensures { OnOk result (strokes_of strokes.new.items ≡ filled lines (strokes_of strokes.old.items)) }
+    ensures { OnOk result (strokes_of strokes.new.items ≡ filled lines
+        (strokes_of strokes.old.items)) }
 {
     while strokes.len() < lines {
         strokes.push(Stroke {

@@ -21,7 +21,9 @@ pub fn behind_vertex(
     came: Vec<Vertex>,
     line: &Line,
 ) -> Result<Place, Stopped>
-    ensures { (form : Form) → Stands result (by_word form (vertices (in_row_of row) (vertices_of came.items)) line.now.word line.now.number line.now.fields.items) }
+    ensures { (form : Form) → Stands result (by_word form
+        (vertices (in_row_of row) (vertices_of came.items)) line.now.word line.now.number
+        line.now.fields.items) }
 {
     let mut vertices = came;
     match line.word {
@@ -45,7 +47,9 @@ pub fn behind_arc(
     came: Vec<Vertex>,
     line: &Line,
 ) -> Result<Place, Stopped>
-    ensures { (form : Form) → Stands result (by_word form (arc (in_row_of row) (vertices_of came.items)) line.now.word line.now.number line.now.fields.items) }
+    ensures { (form : Form) → Stands result (by_word form
+        (arc (in_row_of row) (vertices_of came.items)) line.now.word line.now.number
+        line.now.fields.items) }
 {
     let mut vertices = came;
     match line.word {
@@ -59,7 +63,8 @@ pub fn behind_arc(
 
 /// Behind the strokes of an object.
 pub fn behind_stroke(alloc: Global, row: OpenRow, line: &Line) -> Result<Place, Stopped>
-    ensures { (form : Form) → Stands result (by_word form (strokes (in_row_of row)) line.now.word line.now.number line.now.fields.items) }
+    ensures { (form : Form) → Stands result (by_word form (strokes (in_row_of row)) line.now.word
+        line.now.number line.now.fields.items) }
 {
     match line.word {
         LineWord::Obje => {
@@ -78,7 +83,8 @@ pub fn behind_stroke(alloc: Global, row: OpenRow, line: &Line) -> Result<Place, 
 
 /// Behind TABL, where no object has come.
 pub fn behind_table(alloc: Global, table: Box<OpenTable>, line: &Line) -> Result<Place, Stopped>
-    ensures { (form : Form) → Stands result (by_word form (objects (table_of table.value)) line.now.word line.now.number line.now.fields.items) }
+    ensures { (form : Form) → Stands result (by_word form (objects (table_of table.value))
+        line.now.word line.now.number line.now.fields.items) }
 {
     match line.word {
         LineWord::Obje => Ok(Place::Strokes(open_row(alloc, table, line)?)),
