@@ -1,21 +1,22 @@
 -- Two outcomes of the words and the files agree, unless a file could not be read.
-use Rattle.std.proofs.Common.{◌≡◌, ℕ, List, [], ◌∷◌, ◌++◌, length, Option, Some, None, refl, ap, sym, ◌∙◌, subst, inl, inr, arith}
+use Rattle.std.proofs.Common.{◌≡◌, ℕ, true, false, List, [], ◌∷◌, ◌++◌, length, Option, Some, None, refl, ap, sym, ◌∙◌, subst, inl, inr, arith}
 use Rattle.std.specs.Prelude.{◌≢◌, ◌⊎◌, ⊤}
 use Rattle.ports.specs.Files.{Files}
 use Rattle.ports.specs.Output.{Adds}
 use Rattle.itf_reader.proofs.Readings.{one_transfer, one_refusal as one_fault, never_both}
 use Rattle.itf_reader.specs.Forms.{Row}
 use Rattle.itf_reader.specs.Layouts.{form_of}
-use Rattle.table_layout.specs.Layouts.{Layout}
+use Rattle.table_layout.specs.Layouts.{AreaOf, Layout}
 use Rattle.delivery.specs.declared.files.File.{File}
 use Rattle.delivery.specs.declared.status.Status.{Status}
 use Rattle.delivery.specs.declared.status.Status.TheVariants.{ReadFault, WriteFault}
 use Rattle.delivery.specs.Answers.{AgreeLines, AgreeFilings, Agree, Answers, IsStopped, IsAnswer}
+use Rattle.delivery.specs.AreaLimits.{has_too_large}
 use Rattle.delivery.specs.Commands.{Command, Source, compile, check, limit_of, model_of, further_files}
 use Rattle.delivery.specs.Deciding.{Decides, formless, formed}
 use Rattle.delivery.specs.Gathering as gathering
 use Rattle.delivery.specs.Gathering.{Gathered, Reads, ReadsAll, Compiles, Gathers}
-use Rattle.delivery.specs.Judging.{lines_of, IsRowsChecked, faulty, left, clean, IsChecked, at_fault, well_formed, Amounts}
+use Rattle.delivery.specs.Judging.{lines_of, IsRowsChecked, faulty, oversized, left, clean, IsChecked, at_fault, well_formed, Amounts}
 use Rattle.delivery.specs.Lines.{Line}
 use Rattle.delivery.specs.ModelTexts.{Refusal, IsRefused, HasLayout}
 use Rattle.delivery.specs.Outcomes.{Filing, Outcome, misbuilt, report_of}
@@ -120,15 +121,30 @@ module _ (files : Files) (far near : List ℕ → Type 0) where
       (λ text p q. same_compiled c text g h p q) r k
 
 -- ---- what is read has one outcome
+differ : true ≡ false → ⊥
+differ e = cc
+
+-- without an area none is too large
+none_too_large : (rows : List (List Row)) (as_ : List AreaOf) → as_ ≡ [] → has_too_large rows as_ ≡ true → ⊥
+none_too_large rows [] e h = differ (sym h)
+none_too_large rows (a ∷ as_) e h = let k : a ∷ as_ ≡ [] = e in cc
+
 same_rows : (name : List ℕ) (l : Layout) (rows : List (List Row)) (o p : Outcome) → IsRowsChecked name l rows o → IsRowsChecked name l rows p → o ≡ p
 same_rows name l rows o p (faulty n e) (faulty m f) = e ∙ sym f
-same_rows name l rows o p (faulty n e) (left k a f) = absurd (n k)
+same_rows name l rows o p (faulty n e) (oversized k b f) = absurd (n k)
+same_rows name l rows o p (faulty n e) (left k b a f) = absurd (n k)
 same_rows name l rows o p (faulty n e) (clean k a f) = absurd (n k)
-same_rows name l rows o p (left k a e) (faulty m f) = absurd (m k)
-same_rows name l rows o p (left k a e) (left m b f) = e ∙ sym f
-same_rows name l rows o p (left k a e) (clean m b f) = absurd (a b)
+same_rows name l rows o p (oversized k b e) (faulty m f) = absurd (m k)
+same_rows name l rows o p (oversized k b e) (oversized m d f) = e ∙ sym f
+same_rows name l rows o p (oversized k b e) (left m d a f) = absurd (differ (sym b ∙ d))
+same_rows name l rows o p (oversized k b e) (clean m a f) = absurd (none_too_large rows l.areas a b)
+same_rows name l rows o p (left k b a e) (faulty m f) = absurd (m k)
+same_rows name l rows o p (left k b a e) (oversized m d f) = absurd (differ (sym d ∙ b))
+same_rows name l rows o p (left k b a e) (left m d c f) = e ∙ sym f
+same_rows name l rows o p (left k b a e) (clean m c f) = absurd (a c)
 same_rows name l rows o p (clean k a e) (faulty m f) = absurd (m k)
-same_rows name l rows o p (clean k a e) (left m b f) = absurd (b a)
+same_rows name l rows o p (clean k a e) (oversized m d f) = absurd (none_too_large rows l.areas a d)
+same_rows name l rows o p (clean k a e) (left m d b f) = absurd (b a)
 same_rows name l rows o p (clean k a e) (clean m b f) = e ∙ sym f
 
 same_text : (name : List ℕ) (l : Layout) (text : List ℕ) (o p : Outcome) → IsChecked name l text o → IsChecked name l text p → o ≡ p

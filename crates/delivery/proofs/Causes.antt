@@ -11,8 +11,8 @@ use Rattle.delivery.specs.Commands.{Check, Command, compile, check, IsCheck, IsC
 use Rattle.delivery.specs.Deciding.{Decides, formless, formed}
 use Rattle.delivery.specs.Gathering as gathering
 use Rattle.delivery.specs.Gathering.{Gathered, Gathers}
-use Rattle.delivery.specs.Judging.{findings, objects, Tells, IsRowsChecked, faulty, left, clean, IsChecked, at_fault, well_formed, Amounts}
-use Rattle.delivery.specs.Outcomes.{Outcome, usage, unread, too_long, refused, compiled, misbuilt, rejected, areas_later, accepted}
+use Rattle.delivery.specs.Judging.{findings, objects, Tells, IsRowsChecked, faulty, oversized, left, clean, IsChecked, at_fault, well_formed, Amounts}
+use Rattle.delivery.specs.Outcomes.{Outcome, usage, unread, too_long, area_too_large, refused, compiled, misbuilt, rejected, areas_later, accepted}
 
 -- ---- the causes
 module _ (told : Option Files) (counted : List ℕ → Type 0) (words : List (List ℕ)) where
@@ -23,7 +23,8 @@ module _ (told : Option Files) (counted : List ℕ → Type 0) (words : List (Li
   module _ (c : Check) (i : IsCheck words c) (l : Layout) (text : List ℕ) (g : Gathers told counted (check c) (gathering.texts l (text ∷ []))) where
     rows_mean : (rows : List (List Row)) → Tells l text rows → (o : Outcome) → IsRowsChecked c.certificate l rows o → Means told counted words o.status
     rows_mean rows t o (faulty n e) = moved o (rejected (findings l rows)) e (check c, l, text ∷ [], i, g, inr (rows, t, n))
-    rows_mean rows t o (left k a e) = moved o (areas_later l) e (check c, l, text ∷ [], i, g, (rows, t, k, a))
+    rows_mean rows t o (oversized k b e) = moved o area_too_large e (inr (check c, l, text ∷ [], i, g, (rows, t, k, b)))
+    rows_mean rows t o (left k b a e) = moved o (areas_later l) e (check c, l, text ∷ [], i, g, (rows, t, k, b, a))
     rows_mean rows t o (clean k a e) = moved o (accepted (objects rows) c.certificate []) e (check c, l, text ∷ [], i, g, (rows, t, k, a))
 
     check_means : (o : Outcome) → IsChecked c.certificate l text o → Means told counted words o.status
@@ -32,7 +33,7 @@ module _ (told : Option Files) (counted : List ℕ → Type 0) (words : List (Li
 
   files_mean : (c : Command) (g : Gathered) → IsCommand words c → Gathers told counted c g → (o : Outcome) → Amounts c g o → Means told counted words o.status
   files_mean c (gathering.unread f) i h o e = moved o (unread f) e (f, (c, i, h))
-  files_mean c (gathering.too_long f) i h o e = moved o (too_long f) e (f, (c, i, h))
+  files_mean c (gathering.too_long f) i h o e = moved o (too_long f) e (inl (f, (c, i, h)))
   files_mean c (gathering.refused r) i h o e = moved o (refused r) e (r, (c, i, h))
   files_mean (compile m) (gathering.texts l ts) i h o e = moved o (compiled l) e (compile m, l, ts, i, h, tt)
   files_mean (check c) (gathering.texts l []) i h o k = absurd k
@@ -55,7 +56,8 @@ fixed_as o p e h = subst (λ (x : Outcome). IsFixed x.status) (sym e) h
 
 rows_fixed : (name : List ℕ) (l : Layout) (rows : List (List Row)) (o : Outcome) → IsRowsChecked name l rows o → IsFixed o.status
 rows_fixed name l rows o (faulty n e) = fixed_as o (rejected (findings l rows)) e tt
-rows_fixed name l rows o (left k a e) = fixed_as o (areas_later l) e tt
+rows_fixed name l rows o (oversized k b e) = fixed_as o area_too_large e tt
+rows_fixed name l rows o (left k b a e) = fixed_as o (areas_later l) e tt
 rows_fixed name l rows o (clean k a e) = fixed_as o (accepted (objects rows) name []) e tt
 
 check_fixed : (name : List ℕ) (l : Layout) (text : List ℕ) (o : Outcome) → IsChecked name l text o → IsFixed o.status

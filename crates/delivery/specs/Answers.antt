@@ -6,7 +6,7 @@ use Rattle.table_layout.specs.Layouts.{Layout}
 use Rattle.delivery.specs.Commands.{Command, IsCommand, IsUsage}
 use Rattle.delivery.specs.Deciding.{Decides}
 use Rattle.delivery.specs.Gathering.{Gathered, unread, too_long, refused, texts, Gathers}
-use Rattle.delivery.specs.Judging.{Accepts, Rejects, LeavesAreas}
+use Rattle.delivery.specs.Judging.{Accepts, Rejects, LeavesAreas, IsOversized}
 use Rattle.delivery.specs.Lines.{Line}
 use Rattle.delivery.specs.ModelTexts.{Refusal}
 use Rattle.delivery.specs.Outcomes.{Filing, Outcome, report_of}
@@ -25,9 +25,9 @@ Passes told counted words test = (c : Command) × (l : Layout) × (ts : List (Li
 -- The cause of each answer.
 -- Accepted: the model has no fault; for `check`, it has no AREA, and every object meets the declarations of its table.
 -- Rejected: a line of the transfer is at fault, or the objects have findings.
--- Undecided: every object meets the declarations of its table, and the model has an AREA.
+-- Undecided: every object meets the declarations of its table, and the model has an AREA; none is over its limit.
 -- ModelRefused: the model has this first fault of its tokens, of its grammar, or of its names and types.
--- Usage: the words are no command. ReadFault: a fault was counted for a file that was to be read. OverLimit: a file is longer than its limit.
+-- Usage: the words are no command. ReadFault: a fault was counted for a file that was to be read. OverLimit: a file is longer than its limit, or every object meets the declarations of its table and an area is over its limit.
 -- The cause of WriteFault is a clause of its own; Memory has none, and NotProved does not come.
 abbrev pub Means : Option Files → (List ℕ → Type 0) → List (List ℕ) → Status → Type 0
 Means told counted words Accepted = Passes told counted words Accepts
@@ -37,7 +37,7 @@ Means told counted words ModelRefused = (r : Refusal) × Gives told counted word
 Means told counted words Usage = IsUsage words
 Means told counted words ReadFault = (f : File) × Gives told counted words (unread f)
 Means told counted words WriteFault = ⊤
-Means told counted words OverLimit = (f : File) × Gives told counted words (too_long f)
+Means told counted words OverLimit = ((f : File) × Gives told counted words (too_long f)) ⊎ Passes told counted words IsOversized
 Means told counted words Memory = ⊤
 Means told counted words NotProved = ⊥
 

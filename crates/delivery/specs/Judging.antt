@@ -1,5 +1,5 @@
 -- What the texts of a command amount to.
-use Rattle.std.specs.Prelude.{◌≡◌, ◌≢◌, ℕ, ◌+◌, List, [], ◌∷◌, ◌++◌, length, ◌⊎◌, ⊤}
+use Rattle.std.specs.Prelude.{◌≡◌, ◌≢◌, ℕ, ◌+◌, true, false, List, [], ◌∷◌, ◌++◌, length, ◌⊎◌, ⊤}
 use Rattle.itf_lines.specs.LogicalLines.{LogicalLines, logical}
 use Rattle.itf_reader.specs.Findings.{Finding, in_order}
 use Rattle.itf_reader.specs.Forms.{Row}
@@ -8,10 +8,11 @@ use Rattle.itf_reader.specs.Readings.{Structure, IsRead, IsRefused as IsAtFault}
 use Rattle.table_layout.specs.Layouts.{Layout}
 use Rattle.domain_rules.specs.ValueFindings.{value_findings}
 use Rattle.ident_refs.specs.KeyFindings.{key_findings}
+use Rattle.delivery.specs.AreaLimits.{has_too_large}
 use Rattle.delivery.specs.Commands.{Command, compile, check}
 use Rattle.delivery.specs.Gathering as gathering
 use Rattle.delivery.specs.Gathering.{Gathered}
-use Rattle.delivery.specs.Outcomes.{Outcome, unread, too_long, refused, compiled, misbuilt, rejected, areas_later, accepted}
+use Rattle.delivery.specs.Outcomes.{Outcome, unread, too_long, area_too_large, refused, compiled, misbuilt, rejected, areas_later, accepted}
 
 -- the logical lines of a transfer, by the codes of its layout
 abbrev pub lines_of : Layout → List ℕ → LogicalLines
@@ -43,8 +44,10 @@ IsClean l rows = findings l rows ≡ []
 pub data IsRowsChecked (name : List ℕ) (l : Layout) (rows : List (List Row)) (o : Outcome) : Type 0 where
   -- they break a rule
   faulty : findings l rows ≢ [] → o ≡ rejected (findings l rows) → IsRowsChecked name l rows o
-  -- they meet the declarations, and the model has an AREA
-  left : IsClean l rows → l.areas ≢ [] → o ≡ areas_later l → IsRowsChecked name l rows o
+  -- they meet the declarations, and an area is over its limit
+  oversized : IsClean l rows → has_too_large rows l.areas ≡ true → o ≡ area_too_large → IsRowsChecked name l rows o
+  -- they meet the declarations, the model has an AREA, and none is over its limit
+  left : IsClean l rows → has_too_large rows l.areas ≡ false → l.areas ≢ [] → o ≡ areas_later l → IsRowsChecked name l rows o
   -- they meet the declarations, and the model has no AREA
   clean : IsClean l rows → l.areas ≡ [] → o ≡ accepted (objects rows) name [] → IsRowsChecked name l rows o
 
@@ -75,8 +78,14 @@ Rejects (compile model) l ts = ⊥
 Rejects (check c) l (text ∷ []) = ((n : ℕ) × (code : Structure) × IsMisbuilt l text n code) ⊎ ((rows : List (List Row)) × Tells l text rows × (findings l rows ≢ []))
 Rejects (check c) l ts = ⊥
 
--- the rows meet the declarations, and the model has an AREA
+-- the rows meet the declarations, the model has an AREA, and none is over its limit
 abbrev pub LeavesAreas : Command → Layout → List (List ℕ) → Type 0
 LeavesAreas (compile model) l ts = ⊥
-LeavesAreas (check c) l (text ∷ []) = (rows : List (List Row)) × Tells l text rows × IsClean l rows × (l.areas ≢ [])
+LeavesAreas (check c) l (text ∷ []) = (rows : List (List Row)) × Tells l text rows × IsClean l rows × (has_too_large rows l.areas ≡ false) × (l.areas ≢ [])
 LeavesAreas (check c) l ts = ⊥
+
+-- the rows meet the declarations, and an area is over its limit
+abbrev pub IsOversized : Command → Layout → List (List ℕ) → Type 0
+IsOversized (compile model) l ts = ⊥
+IsOversized (check c) l (text ∷ []) = (rows : List (List Row)) × Tells l text rows × IsClean l rows × (has_too_large rows l.areas ≡ true)
+IsOversized (check c) l ts = ⊥

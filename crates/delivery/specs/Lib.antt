@@ -1,4 +1,5 @@
 pub mod Answers
+pub mod AreaLimits
 pub mod Codes
 pub mod Commands
 pub mod CommandViews

@@ -10,7 +10,7 @@ use Rattle.delivery.specs.RefusalViews.{refusal_of}
 use Rattle.delivery.specs.declared.report.lines.TableLine as table
 use Rattle.delivery.specs.declared.report.lines.AreaLine as area
 use Rattle.delivery.specs.declared.report.lines.Line as code
-use Rattle.delivery.specs.declared.report.lines.Line.TheVariants.{UsageFault, UsageWords, Unread, TooLong, ModelFault, Model, Table, Structure, Area, Verdict}
+use Rattle.delivery.specs.declared.report.lines.Line.TheVariants.{UsageFault, UsageWords, Unread, TooLong, AreaLimit, ModelFault, Model, Table, Structure, Area, Verdict}
 
 abbrev pub table_of : table.TableLine → TableLine
 table_of t = record { topic = t.topic; name = t.name; role = role_view t.role; columns = t.columns; lines = t.lines }
@@ -23,6 +23,7 @@ line_of UsageFault = lines.usage_fault
 line_of UsageWords = lines.usage_words
 line_of (Unread f) = lines.unread f
 line_of (TooLong f) = lines.too_long f
+line_of AreaLimit = lines.area_limit
 line_of (ModelFault r) = lines.model_fault (refusal_of r)
 line_of (Model name) = lines.model name
 line_of (Table t) = lines.table (table_of t)

@@ -35,6 +35,8 @@ pub data Line : Type 0 where
   -- a file could not be read, or is longer than its limit
   unread : File → Line
   too_long : File → Line
+  -- an area has more vertices or objects than its limit
+  area_limit : Line
   -- the first fault of the model
   model_fault : Refusal → Line
   -- a compiled model, and each of its tables
@@ -94,6 +96,7 @@ words_of usage_fault = codes "FAULT USAGE"
 words_of usage_words = codes "usage: itfcheck compile M, check M T C, verify M T C, trial N C"
 words_of (unread f) = codes "FAULT READ " ++ file_text f
 words_of (too_long f) = codes "FAULT LIMIT " ++ file_text f
+words_of area_limit = codes "FAULT LIMIT area"
 words_of (model_fault r) = refusal_words r
 words_of (model name) = codes "MODEL " ++ name
 words_of (table t) = table_words t

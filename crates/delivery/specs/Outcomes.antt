@@ -46,6 +46,10 @@ unread f = reported status.ReadFault (lines.unread f ∷ [])
 abbrev pub too_long : File → Outcome
 too_long f = reported status.OverLimit (lines.too_long f ∷ [])
 
+-- an area has more vertices or objects than its limit
+abbrev pub area_too_large : Outcome
+area_too_large = reported status.OverLimit (lines.area_limit ∷ [])
+
 -- the model is refused
 abbrev pub refused : Refusal → Outcome
 refused r = reported status.ModelRefused (lines.model_fault r ∷ [])

@@ -10,7 +10,8 @@
 //!   at fault, the first one is reported with its code. All values, identifications, IDENT lists
 //!   and references of a transfer are checked, and each finding is reported.
 //! - **What is decided.** A transfer of a model without AREA, whole. The areas of any other are
-//!   reported as left for later, once the transfer has no finding.
+//!   reported as left for later, once the transfer has no finding; an area of more than
+//!   16,000,000 vertices, or rows of its main table, is over its limit.
 //! - **What is not checked here:** how the lines of an area lie.
 //! - **Degenerate cases:** an empty file is read as one; a model without a table and a transfer
 //!   without an object are decided; two words may name one file, since all reads come before the
@@ -26,6 +27,7 @@
 //! rows are read, and its text and its rows while they are checked.
 #![tactic(auto)]
 
+mod area_limits;
 mod command;
 mod deciding;
 mod files;

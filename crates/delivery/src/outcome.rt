@@ -4,7 +4,7 @@ ghost use Rattle.certificate.specs.Spelling.{views};
 ghost use Rattle.itf_reader.specs.Findings.{findings_of};
 ghost use Rattle.itf_reader.specs.Refusals.{fault_of};
 ghost use Rattle.table_layout.specs.Values.{area_view, areas_view, layout_view, table_view, tables_view};
-ghost use Rattle.delivery.specs.Outcomes.{reported, usage, unread, too_long, refused, compiled, misbuilt, rejected, areas_later, accepted, later_line, table_line, topic_at, name_at};
+ghost use Rattle.delivery.specs.Outcomes.{reported, usage, unread, too_long, area_too_large, refused, compiled, misbuilt, rejected, areas_later, accepted, later_line, table_line, topic_at, name_at};
 ghost use Rattle.delivery.specs.LineViews.{line_of, lines_of};
 ghost use Rattle.delivery.specs.OutcomeViews.{outcome_of, table_there};
 ghost use Rattle.delivery.specs.FileRefusals.{IsNotRead};
@@ -72,6 +72,14 @@ pub fn not_read<'a>(alloc: Global, file: File, refusal: FileRefusal) -> Result<O
         }
         FileRefusal::Memory => Err(Memory),
     }
+}
+
+/// An area has more vertices or objects than its limit.
+pub fn area_too_large<'a>(alloc: Global) -> Result<Outcome<'a>, Memory>
+    ensures { IfOk result (λ o. outcome_of o ≡ area_too_large) }
+{
+    let lines = vec![in alloc; Line::AreaLimit]?;
+    Ok(reported(alloc, Status::OverLimit, lines))
 }
 
 /// The model is refused.

@@ -7,8 +7,9 @@ ghost use Rattle.delivery.specs.Judging.{IsChecked, IsRowsChecked};
 ghost use Rattle.delivery.specs.OutcomeViews.{outcome_of};
 ghost use Rattle.delivery.specs.RowsRead.{IsRows, IsStructure};
 
+use crate::area_limits::has_too_large;
 use crate::findings::{all_findings, count_objects};
-use crate::outcome::{Filing, Outcome, accepted, areas_later, misbuilt, rejected};
+use crate::outcome::{Filing, Outcome, accepted, area_too_large, areas_later, misbuilt, rejected};
 use itf_lines::logical_lines;
 use itf_reader::{ReadRefusal, Transfer, read_transfer};
 use ports::Memory;
@@ -29,6 +30,9 @@ fn check_rows<'a>(
     let found = all_findings(alloc, layout, transfer)?;
     if !found.is_empty() {
         return rejected(alloc, found);
+    }
+    if has_too_large(&transfer.tables, &layout.areas) {
+        return area_too_large(alloc);
     }
     if !layout.areas.is_empty() {
         return areas_later(alloc, layout);

@@ -54,6 +54,8 @@ pub enum Line {
     Unread(File),
     /// A file is longer than its limit.
     TooLong(File),
+    /// An area has more vertices or objects than its limit.
+    AreaLimit,
     /// The first fault of a model.
     ModelFault(Refusal),
     /// The name of a compiled model.

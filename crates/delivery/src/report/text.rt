@@ -231,6 +231,7 @@ impl Text {
             ),
             Line::Unread(file) => self.add_file(b"FAULT READ ", *file),
             Line::TooLong(file) => self.add_file(b"FAULT LIMIT ", *file),
+            Line::AreaLimit => self.add(b"FAULT LIMIT area"),
             Line::ModelFault(refusal) => self.add_refusal(refusal),
             Line::Model(name) => {
                 self.add(b"MODEL ")?;

@@ -1,0 +1,26 @@
+-- How large an area may be.
+use Rattle.std.specs.Prelude.{ℕ, ◌+◌, Bool, nat_lt, ◌||◌, List, [], ◌∷◌, length, slice_index_or}
+use Rattle.std.specs.List.{list_any}
+use Rattle.itf_reader.specs.Forms.{Vertex, Row}
+use Rattle.table_layout.specs.Layouts.{AreaOf}
+
+-- the greatest number of vertices of an area's lines, and of rows of its main table
+abbrev pub area_limit : ℕ
+area_limit = 16000000
+
+-- how many vertices lines have, and those of rows
+abbrev pub vertices_in : List (List Vertex) → ℕ
+vertices_in [] = 0
+vertices_in (line ∷ lines) = length line + vertices_in lines
+
+abbrev pub vertex_count : List Row → ℕ
+vertex_count [] = 0
+vertex_count (r ∷ rs) = vertices_in r.strokes + vertex_count rs
+
+-- the table of an area's lines, or its main table, has more than the limit
+abbrev pub is_too_large : List (List Row) → AreaOf → Bool
+is_too_large rows a = nat_lt area_limit (vertex_count (slice_index_or rows a.lines [])) || nat_lt area_limit (length (slice_index_or rows a.main []))
+
+-- some area is too large
+abbrev pub has_too_large : List (List Row) → List AreaOf → Bool
+has_too_large rows as_ = list_any (is_too_large rows) as_
