@@ -1,0 +1,4 @@
+pub mod MoreEdges
+pub mod Writing
+pub mod Apart
+pub mod TurnedEvents
