@@ -17,3 +17,4 @@ pub mod Groups
 pub mod FillSteps
 pub mod RowParts
 pub mod Ends
+pub mod NotedEvents

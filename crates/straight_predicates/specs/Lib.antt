@@ -6,3 +6,4 @@ pub mod Tables
 pub mod Rows
 pub mod Slots
 pub mod Rightward
+pub mod EdgeEvents

@@ -33,6 +33,7 @@ mod cutting;
 mod directions;
 #[cfg(test)]
 mod drawing_tests;
+mod edge_events;
 mod events;
 mod live_row;
 mod meeting;
@@ -50,6 +51,7 @@ mod turns;
 pub use between::edge_between;
 pub use cutting::{cut, turn_over};
 pub use directions::Direction;
+pub use edge_events::EdgeEvents;
 pub use live_row::Row;
 pub use meeting::meet;
 pub use meets::Meet;
