@@ -1,5 +1,5 @@
-// A square with a chord, worked by hand. That its steps are a complete run is proved in `plane`, and
-// from that what each call asks.
+// A square with a chord, worked by hand. That its steps are a complete run is proved in `plane`,
+// and from that what each call asks.
 ghost use Rattle.std.specs.Prelude.{◌≡◌, IfOk};
 ghost use Rattle.half_edges.specs.HalfEdges.{size};
 
