@@ -1,13 +1,11 @@
 -- No two events lie at one point.
-use Rattle.std.proofs.Common.{◌≡◌, ℕ, zero, suc, ◌<◌, List, [], ◌∷◌, length, map, get_or, refl, arith, ap, sym, ◌∙◌, subst}
+use Rattle.std.proofs.Common.{◌≡◌, ℕ, zero, suc, ◌<◌, List, [], ◌∷◌, length, get_or, refl, arith, ap, sym, ◌∙◌, subst}
 use Rattle.std.proofs.lemmas.List.{length-map}
 use Rattle.std.proofs.Math.ListN.{get_or-map}
 use Rattle.plane.specs.declared.kinds.Point.{Point}
 use Rattle.plane.specs.Forms.Vectors.{Before}
 use Rattle.plane.specs.Lists.{Neighbours, Has, Once}
-use Rattle.plane.specs.Runs.Steps.{Step, after}
-use Rattle.plane.specs.Runs.Moves.{step_of, steps_from}
-use Rattle.plane.specs.Runs.Timetables.{Timed, move_at, moves_at}
+use Rattle.plane.specs.Runs.Steps.{Step}
 use Rattle.plane.specs.Faces.Replays.{no_step}
 use Rattle.plane.proofs.ListLemmas.SortedLists.{has_at, sorted_once}
 use Rattle.plane.proofs.MoveLemmas.MadeSteps.{never}
@@ -35,10 +33,3 @@ pub point_has : (steps : List Step) (k : ℕ) → k < length steps → Has (get_
 point_has steps k l =
     let n = length-map steps (λ (s : Step). s.at) in
     subst (λ p. Has p (points_of steps)) (get_or-map (λ (s : Step). s.at) steps k no_step) (has_at (points_of steps) k no_step.at (omega (arith, l, n)))
-
--- the points of the steps of a timetable's moves are those of the timetable
-pub points_of_moves : (now : List ℕ) (table : List Timed) (ps : List ℕ) → length ps ≡ length table
-    → points_of (steps_from now (moves_at table ps)) ≡ map (λ (t : Timed). t.at) table
-points_of_moves now [] ps e = refl
-points_of_moves now (t ∷ table) [] e = absurd (omega (arith, e))
-points_of_moves now (t ∷ table) (p ∷ ps) e = ap (λ (pts : List Point). t.at ∷ pts) (points_of_moves (after (step_of now (move_at t p))) table ps (omega (arith, e)))

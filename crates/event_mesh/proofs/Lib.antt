@@ -2,3 +2,5 @@ pub mod MoreEdges
 pub mod Writing
 pub mod Apart
 pub mod TurnedEvents
+pub mod MovedEvents
+pub mod SquareMesh

@@ -1,8 +1,9 @@
 -- Meshes whose vertices are the events of steps, while the events are turned one after another.
-use Rattle.std.specs.Prelude.{◌≡◌, ℕ, ◌*◌, ◌<◌, ◌≤◌, List, length, map, get_or}
+use Rattle.std.specs.Prelude.{◌≡◌, ℕ, ◌*◌, ◌<◌, ◌≤◌, List, length, map, take, drop, get_or}
 use Rattle.plane.specs.declared.kinds.Point.{Point}
 use Rattle.plane.specs.declared.kinds.Edge.{Edge}
 use Rattle.plane.specs.Runs.Steps.{Step, GoodStep}
+use Rattle.plane.specs.Runs.Moves.{Move}
 use Rattle.plane.specs.Faces.Halves.{Half, edge_of, number}
 use Rattle.plane.specs.Faces.Directions.{origin}
 use Rattle.plane.specs.Faces.FanNumbers.{fan_numbers}
@@ -41,3 +42,7 @@ pub record IsEvent (m : ℕ) (E : ℕ → Edge) (steps : List Step) (k : ℕ) (b
   pub good : GoodStep m E (nth_step steps k)
   pub starting : (nth_step steps k).starting ≡ begun
   pub ending : (nth_step steps k).ending ≡ ended
+
+-- the edges of the live list that end by the move, from bottom to top
+abbrev pub ending_at : List ℕ → Move → List ℕ
+ending_at now v = take v.ending (drop v.position now)

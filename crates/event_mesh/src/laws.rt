@@ -1,10 +1,12 @@
-// Laws of meshes of events. Who replays a run keeps `IsTurned` by them, and reads `next` at the end.
-ghost use Rattle.std.specs.Prelude.{◌≡◌, ◌↔◌, ℕ, ℤ, suc, ◌*◌, ◌<◌, ◌^◌, ◌≤◌, List, length, map};
+// Laws of meshes of events. Who replays a run keeps `IsTurned` by them, and reads `next` at its
+// end.
+ghost use Rattle.std.specs.Prelude.{◌≡◌, ◌↔◌, ℕ, ℤ, suc, ◌<◌, ◌^◌, ◌≤◌, List, [], length, map};
+ghost use Rattle.std.specs.Prelude.{get_or, slice_index, take};
 ghost use Rattle.plane.specs.declared.kinds.Edge.{Edge};
-ghost use Rattle.plane.specs.Runs.Moves.{steps_from};
+ghost use Rattle.plane.specs.Runs.Moves.{AreGood, Move, live_from, no_move, steps_from};
 ghost use Rattle.plane.specs.Runs.Steps.{Step, Run};
 ghost use Rattle.plane.specs.Runs.Sweeps.{IsEventList};
-ghost use Rattle.plane.specs.Runs.Timetables.{Timed, moves_at};
+ghost use Rattle.plane.specs.Runs.Timetables.{Timed, moves_at, no_event};
 ghost use Rattle.plane.specs.Faces.Classes.{Next};
 ghost use Rattle.plane.specs.Faces.Halves.{Half, edge_of, number};
 ghost use Rattle.plane.specs.Faces.Replays.{replay};
@@ -12,8 +14,7 @@ ghost use Rattle.half_edges.specs.HalfEdges.{HalfEdges, next_of};
 ghost use Rattle.half_edges.specs.Stars.{IsLinked};
 ghost use Rattle.event_mesh.specs.Built.{IsMeshOf};
 ghost use Rattle.event_mesh.specs.Fans.{CanTurn, fan_of};
-ghost use Rattle.event_mesh.specs.Turned.{IsEvent, IsEventAt, IsTurned, points_of};
-ghost use Rattle.std.specs.Prelude.{slice_index};
+ghost use Rattle.event_mesh.specs.Turned.{IsEvent, IsEventAt, IsTurned, ending_at, points_of};
 
 /// A new mesh is one of which no event is turned; the next event can be turned, and then one more
 /// is.
@@ -33,9 +34,21 @@ pub fn turned_events()
         → IsEventList m E (points_of steps) → IsTurned m E steps old k
         → IsEvent m E steps k starting ending → IsLinked old new (fan_of starting ending)
         → IsTurned m E steps new (suc k) }
+{}
+
+/// The steps of a timetable's moves lie at its events; and a good move is an event at which its
+/// edges start, and end as they stand in the live list.
+pub fn events_of_moves()
     ensures points { (now : List ℕ) (table : List Timed) (ps : List ℕ)
         → length ps ≡ length table
         → points_of (steps_from now (moves_at table ps)) ≡ map (λ (t : Timed). t.at) table }
+    ensures at { (now : List ℕ) (table : List Timed) (ps : List ℕ) (k : ℕ)
+        → length ps ≡ length table → k < length table
+        → IsEventAt (steps_from now (moves_at table ps)) k (get_or table k no_event).at }
+    ensures event { (m : ℕ) (E : ℕ → Edge) (vs : List Move) (k : ℕ)
+        → k < length vs → AreGood m E [] (take (suc k) vs)
+        → IsEvent m E (steps_from [] vs) k (get_or vs k no_move).starting
+        (ending_at (live_from [] (take k vs)) (get_or vs k no_move)) }
 {}
 
 /// When all events of a complete run are turned, `next` of the mesh leads from each half-edge to

@@ -23,6 +23,8 @@
 
 mod building;
 pub mod laws;
+#[cfg(test)]
+mod tests;
 mod turning;
 
 pub use building::mesh_of;

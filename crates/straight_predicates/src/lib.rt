@@ -13,19 +13,21 @@
 //! - **Degenerate cases.** Upright edges, equal edges, edges of one line that overlap, touch or
 //!   leave a gap, and ends that coincide in each of the four ways are all taken.
 //! - **Lists of edges.** `Timetable` is the ends of edges in order, each with the edges that end
-//!   there, by number, and those that start there, by slope and then by number. `cut` finds the place
-//!   of a point in a list of edges; it promises the two edges beside the place and asks for no order
-//!   of the list. `Row` is a list with room that is changed in place. A sweep and a replay both work
+//!   there, by number, and those that start there, by slope and then by number; it also tells the
+//!   events of each edge's ends (`edge_events`), for a mesh of them. `cut` finds the place of a
+//!   point in a list of edges; it promises the two edges beside the place and asks for no order of
+//!   the list. `Row` is a list with room that is changed in place. A sweep and a replay both work
 //!   with these three; neither is here.
-//! - **Slopes.** `slope` compares directions to the right or straight up. Those have one strict order,
-//!   which a sort needs; directions of all ways round have none.
+//! - **Slopes.** `slope` compares directions to the right or straight up. Those have one strict
+//!   order, which a sort needs; directions of all ways round have none.
 //! - **Not here:** no half arcs, and no coordinates of a crossing.
 //!
 //! Cost: a turn is two products of 64-bit numbers to 128 bits; `meet` takes at most four turns and
 //! a few comparisons, `cut` a turn for each halving of its list. None of these takes memory. A
 //! timetable of m edges takes O(m log m) time, and 48 bytes an edge while it sorts; its readers are
-//! one load. `Row::replace` moves what lies behind the block, in one piece, where its length changes;
-//! it takes no memory.
+//! one load, but `edge_events`, which is linear and takes 8 bytes an edge, and `widest`, which is
+//! linear in the events. `Row::replace` moves what lies behind the block, in one piece, where its
+//! length changes; it takes no memory.
 #![tactic(auto)]
 
 mod between;

@@ -1,4 +1,3 @@
-use Rattle.event_mesh.proofs.Apart.{points_of_moves}
 use Rattle.event_mesh.proofs.TurnedEvents.{begin, can_turn, turned_more}
 use Rattle.event_mesh.proofs.laws.turned_events.Goals as goal
 
@@ -10,6 +9,3 @@ returns-clause-can c m E steps mesh k starting ending few events is event = can_
 
 pub returns-clause-more : goal.returns-clause-more
 returns-clause-more c m E steps old new k starting ending events is event linked = turned_more m E steps events old k is starting ending event new linked
-
-pub returns-clause-points : goal.returns-clause-points
-returns-clause-points c = points_of_moves
