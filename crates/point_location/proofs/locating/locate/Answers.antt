@@ -1,0 +1,56 @@
+use Rattle.std.proofs.Common.{◌≡◌, ◌<◌, ◌+◌, List, length, get_or, arith, ap, sym, ◌∙◌, subst, rules, refl}
+use Rattle.std.proofs.lemmas.List.{length-set}
+use Rattle.plane.specs.declared.kinds.Point.{Point}
+use Rattle.plane.specs.Forms.Vectors.{Before}
+use Rattle.plane.specs.Runs.Moves.{no_move}
+use Rattle.straight_predicates.specs.EdgeLists.{edge_of, no_point}
+use Rattle.line_sweep.specs.declared.kinds.Event.{Event}
+use Rattle.line_sweep.specs.Kinds.{moves_of}
+use Rattle.point_location.specs.declared.numbered.Numbered.{Numbered}
+use Rattle.point_location.specs.Numbered.{IsInOrder, nothing}
+use Rattle.point_location.specs.Places.{IsPlaceOf, no_place}
+use Rattle.point_location.specs.Replaying.{IsApplied, IsMoment}
+use Rattle.point_location.proofs.Placed.{before_next, moment_at, placed_all, placed_next}
+use Rattle.point_location.proofs.locating.locate.Goals as goal
+
+pub loop-point-init : goal.loop-point-init
+loop-point-init c = record {
+  done = record { known = omega arith; values = c.in_ok-live.ensures.values; room = c.in_ok-live.ensures.room };
+  passed = λ j l m. absurd (omega (arith, l));
+  size = search rules;
+  each = λ i l. absurd (omega (arith, l));
+}
+
+pub apply_before-applied-requires-clause-begun : goal.apply_before-applied-requires-clause-begun
+apply_before-applied-requires-clause-begun c = subst (λ (es : List Event). IsApplied (length c.args.edges.now) (moves_of es) c.loop-point.applied c.loop-point.live) (sym c.deref.ensures.value) c.loop-point.invariant.done
+
+pub place_at-requires-clause-moment : goal.place_at-requires-clause-moment
+place_at-requires-clause-moment c =
+    let a = c.apply_before-applied in
+    moment_at c.args.swept.now.events.items c.deref.result.now c.deref-in-loop-point.result.now c.deref.ensures.value c.deref-in-loop-point.ensures.value
+    (length c.args.edges.now) c.loop-point.applied a.result a.new.live c.values.result.now (get_or c.deref-point-items.result.now c.loop-point.point-index nothing).at
+    (λ j l. c.loop-point.invariant.passed j l c.loop-point-test.true) a.ensures.applied a.ensures.passed a.ensures.coming c.values.ensures
+
+pub loop-point-preserved : goal.loop-point-preserved
+loop-point-preserved c =
+    let a = c.apply_before-applied in
+    let order = c.deref-point-items.result.now in
+    let k = c.loop-point.point-index in
+    let moves = moves_of c.args.swept.now.events.items in
+    let o : IsInOrder c.args.points.now order = subst (λ (ns : List Numbered). IsInOrder c.args.points.now ns) (sym c.deref-point-items.ensures.value) c.in_ok-order.ensures in
+    let m = moment_at c.args.swept.now.events.items c.deref.result.now c.args.swept.now.events.items c.deref.ensures.value refl
+        (length c.args.edges.now) c.loop-point.applied a.result a.new.live c.values.result.now (get_or order k nothing).at
+        (λ j l. c.loop-point.invariant.passed j l c.loop-point-test.true) a.ensures.applied a.ensures.passed a.ensures.coming c.values.ensures in
+    record {
+      done = subst (λ (es : List Event). IsApplied (length c.args.edges.now) (moves_of es) a.result a.new.live) c.deref.ensures.value a.ensures.applied;
+      passed = λ j l h. before_next c.args.points.now order o k h _ (m.passed j l);
+      size = length-set c.loop-point.places.items _ c.place_at.result ∙ c.loop-point.invariant.size;
+      each = placed_next (IsPlaceOf c.args.edges.now moves) c.args.points.now order o c.loop-point.places.items c.loop-point.invariant.size k c.loop-point-test.true c.place_at.result
+          (subst (λ (es : List Event). IsPlaceOf c.args.edges.now (moves_of es) (get_or order k nothing).at c.place_at.result) c.deref-in-loop-point.ensures.value c.place_at.ensures)
+          c.loop-point.invariant.each;
+    }
+
+pub returns : goal.returns
+returns c =
+    placed_all c.args.edges.now (moves_of c.args.swept.now.events.items) c.args.points.now c.deref-point-items.result.now c.loop-point.places.items c.loop-point.point-index
+    (subst (λ (ns : List Numbered). IsInOrder c.args.points.now ns) (sym c.deref-point-items.ensures.value) c.in_ok-order.ensures) c.loop-point-test.false c.loop-point.invariant.size c.loop-point.invariant.each

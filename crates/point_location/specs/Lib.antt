@@ -1,0 +1,4 @@
+pub mod Between
+pub mod Numbered
+pub mod Places
+pub mod Replaying

@@ -1,0 +1,45 @@
+// The places of points, point by point.
+ghost use Rattle.std.specs.Prelude.{ℕ, ◌^◌, ◌<◌, [], length, IfOk, slice_index_or};
+ghost use Rattle.plane.specs.Runs.Moves.{Fit, steps_from};
+ghost use Rattle.plane.specs.Runs.Steps.{Run};
+ghost use Rattle.straight_predicates.specs.EdgeLists.{edge_of, no_point, IsCloseToAll};
+ghost use Rattle.line_sweep.specs.Kinds.{moves_of};
+ghost use Rattle.point_location.specs.Places.{ArePlaces};
+
+use super::numbered::in_order;
+use super::places::Place;
+use super::placing::place_at;
+use super::replaying::apply_before;
+use line_sweep::Swept;
+use plane::{Edge, Point};
+use ports::Memory;
+use std::alloc::Global;
+use straight_predicates::Row;
+
+/// The place of each point in the run that the events of a sweep over these edges make. The only
+/// error is want of memory. Costs stand at the head of the crate.
+pub fn locate(
+    alloc: Global,
+    edges: &[Edge],
+    swept: &Swept,
+    points: &[Point],
+) -> Result<Vec<Place>, Memory>
+    requires few { length edges.now < 2 ^ 31 }
+    requires run { Run (length edges.now) (edge_of edges.now) (steps_from []
+        (moves_of swept.now.events.items)) }
+    requires fit { Fit [] (moves_of swept.now.events.items) }
+    requires close { (j : ℕ) → j < length points.now
+        → IsCloseToAll edges.now (slice_index_or points.now j no_point) }
+    ensures { IfOk result (λ places. ArePlaces edges.now (moves_of swept.now.events.items)
+        points.now places.items) }
+{
+    let order = in_order(alloc, points)?;
+    let mut places = vec![in alloc; Place::OnEdge(0); points.len()]?;
+    let mut live = Row::new(alloc, edges.len())?;
+    let mut applied = 0;
+    for point in &order {
+        applied = apply_before(edges, &swept.events, applied, &mut live, point.at);
+        places[point.number] = place_at(edges, &swept.events, applied, live.values(), point.at);
+    }
+    Ok(places)
+}
