@@ -6,3 +6,6 @@ pub mod FormLaws
 pub mod TextLaws
 pub mod Files
 pub mod Whole
+pub mod FirstLines
+pub mod Stops
+pub mod FirstBadLine

@@ -122,7 +122,7 @@ name_is name c rest h k = front_is (λ name. name) is_name_byte name c rest h.by
 own : IsNumeralModel (λ ds. all_ascii_digits ds ≡ true) (digits_value 10)
 own = numerals_by_value (λ ds. all_ascii_digits ds ≡ true) tells_all_ascii_digits
 
-each_digit : (ds : List ℕ) → all_ascii_digits ds ≡ true → AllByRecursion (λ c. is_ascii_digit c ≡ true) ds
+pub each_digit : (ds : List ℕ) → all_ascii_digits ds ≡ true → AllByRecursion (λ c. is_ascii_digit c ≡ true) ds
 each_digit [] h = tt
 each_digit (d ∷ ds) h = let k = both_true (is_ascii_digit d) (all_ascii_digits ds) h in (k.0, each_digit ds k.1)
 

@@ -21,17 +21,17 @@ use Rattle.certificate.proofs.FormLaws.{size_words, FitsSizes, version_gave, ver
 abbrev done : {A : Type 0} → A → Result A CertFault
 done x = Ok x
 
-ok_is : {A : Type 0} (x y : A) → done x ≡ done y → x ≡ y
+pub ok_is : {A : Type 0} (x y : A) → done x ≡ done y → x ≡ y
 ok_is x y e = cc
 
-then_ok : {A B : Type 0} (r : Result A CertFault) (f : A → Result B CertFault) (y : B) (P : Type 0) → (r >>= f) ≡ Ok y → ((x : A) → r ≡ Ok x → f x ≡ Ok y → P) → P
+pub then_ok : {A B : Type 0} (r : Result A CertFault) (f : A → Result B CertFault) (y : B) (P : Type 0) → (r >>= f) ≡ Ok y → ((x : A) → r ≡ Ok x → f x ≡ Ok y → P) → P
 then_ok (Ok x) f y P h k = k x refl h
 then_ok (Err e) f y P h k = absurd (cc)
 
-step_is : {A B : Type 0} (r : Result A CertFault) (x : A) (f : A → Result B CertFault) (z : Result B CertFault) → r ≡ Ok x → f x ≡ z → (r >>= f) ≡ z
+pub step_is : {A B : Type 0} (r : Result A CertFault) (x : A) (f : A → Result B CertFault) (z : Result B CertFault) → r ≡ Ok x → f x ≡ z → (r >>= f) ≡ z
 step_is {A = A} r x f z e h = ap (λ (o : Result A CertFault). o >>= f) e ∙ h
 
-abbrev from : List ℕ → ℕ → Text
+abbrev pub from : List ℕ → ℕ → Text
 from rest line = record { rest = rest; line = line }
 
 -- ---- one line
@@ -48,11 +48,11 @@ formed_gave {A = A} n (Some y) x u e =
     let s = spelt_gave n y.0 y.1 x u e in
     ap (λ (z : Option A). Some (z, y.1)) s.0 ∙ ap (λ (r : List ℕ). Some (Some x, r)) s.1
 
-not_short : {A : Type 0} (b : Bool) (e : CertFault) (r : Lines A) (y : A × Text) → cond b (Err e) r ≡ Ok y → (b ≡ false) × (r ≡ Ok y)
+pub not_short : {A : Type 0} (b : Bool) (e : CertFault) (r : Lines A) (y : A × Text) → cond b (Err e) r ≡ Ok y → (b ≡ false) × (r ≡ Ok y)
 not_short true e r y h = absurd (cc)
 not_short false e r y h = (refl, h)
 
-line_gave : {A : Type 0} (form : List ℕ → Line A) (t : Text) (x : A) (u : Text) → line_at form t ≡ Ok (x, u) → form t.rest ≡ Some (Some x, u.rest)
+pub line_gave : {A : Type 0} (form : List ℕ → Line A) (t : Text) (x : A) (u : Text) → line_at form t ≡ Ok (x, u) → form t.rest ≡ Some (Some x, u.rest)
 line_gave form t x u e = formed_gave t.line (form t.rest) x u (not_short (nat_eq (length t.rest) 0) (faults.Short t.line) (if_formed t.line (form t.rest)) (x, u) e).1
 
 line_long : (words : List (List ℕ)) → 0 < length (line words)
@@ -60,10 +60,10 @@ line_long [] = omega arith
 line_long (word ∷ []) = omega (arith, length-append word (codes "\n"))
 line_long (word ∷ next ∷ words) = omega (arith, length-append word (32 ∷ line (next ∷ words)))
 
-line_some : (words : List (List ℕ)) (rest : List ℕ) → 0 < length (line words ++ rest)
+pub line_some : (words : List (List ℕ)) (rest : List ℕ) → 0 < length (line words ++ rest)
 line_some words rest = omega (arith, length-append (line words) rest, line_long words)
 
-line_is : {A : Type 0} (form : List ℕ → Line A) (bytes : List ℕ) (n : ℕ) (x : A) (rest : List ℕ) → 0 < length bytes → form bytes ≡ Some (Some x, rest) → line_at form (from bytes n) ≡ Ok (x, from rest (n + 1))
+pub line_is : {A : Type 0} (form : List ℕ → Line A) (bytes : List ℕ) (n : ℕ) (x : A) (rest : List ℕ) → 0 < length bytes → form bytes ≡ Some (Some x, rest) → line_at form (from bytes n) ≡ Ok (x, from rest (n + 1))
 line_is {A = A} form bytes n x rest l h =
     let e : nat_eq (length bytes) 0 ≡ false = grind (arith, nat_tests) in
     ap (λ (b : Bool). cond b (Err (faults.Short n)) (if_formed n (form bytes))) e ∙ ap (λ (o : Line A). if_formed n o) h
@@ -92,7 +92,7 @@ many_gave {A = A} one text P gave (suc n) t xs u e =
 abbrev pub IsRead : {A : Type 0} → (Text → Lines A) → List ℕ → ℕ → A → List ℕ → Type 0
 IsRead one bytes n x rest = (m : ℕ) × (one (from bytes n) ≡ Ok (x, from rest m))
 
-many_is : {A : Type 0} (one : Text → Lines A) (text : A → List ℕ) (P : A → Type 0) → ((x : A) (n : ℕ) (rest : List ℕ) → P x → IsRead one (text x ++ rest) n x rest)
+pub many_is : {A : Type 0} (one : Text → Lines A) (text : A → List ℕ) (P : A → Type 0) → ((x : A) (n : ℕ) (rest : List ℕ) → P x → IsRead one (text x ++ rest) n x rest)
     → (xs : List A) (n : ℕ) (rest : List ℕ) → AllByRecursion P xs → IsRead (many_at one (length xs)) (flat_map text xs ++ rest) n xs rest
 unfolding many_at
 many_is one text P is [] n rest h = (n, refl)
@@ -108,37 +108,37 @@ many_is one text P is (x ∷ xs) n rest h =
 
 -- ---- the lines of each kind
 
-events_gave : (n : ℕ) (t : Text) (xs : List ℕ) (u : Text) → many_at (line_at event_at) n t ≡ Ok (xs, u) → (t.rest ≡ flat_map event_line xs ++ u.rest) × (length xs ≡ n) × AllByRecursion (λ n. n < 2 ^ 32) xs
+pub events_gave : (n : ℕ) (t : Text) (xs : List ℕ) (u : Text) → many_at (line_at event_at) n t ≡ Ok (xs, u) → (t.rest ≡ flat_map event_line xs ++ u.rest) × (length xs ≡ n) × AllByRecursion (λ n. n < 2 ^ 32) xs
 events_gave = many_gave (line_at event_at) event_line (λ n. n < 2 ^ 32) (λ t x u e. event_gave t.rest x u.rest (line_gave event_at t x u e))
 
-edges_gave : (n : ℕ) (t : Text) (xs : List (HalfNote × HalfNote)) (u : Text) → many_at (line_at edge_at) n t ≡ Ok (xs, u) → (t.rest ≡ flat_map edge_line xs ++ u.rest) × (length xs ≡ n) × AllByRecursion FitsEdge xs
+pub edges_gave : (n : ℕ) (t : Text) (xs : List (HalfNote × HalfNote)) (u : Text) → many_at (line_at edge_at) n t ≡ Ok (xs, u) → (t.rest ≡ flat_map edge_line xs ++ u.rest) × (length xs ≡ n) × AllByRecursion FitsEdge xs
 edges_gave = many_gave (line_at edge_at) edge_line FitsEdge (λ t x u e. edge_gave t.rest x u.rest (line_gave edge_at t x u e))
 
-places_gave : (n : ℕ) (t : Text) (xs : List PointPlace) (u : Text) → many_at (line_at place_at) n t ≡ Ok (xs, u) → (t.rest ≡ flat_map place_line xs ++ u.rest) × (length xs ≡ n) × AllByRecursion FitsPlace xs
+pub places_gave : (n : ℕ) (t : Text) (xs : List PointPlace) (u : Text) → many_at (line_at place_at) n t ≡ Ok (xs, u) → (t.rest ≡ flat_map place_line xs ++ u.rest) × (length xs ≡ n) × AllByRecursion FitsPlace xs
 places_gave = many_gave (line_at place_at) place_line FitsPlace (λ t x u e. place_gave t.rest x u.rest (line_gave place_at t x u e))
 
-event_read : (x n : ℕ) (rest : List ℕ) → x < 2 ^ 32 → IsRead (line_at event_at) (event_line x ++ rest) n x rest
+pub event_read : (x n : ℕ) (rest : List ℕ) → x < 2 ^ 32 → IsRead (line_at event_at) (event_line x ++ rest) n x rest
 event_read x n rest f = (n + 1, line_is event_at (event_line x ++ rest) n x rest (line_some (codes "V" ∷ decimal x ∷ []) rest) (event_is x rest f))
 
-edge_some : (e : HalfNote × HalfNote) (rest : List ℕ) → 0 < length (edge_line e ++ rest)
+pub edge_some : (e : HalfNote × HalfNote) (rest : List ℕ) → 0 < length (edge_line e ++ rest)
 edge_some e rest = omega arith
 
-edge_read : (x : HalfNote × HalfNote) (n : ℕ) (rest : List ℕ) → FitsEdge x → IsRead (line_at edge_at) (edge_line x ++ rest) n x rest
+pub edge_read : (x : HalfNote × HalfNote) (n : ℕ) (rest : List ℕ) → FitsEdge x → IsRead (line_at edge_at) (edge_line x ++ rest) n x rest
 edge_read x n rest f = (n + 1, line_is edge_at (edge_line x ++ rest) n x rest (edge_some x rest) (edge_is x rest f))
 
 place_some : (p : PointPlace) (rest : List ℕ) → 0 < length (place_line p ++ rest)
 place_some (Cell n) rest = line_some (codes "P" ∷ decimal n ∷ []) rest
 place_some (Tube n inside) rest = line_some (codes "P" ∷ codes "T" ∷ decimal n ∷ side_word inside ∷ []) rest
 
-place_read : (x : PointPlace) (n : ℕ) (rest : List ℕ) → FitsPlace x → IsRead (line_at place_at) (place_line x ++ rest) n x rest
+pub place_read : (x : PointPlace) (n : ℕ) (rest : List ℕ) → FitsPlace x → IsRead (line_at place_at) (place_line x ++ rest) n x rest
 place_read x n rest f = (n + 1, line_is place_at (place_line x ++ rest) n x rest (place_some x rest) (place_is x rest f))
 
 -- ---- a certificate
 
-same_sizes : (level : ℕ) (c : Counts) (e v p : ℕ) → e ≡ c.edges → v ≡ c.events → p ≡ c.points → line (size_words level c) ≡ line (codes "SIZES" ∷ decimal level ∷ decimal e ∷ decimal v ∷ decimal p ∷ [])
+pub same_sizes : (level : ℕ) (c : Counts) (e v p : ℕ) → e ≡ c.edges → v ≡ c.events → p ≡ c.points → line (size_words level c) ≡ line (codes "SIZES" ∷ decimal level ∷ decimal e ∷ decimal v ∷ decimal p ∷ [])
 same_sizes level c e v p i j k = rw (i, j, k) refl
 
-certificate_gave : (t : Text) (c : Plain) (u : Text) → certificate_at t ≡ Ok (c, u) → (t.rest ≡ certificate_text c ++ u.rest) × Fits c
+pub certificate_gave : (t : Text) (c : Plain) (u : Text) → certificate_at t ≡ Ok (c, u) → (t.rest ≡ certificate_text c ++ u.rest) × Fits c
 unfolding certificate_at
 certificate_gave t c u e =
     then_ok (line_at title_at t) _ (c, u) _ e (λ title i1 e1.
@@ -175,10 +175,10 @@ certificate_gave t c u e =
     } in
     subst (λ (y : Plain × Text). (t.rest ≡ certificate_text y.0 ++ y.1.rest) × Fits y.0) p (r1, fits)))))))
 
-regroup : (a b c d e f rest : List ℕ) → (a ++ (b ++ (c ++ (d ++ (e ++ f))))) ++ rest ≡ a ++ (b ++ (c ++ (d ++ (e ++ (f ++ rest)))))
+pub regroup : (a b c d e f rest : List ℕ) → (a ++ (b ++ (c ++ (d ++ (e ++ f))))) ++ rest ≡ a ++ (b ++ (c ++ (d ++ (e ++ (f ++ rest)))))
 regroup a b c d e f rest = simp append_assoc
 
-certificate_read : (c : Plain) (n : ℕ) (rest : List ℕ) → Fits c → IsRead certificate_at (certificate_text c ++ rest) n c rest
+pub certificate_read : (c : Plain) (n : ℕ) (rest : List ℕ) → Fits c → IsRead certificate_at (certificate_text c ++ rest) n c rest
 unfolding certificate_at
 certificate_read c n rest f =
     let title : Title = record { topic = c.topic; table = c.table; attribute = c.attribute } in

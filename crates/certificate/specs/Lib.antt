@@ -1,5 +1,6 @@
 pub mod Spelling
 pub mod Parts
 pub mod Reading
+pub mod FirstBad
 pub mod Views
 pub mod Appending

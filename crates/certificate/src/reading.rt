@@ -1,9 +1,10 @@
 // A certificate's text, read line by line.
-ghost use Rattle.std.specs.Prelude.{◌≡◌, ◌<◌, ◌≤◌, ◌^◌, ◌+◌, length, IfSome, IfOk, Ok, List, ℕ};
+ghost use Rattle.std.specs.Prelude.{◌≡◌, ◌<◌, ◌≤◌, ◌^◌, ◌+◌, length, IfSome, IfOk, IfErr, Ok, List, ℕ};
 ghost use Rattle.std.specs.Option.{option_map};
 ghost use Rattle.std.specs.List.{AllByRecursion};
 ghost use Rattle.certificate.specs.Spelling.{Plain, AreSpelt, ArePaired, pairs, view, views, spelling};
 ghost use Rattle.certificate.specs.Reading.{Gives, seen, Text, text_of, line_of, line_at, many_at, certificate_at, list_of};
+ghost use Rattle.certificate.specs.FirstBad.{IsFault};
 ghost use Rattle.certificate.specs.Parts.{title_at, sizes_at, event_at, edge_at, place_at, end_at};
 
 use crate::fault::CertFault;
@@ -165,7 +166,10 @@ pub fn read(alloc: Global, bytes: &[u8]) -> Result<Vec<Certificate>, CertFault>
     // What is spelt so is read, unless memory runs out.
     ensures only { (list : List Plain) → AreSpelt list
         → bytes.now ≡ spelling list → Gives (λ list. views list.items) result (Ok list) }
-    // Which line is the first bad one, and what is wrong with it.
+    // The line of a fault is the first bad one: the lines before it begin the spelling of some list,
+    // and those up to it begin none.
+    ensures first_bad { IfErr result (IsFault bytes.now) }
+    // Which fault it is, by the form of each line.
     ensures exact { Gives (λ list. views list.items) result (list_of bytes.now) }
     // Each note has a partner.
     ensures paired { IfOk result (λ list. AllByRecursion (λ c. ArePaired c.notes.items) list.items) }
