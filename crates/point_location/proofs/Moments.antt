@@ -4,13 +4,12 @@ use Rattle.std.proofs.lemmas.Int.{ints}
 use Rattle.std.proofs.lemmas.List.{length-drop}
 use Rattle.plane.specs.declared.kinds.Point.{Point}
 use Rattle.plane.specs.declared.kinds.Edge.{Edge}
-use Rattle.plane.specs.Lists.{Each, First, Has, Neighbours}
+use Rattle.plane.specs.Lists.{Each, First, Neighbours}
 use Rattle.plane.specs.Forms.Meets.{IsEnd, OnStraight}
 use Rattle.plane.specs.Forms.Vectors.{point, rise, Before}
 use Rattle.plane.specs.Runs.Moves.{Fit, Move, live_from, made, no_move, step_of, steps_from}
 use Rattle.plane.specs.Runs.Steps.{Run, Step, after, live, onto}
-use Rattle.plane.specs.Faces.Replays.{no_step}
-use Rattle.point_location.proofs.PlaneLaws.{has_at, room, before_trans, live_made, onto_made, step_is, steps_length, run_repeats_none, run_known, run_weight, run_good, rise-is, side-low, side-high, on_straight, event_end}
+use Rattle.point_location.proofs.PlaneLaws.{room, before_trans, onto_made, run_repeats_none, run_known, run_weight, rise-is, side-low, side-high, on_straight}
 
 -- ---- live lists by number
 pub fits_at : (now : List ℕ) (vs : List Move) (k : ℕ) → Fit now vs → k < length vs → (get_or vs k no_move).position + (get_or vs k no_move).ending ≤ length (live_from now (take k vs))

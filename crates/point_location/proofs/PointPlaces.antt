@@ -1,5 +1,5 @@
 -- What the place in the live list says of a point in a run.
-use Rattle.std.proofs.Common.{◌≡◌, ℕ, zero, suc, ◌+◌, ◌-◌, ◌^◌, ◌<◌, ◌≤◌, ◌⊎◌, inl, inr, ℤ, pos, ◌<ℤ◌, Option, List, [], ◌∷◌, length, take, drop, get_or, refl, arith, ap, sym, ◌∙◌, subst}
+use Rattle.std.proofs.Common.{◌≡◌, ℕ, zero, suc, ◌+◌, ◌-◌, ◌^◌, ◌<◌, ◌≤◌, inl, inr, pos, ◌<ℤ◌, Option, List, [], ◌∷◌, length, take, drop, get_or, refl, arith, ap, sym, ◌∙◌, subst}
 use Rattle.std.proofs.lemmas.Int.{ints}
 use Rattle.plane.specs.declared.kinds.Point.{Point}
 use Rattle.plane.specs.declared.kinds.Edge.{Edge}
@@ -9,10 +9,9 @@ use Rattle.plane.specs.Forms.Vectors.{point, side, Before}
 use Rattle.plane.specs.Runs.Gaps.{edge_at, edge_before}
 use Rattle.plane.specs.Runs.Moves.{Fit, Move, live_from, made, no_move, step_of, steps_from}
 use Rattle.plane.specs.Runs.Positions.{turn_at}
-use Rattle.plane.specs.Runs.Steps.{GoodStep, Run, Step, live}
+use Rattle.plane.specs.Runs.Steps.{GoodStep, Run, Step}
 use Rattle.plane.specs.Faces.Halves.{At, AtBefore}
-use Rattle.plane.specs.Faces.PlacedPoints.{IsLocated}
-use Rattle.plane.specs.Faces.Replays.{list_after, no_step, replay}
+use Rattle.plane.specs.Faces.Replays.{list_after, no_step}
 use Rattle.straight_predicates.specs.EdgeLists.{edge_of, AreBelow}
 use Rattle.point_location.specs.declared.places.Place.{Place}
 use Rattle.point_location.specs.declared.places.Place.TheVariants as place

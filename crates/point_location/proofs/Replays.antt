@@ -1,6 +1,5 @@
 -- One event more of a replay, and the least edge at an event.
-use Rattle.std.proofs.Common.{◌≡◌, ℕ, zero, suc, ◌+◌, ◌-◌, ◌^◌, ◌<◌, ◌≤◌, min, ◌⊎◌, inl, inr, ℤ, pos, ◌<ℤ◌, ◌≤ℤ◌, List, [], ◌∷◌, ◌++◌, length, take, drop, get_or, refl, arith, ap, sym, ◌∙◌, subst, add-one}
-use Rattle.std.proofs.lemmas.Int.{ints}
+use Rattle.std.proofs.Common.{◌≡◌, ℕ, zero, suc, ◌+◌, ◌-◌, ◌^◌, ◌<◌, ◌≤◌, min, ◌⊎◌, inl, inr, List, [], ◌∷◌, ◌++◌, length, take, drop, get_or, refl, arith, ap, sym, ◌∙◌, subst, add-one}
 use Rattle.std.proofs.lemmas.List.{get_or-map, length-append, length-drop, length-map, length-take-le}
 use Rattle.plane.specs.declared.kinds.Edge.{Edge}
 use Rattle.plane.specs.declared.kinds.Point.{Point}

@@ -23,6 +23,8 @@ mod numbered;
 mod places;
 mod placing;
 mod replaying;
+#[cfg(test)]
+mod tests;
 
 pub use locating::locate;
 pub use places::Place;

@@ -14,13 +14,7 @@ use line_sweep::Event;
 use plane::{Edge, Point};
 
 /// The place of a point in the live list after exactly the events before it.
-pub fn place_at(
-    edges: &[Edge],
-    events: &[Event],
-    applied: usize,
-    live: &[u32],
-    at: Point,
-) -> Place
+pub fn place_at(edges: &[Edge], events: &[Event], applied: usize, live: &[u32], at: Point) -> Place
     requires few { length edges.now < 2 ^ 31 }
     requires run { Run (length edges.now) (edge_of edges.now) (steps_from []
         (moves_of events.now)) }

@@ -1,15 +1,11 @@
-use Rattle.std.proofs.Common.{◌≡◌, ◌<◌, ◌+◌, List, length, get_or, arith, ap, sym, ◌∙◌, subst, rules, refl}
+use Rattle.std.proofs.Common.{List, length, get_or, arith, sym, ◌∙◌, subst, rules, refl}
 use Rattle.std.proofs.lemmas.List.{length-set}
-use Rattle.plane.specs.declared.kinds.Point.{Point}
-use Rattle.plane.specs.Forms.Vectors.{Before}
-use Rattle.plane.specs.Runs.Moves.{no_move}
-use Rattle.straight_predicates.specs.EdgeLists.{edge_of, no_point}
 use Rattle.line_sweep.specs.declared.kinds.Event.{Event}
 use Rattle.line_sweep.specs.Kinds.{moves_of}
 use Rattle.point_location.specs.declared.numbered.Numbered.{Numbered}
 use Rattle.point_location.specs.Numbered.{IsInOrder, nothing}
-use Rattle.point_location.specs.Places.{IsPlaceOf, no_place}
-use Rattle.point_location.specs.Replaying.{IsApplied, IsMoment}
+use Rattle.point_location.specs.Places.{IsPlaceOf}
+use Rattle.point_location.specs.Replaying.{IsApplied}
 use Rattle.point_location.proofs.Placed.{before_next, moment_at, placed_all, placed_next}
 use Rattle.point_location.proofs.locating.locate.Goals as goal
 
@@ -39,8 +35,8 @@ loop-point-preserved c =
     let moves = moves_of c.args.swept.now.events.items in
     let o : IsInOrder c.args.points.now order = subst (λ (ns : List Numbered). IsInOrder c.args.points.now ns) (sym c.deref-point-items.ensures.value) c.in_ok-order.ensures in
     let m = moment_at c.args.swept.now.events.items c.deref.result.now c.args.swept.now.events.items c.deref.ensures.value refl
-        (length c.args.edges.now) c.loop-point.applied a.result a.new.live c.values.result.now (get_or order k nothing).at
-        (λ j l. c.loop-point.invariant.passed j l c.loop-point-test.true) a.ensures.applied a.ensures.passed a.ensures.coming c.values.ensures in
+    (length c.args.edges.now) c.loop-point.applied a.result a.new.live c.values.result.now (get_or order k nothing).at
+    (λ j l. c.loop-point.invariant.passed j l c.loop-point-test.true) a.ensures.applied a.ensures.passed a.ensures.coming c.values.ensures in
     record {
       done = subst (λ (es : List Event). IsApplied (length c.args.edges.now) (moves_of es) a.result a.new.live) c.deref.ensures.value a.ensures.applied;
       passed = λ j l h. before_next c.args.points.now order o k h _ (m.passed j l);

@@ -1,4 +1,4 @@
-use Rattle.std.proofs.Common.{rules, arith, ap, ◌∙◌, subst, IsPermutation, refl}
+use Rattle.std.proofs.Common.{rules, ap, ◌∙◌, subst, IsPermutation, refl}
 use Rattle.std.proofs.lemmas.List.{take_all}
 use Rattle.std.proofs.lemmas.List.Sorted.{answers_always}
 use Rattle.straight_predicates.specs.EdgeLists.{no_point}

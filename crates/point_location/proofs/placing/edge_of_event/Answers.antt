@@ -1,4 +1,3 @@
-use Rattle.std.proofs.Common.{sym}
 use Rattle.line_sweep.specs.Kinds.{move_of}
 use Rattle.point_location.proofs.Replays.{least_of_all, least_is_one, part_is}
 use Rattle.point_location.proofs.placing.edge_of_event.Goals as goal

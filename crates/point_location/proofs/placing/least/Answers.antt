@@ -1,4 +1,4 @@
-use Rattle.std.proofs.Common.{◌≡◌, ℕ, ◌<◌, ◌≤◌, min, arith, List, get_or, length, inl, inr, ◌⊎◌}
+use Rattle.std.proofs.Common.{arith}
 use Rattle.point_location.proofs.Replays.{least_next, least_each}
 use Rattle.point_location.proofs.placing.least.Goals as goal
 

@@ -1,11 +1,9 @@
-use Rattle.std.proofs.Common.{◌≡◌, ◌+◌, ◌<◌, ◌≤◌, length, get_or, arith, ap, sym, ◌∙◌, subst, rules, true, false, Bool, refl}
-use Rattle.plane.specs.Runs.Moves.{Move, no_move}
-use Rattle.straight_predicates.specs.EdgeLists.{edge_of}
-use Rattle.line_sweep.specs.Kinds.{move_of, moves_of}
+use Rattle.std.proofs.Common.{◌≡◌, ◌+◌, ◌<◌, ◌≤◌, length, arith, ap, sym, ◌∙◌, subst, true, false, Bool}
+use Rattle.plane.specs.Runs.Moves.{Move}
+use Rattle.line_sweep.specs.Kinds.{moves_of}
 use Rattle.point_location.specs.Replaying.{EndsOrStarts}
 use Rattle.plane.specs.Runs.Moves.{step_of}
 use Rattle.point_location.proofs.PlaneLaws.{decides_equal}
-use Rattle.point_location.proofs.Moments.{fits_at}
 use Rattle.point_location.proofs.PointPlaces.{event_fits, least_at_event, now_known, now_room, place_is, some_edge}
 use Rattle.point_location.proofs.Replays.{move_is, moves_size}
 use Rattle.point_location.proofs.placing.place_at.Goals as goal

@@ -1,4 +1,4 @@
-use Rattle.std.proofs.Common.{ap, length, arith, sym, subst, ◌∙◌, rules}
+use Rattle.std.proofs.Common.{length, arith, sym, subst, rules}
 use Rattle.plane.specs.Forms.Vectors.{Before}
 use Rattle.straight_predicates.specs.EdgeLists.{edge_of}
 use Rattle.line_sweep.specs.Kinds.{move_of, moves_of}
