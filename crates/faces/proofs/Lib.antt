@@ -1,0 +1,10 @@
+pub mod Borders
+pub mod CellPairs
+pub mod CellRows
+pub mod PairCounts
+pub mod PairRows
+pub mod Numbering
+pub mod Passes
+pub mod Passing
+pub mod PlaneLaws
+pub mod Searches

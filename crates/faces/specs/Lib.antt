@@ -1,0 +1,5 @@
+pub mod Counts
+pub mod Joined
+pub mod Labels
+pub mod Rows
+pub mod Searching

@@ -1,0 +1,136 @@
+// Faces by number.
+ghost use Rattle.std.specs.Prelude.{◌≡◌, ℕ, ◌+◌, ◌^◌, ◌<◌, [], ◌∷◌, IfOk, length, slice_index, suc};
+ghost use Rattle.plane.specs.Lists.{Has};
+ghost use Rattle.half_edges.specs.HalfEdges.{size};
+ghost use Rattle.half_edges.specs.Meshes.{AgreesAlong, with_faces};
+ghost use Rattle.line_sweep.specs.Kinds.{gap_of, gaps_of};
+ghost use Rattle.faces.specs.Joined.{AreKnown, AtBorder};
+ghost use Rattle.faces.specs.Labels.{AreFaces, greatest};
+ghost use Rattle.faces.specs.Searching.{HasSearched, IsGraph, IsKept, IsNumberedTo, IsWaiting};
+
+use super::graph::{Graph, halves_of};
+use super::labelled::Labelled;
+use super::searching::{Search, UNSET};
+use super::sides::{over, under};
+use super::spreading::spread;
+use half_edges::{FaceId, HalfEdgeId, Mesh};
+use line_sweep::{Cell, Swept};
+use ports::Memory;
+use std::alloc::Global;
+
+/// The mesh with its faces: half-edges have one face exactly where they are joined by the way
+/// round a face, by cells of the sweep and over the border, and face 0 exactly where they are
+/// joined with one that was beside the border. The other faces are numbered in the order of their
+/// least half-edge. The only error is want of memory, and the mesh is then gone. It takes time
+/// linear in the half-edges and the cells, and for a while 24 bytes a half-edge and 8 a cell.
+pub fn label(alloc: Global, mesh: Mesh, swept: &Swept) -> Result<Labelled, Memory>
+    requires known { AreKnown (size mesh) (gaps_of swept.now.cells.items) }
+    ensures unchanged { IfOk result (λ l. l.mesh ≡ with_faces mesh l.mesh.face) }
+    ensures faces { IfOk result (λ l. AreFaces mesh (gaps_of swept.now.cells.items) l.mesh.face) }
+    ensures count { IfOk result (λ l. l.count ≡ suc (greatest l.mesh.face)) }
+{
+    let found = find_faces(alloc, &mesh, &swept.cells)?;
+    let mut mesh = mesh;
+    mesh.set_faces(&found.faces);
+    Ok(Labelled {
+        mesh,
+        count: found.count,
+    })
+}
+
+/// The face of each half-edge, and how many faces there are.
+#[derive(Drop)]
+struct Found {
+    faces: Vec<FaceId>,
+    count: u32,
+}
+
+fn find_faces(alloc: Global, mesh: &Mesh, cells: &[Cell]) -> Result<Found, Memory>
+    requires few { length cells.now < 2 ^ 60 }
+    requires known { AreKnown (size mesh.now) (gaps_of cells.now) }
+    ensures faces { IfOk result (λ f. AreFaces mesh.now (gaps_of cells.now) f.faces.items) }
+    ensures count { IfOk result (λ f. f.count ≡ suc (greatest f.faces.items)) }
+    ensures agree { IfOk result (λ f. AgreesAlong mesh.now.next f.faces.items) }
+{
+    let halves = halves_of(mesh);
+    let graph = Graph::new(alloc, mesh, cells)?;
+    let mut search = Search::new(alloc, halves)?;
+    reach_border(&graph, &mut search);
+    spread(&graph, &mut search, FaceId(0));
+    let count = number_faces(&graph, halves, &mut search);
+    Ok(Found {
+        faces: search.faces,
+        count,
+    })
+}
+
+/// Gives face 0 to the half-edges that were beside the border.
+fn reach_border(graph: &Graph, search: &mut Search)
+    requires graph { IsGraph graph.now }
+    requires searched { HasSearched graph.now.mesh.now (gaps_of graph.now.cells.now) search.old }
+    requires begun { search.old.passed ≡ 0 }
+    requires waiting { IsWaiting search.old 0 }
+    ensures searched { HasSearched graph.now.mesh.now (gaps_of graph.now.cells.now) search.new }
+    ensures passed { search.new.passed ≡ 0 }
+    ensures waiting { IsWaiting search.new 0 }
+    ensures border { (h : ℕ) → AtBorder (gaps_of graph.now.cells.now) h
+        → slice_index search.new.faces.items h ≡ 0 }
+{
+    for cell in graph.cells {
+        reach_side(graph, search, cell);
+    }
+}
+
+/// Gives face 0 to the half-edge of a cell at the border.
+fn reach_side(graph: &Graph, search: &mut Search, cell: &Cell)
+    requires graph { IsGraph graph.now }
+    requires cell { Has (gap_of cell.now) (gaps_of graph.now.cells.now) }
+    requires searched { HasSearched graph.now.mesh.now (gaps_of graph.now.cells.now) search.old }
+    requires begun { search.old.passed ≡ 0 }
+    requires waiting { IsWaiting search.old 0 }
+    ensures searched { HasSearched graph.now.mesh.now (gaps_of graph.now.cells.now) search.new }
+    ensures passed { search.new.passed ≡ 0 }
+    ensures waiting { IsWaiting search.new 0 }
+    ensures kept { IsKept search.old.faces.items search.new.faces.items }
+    ensures border { (h : ℕ) → AtBorder (gap_of cell.now ∷ []) h
+        → slice_index search.new.faces.items h ≡ 0 }
+{
+    match (cell.lower, cell.upper) {
+        (None, Some(edge)) => search.reach(under(edge), FaceId(0)),
+        (Some(edge), None) => search.reach(over(edge), FaceId(0)),
+        _ => {}
+    }
+}
+
+/// Gives the half-edges without face theirs, and answers how many faces there are.
+fn number_faces(graph: &Graph, halves: usize, search: &mut Search) -> u32
+    requires graph { IsGraph graph.now }
+    requires halves { halves ≡ size graph.now.mesh.now }
+    requires begun { IsNumberedTo graph.now.mesh.now (gaps_of graph.now.cells.now) 0 1
+        search.old }
+    ensures { IsNumberedTo graph.now.mesh.now (gaps_of graph.now.cells.now) halves result
+        search.new }
+{
+    let mut count = 1;
+    for h in 0..halves {
+        count = number_next(graph, search, h, count);
+    }
+    count
+}
+
+/// Gives the half-edge, where it has no face, and all that are joined with it the next number.
+fn number_next(graph: &Graph, search: &mut Search, h: usize, count: u32) -> u32
+    requires graph { IsGraph graph.now }
+    requires within { h < size graph.now.mesh.now }
+    requires begun { IsNumberedTo graph.now.mesh.now (gaps_of graph.now.cells.now) h count
+        search.old }
+    ensures { IsNumberedTo graph.now.mesh.now (gaps_of graph.now.cells.now) (h + 1) result
+        search.new }
+{
+    if search.faces[h] != UNSET {
+        return count;
+    }
+    search.reach(HalfEdgeId(h as u32), FaceId(count));
+    spread(graph, search, FaceId(count));
+    count + 1
+}
