@@ -3,8 +3,12 @@ pub mod CellPairs
 pub mod CellRows
 pub mod PairCounts
 pub mod PairRows
+pub mod LinkSteps
 pub mod Numbering
 pub mod Passes
 pub mod Passing
 pub mod PlaneLaws
+pub mod RankPasses
+pub mod Rankings
+pub mod RootRanks
 pub mod Searches

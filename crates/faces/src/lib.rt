@@ -22,10 +22,13 @@
 mod graph;
 mod labelled;
 mod labelling;
+mod linking;
 mod partners;
+mod ranks;
 mod searching;
 mod sides;
 mod spreading;
 
 pub use labelled::Labelled;
 pub use labelling::label;
+pub use linking::links;
