@@ -3,6 +3,7 @@ pub mod CellPairs
 pub mod CellRows
 pub mod PairCounts
 pub mod PairRows
+pub mod LeastRanks
 pub mod LinkSteps
 pub mod Numbering
 pub mod Passes
@@ -12,3 +13,4 @@ pub mod RankPasses
 pub mod Rankings
 pub mod RootRanks
 pub mod Searches
+pub mod TestMeshes

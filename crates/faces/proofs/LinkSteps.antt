@@ -22,19 +22,19 @@ module _ (ranks row : List ℕ) (rank k least new g : ℕ) (l : k < length row) 
   pub least_put : get_or ranks g 0 ≡ rank → new ≡ min least g → ((i : ℕ) → i < k + 1 → get_or ranks (get_or row i 0) 0 ≡ rank → new ≤ get_or row i 0) × ((new ≡ 2 ^ 32 - 1) ⊎ HasRank ranks row rank new)
   least_put e m = (
     (λ i b q. by_lt i k
-    (λ (c : i < k). let z = all i c q in omega (arith, z, m))
-    (λ (c : k ≤ i). let w : k ≡ i = omega (arith, b, c) in subst (λ (j : ℕ). new ≤ get_or row j 0) w (omega (arith, at, m)))),
+        (λ (c : i < k). let z = all i c q in omega (arith, z, m))
+        (λ (c : k ≤ i). let w : k ≡ i = omega (arith, b, c) in subst (λ (j : ℕ). new ≤ get_or row j 0) w (omega (arith, at, m)))),
     by_lt least g
-    (λ (c : least < g). let w : new ≡ least = omega (arith, m, c) in subst (λ (j : ℕ). (j ≡ 2 ^ 32 - 1) ⊎ HasRank ranks row rank j) (sym w) is)
-    (λ (c : g ≤ least). let w : new ≡ g = omega (arith, m, c) in
-    inr (subst (λ (j : ℕ). HasRank ranks row rank j) (sym w) (subst (λ (j : ℕ). Has j row) (sym at) (has_at row k 0 l), e))),
+        (λ (c : least < g). let w : new ≡ least = omega (arith, m, c) in subst (λ (j : ℕ). (j ≡ 2 ^ 32 - 1) ⊎ HasRank ranks row rank j) (sym w) is)
+        (λ (c : g ≤ least). let w : new ≡ g = omega (arith, m, c) in
+        inr (subst (λ (j : ℕ). HasRank ranks row rank j) (sym w) (subst (λ (j : ℕ). Has j row) (sym at) (has_at row k 0 l), e))),
   )
 
   pub least_skip : (get_or ranks g 0 ≡ rank → ⊥) → new ≡ least → ((i : ℕ) → i < k + 1 → get_or ranks (get_or row i 0) 0 ≡ rank → new ≤ get_or row i 0) × ((new ≡ 2 ^ 32 - 1) ⊎ HasRank ranks row rank new)
   least_skip n m = (
     (λ i b q. by_lt i k
-    (λ (c : i < k). let z = all i c q in omega (arith, z, m))
-    (λ (c : k ≤ i). let w : k ≡ i = omega (arith, b, c) in absurd (n (ap (λ (j : ℕ). get_or ranks j 0) (at ∙ ap (λ (j : ℕ). get_or row j 0) w) ∙ q)))),
+        (λ (c : i < k). let z = all i c q in omega (arith, z, m))
+        (λ (c : k ≤ i). let w : k ≡ i = omega (arith, b, c) in absurd (n (ap (λ (j : ℕ). get_or ranks j 0) (at ∙ ap (λ (j : ℕ). get_or row j 0) w) ∙ q)))),
     subst (λ (j : ℕ). (j ≡ 2 ^ 32 - 1) ⊎ HasRank ranks row rank j) (sym m) is,
   )
 
@@ -98,8 +98,8 @@ pub notes_next : (mesh : HalfEdges) (cells : List Gap) (ranks : List ℕ) (notes
 notes_next mesh cells ranks notes new h note s e n all = (
   (let z = ap length e ∙ length-append notes (note ∷ []) in omega (arith, z, s)),
   (λ g l. subst (λ (xs : List HalfNote). IsNote mesh cells ranks g (get_or xs g no_note)) (sym e) (by_lt g h
-  (λ (b : g < h). subst (λ (x : HalfNote). IsNote mesh cells ranks g x) (sym (front notes g (omega (arith, b, s)))) (all g b))
-  (λ (b : h ≤ g). let w : h ≡ g = omega (arith, l, b) in subst (λ (i : ℕ). IsNote mesh cells ranks i (get_or (notes ++ note ∷ []) i no_note)) w (subst (λ (x : HalfNote). IsNote mesh cells ranks h x) (sym (last notes h s)) n)))),
+      (λ (b : g < h). subst (λ (x : HalfNote). IsNote mesh cells ranks g x) (sym (front notes g (omega (arith, b, s)))) (all g b))
+      (λ (b : h ≤ g). let w : h ≡ g = omega (arith, l, b) in subst (λ (i : ℕ). IsNote mesh cells ranks i (get_or (notes ++ note ∷ []) i no_note)) w (subst (λ (x : HalfNote). IsNote mesh cells ranks h x) (sym (last notes h s)) n)))),
 )
   where
     front : (xs : List HalfNote) (i : ℕ) → i < length xs → get_or (xs ++ note ∷ []) i no_note ≡ get_or xs i no_note

@@ -86,9 +86,10 @@ module _ (mesh : HalfEdges) (cells : List Gap) (is : IsMesh mesh) (known : AreKn
   reached_face = put_face r
 
   queue_next : IsReached h face old new → (i : ℕ) → i < length old.queue.items → (i < length new.queue.items) × (get_or new.queue.items i 0 ≡ get_or old.queue.items i 0)
-  queue_next (inl q) i m =
-      ((let z = length-append old.queue.items (h ∷ []) in let e = ap length q.queue in omega (arith, z, e, m)),
-      ap (λ (xs : List ℕ). get_or xs i 0) q.queue ∙ front old.queue.items i m)
+  queue_next (inl q) i m = (
+    (let z = length-append old.queue.items (h ∷ []) in let e = ap length q.queue in omega (arith, z, e, m)),
+    ap (λ (xs : List ℕ). get_or xs i 0) q.queue ∙ front old.queue.items i m,
+  )
     where
       front : (xs : List ℕ) (i : ℕ) → i < length xs → get_or (xs ++ h ∷ []) i 0 ≡ get_or xs i 0
       front [] i m = absurd (omega (arith, m))

@@ -297,11 +297,18 @@ module _ (mesh : HalfEdges) (cells : List Gap) (is : IsMesh mesh) (known : AreKn
     ranked_more =
         let z = p.ranked.ranked in
         record {
-          sized = z.sized; known = z.known; once = z.once; set = z.set; all = z.all;
+          sized = z.sized;
+          known = z.known;
+          once = z.once;
+          set = z.set;
+          all = z.all;
           within = (let m = p.more in omega (arith, m));
-          low = z.low; rises = z.rises;
+          low = z.low;
+          rises = z.rises;
           flat = λ i a b. let f = top i b in let e = head_rank in let w = z.rises s.passed (s.passed + 1) (omega arith) a in omega (arith, f, e, w);
-          closed = closes_one; less = z.less; small = z.small;
+          closed = closes_one;
+          less = z.less;
+          small = z.small;
         }
 
     pub ranked_one : HasRanked mesh cells new

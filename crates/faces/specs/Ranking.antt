@@ -120,3 +120,8 @@ pub record IsNote (mesh : HalfEdges) (cells : List Gap) (ranks : List ℕ) (h : 
   pub label_is : note.label ≡ face_of mesh h
   pub rank_is : note.rank ≡ slice_index ranks h
   pub link_is : IsLink mesh cells ranks h note.link
+
+-- So many steps lead from g to h.
+pub data LeadsIn (mesh : HalfEdges) (cells : List Gap) : ℕ → ℕ → ℕ → Type 0 where
+  at_root : (n g h : ℕ) → n ≡ 0 → g ≡ h → LeadsIn mesh cells n g h
+  one_step : (n k g h i : ℕ) → n ≡ suc k → IsNear mesh cells g h → LeadsIn mesh cells k h i → LeadsIn mesh cells n g i

@@ -13,21 +13,27 @@
 //!   coordinates: what joined half-edges are in the plane is a law of `plane`.
 //! - **Degenerate cases.** No edge, no cell, several parts, dangling edges and rings that touch in a
 //!   vertex are all taken.
-//! - **Not here:** which object a face belongs to, and the links of a certificate.
+//! - **Links.** `links` notes of each half-edge its face, how few steps lead from it to one of the
+//!   given roots, and the first step of such a way: to the next half-edge, to the previous one, or
+//!   across a cell, in this order. It asks that each half-edge leads to a root.
+//! - **Not here:** which object a face belongs to, and which half-edges are roots.
 //!
-//! Cost: linear in the half-edges and the cells. While it searches it takes 24 bytes a half-edge
-//! and 8 a cell; it keeps none of them.
+//! Cost: linear in the half-edges and the cells. While `label` searches it takes 16 bytes a
+//! half-edge and 8 a cell, and `links` the same; neither keeps them.
 #![tactic(auto)]
 
 mod graph;
 mod labelled;
 mod labelling;
+pub mod laws;
 mod linking;
 mod partners;
 mod ranks;
 mod searching;
 mod sides;
 mod spreading;
+#[cfg(test)]
+mod tests;
 
 pub use labelled::Labelled;
 pub use labelling::label;
