@@ -22,7 +22,7 @@ use std::alloc::Global;
 /// round a face, by cells of the sweep and over the border, and face 0 exactly where they are
 /// joined with one that was beside the border. The other faces are numbered in the order of their
 /// least half-edge. The only error is want of memory, and the mesh is then gone. It takes time
-/// linear in the half-edges and the cells, and for a while 24 bytes a half-edge and 8 a cell.
+/// linear in the half-edges and the cells, and for a while 16 bytes a half-edge and 8 a cell.
 pub fn label(alloc: Global, mesh: Mesh, swept: &Swept) -> Result<Labelled, Memory>
     requires known { AreKnown (size mesh) (gaps_of swept.now.cells.items) }
     ensures unchanged { IfOk result (λ l. l.mesh ≡ with_faces mesh l.mesh.face) }

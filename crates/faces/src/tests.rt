@@ -1,5 +1,5 @@
-// Small meshes against tables that were worked by hand. What `link` of the mesh, `label` and `links`
-// ask is checked as a test runs.
+// Small meshes against tables that were worked by hand. What `link` of the mesh, `label` and
+// `links` ask is checked as a test runs.
 ghost use Rattle.std.specs.Prelude.{◌≡◌, ◌≢◌, ℕ, ◌+◌, ◌-◌, ◌*◌, ◌<◌, [], ◌∷◌, List, length};
 ghost use Rattle.std.specs.Prelude.{IsTrue, IfOk, OnOk, Some, false, slice_index};
 ghost use Rattle.plane.specs.Lists.{Has};
