@@ -5,3 +5,4 @@ pub mod CellGaps
 pub mod EventEdges
 pub mod NextEvent
 pub mod Stepping
+pub mod TimedMoves

@@ -1,6 +1,6 @@
 -- From one event of a sweep to the next, and its begin and end.
-use Rattle.std.proofs.Common.{◌≡◌, ℕ, suc, inl, inr, Some, ◌+◌, ◌<◌, ◌≤◌, List, [], ◌∷◌, ◌++◌, length, take, drop, filter, get_or, refl, arith, ap, sym, ◌∙◌, subst, add-one, All, drop_of_length-le}
-use Rattle.std.proofs.lemmas.List.{length-map}
+use Rattle.std.proofs.Common.{◌≡◌, ℕ, suc, inl, inr, Some, ◌+◌, ◌<◌, ◌≤◌, List, [], ◌∷◌, ◌++◌, length, map, take, drop, filter, get_or, refl, arith, ap, sym, ◌∙◌, subst, add-one, All, drop_of_length-le}
+use Rattle.std.proofs.lemmas.List.{append-nil, length-map}
 use Rattle.plane.specs.declared.kinds.Edge.{Edge}
 use Rattle.plane.specs.Runs.Gaps.{Gap, is_real, no_gap, opened}
 use Rattle.plane.specs.Lists.{Has}
@@ -15,9 +15,10 @@ use Rattle.line_sweep.specs.declared.kinds.Cell.{Cell}
 use Rattle.line_sweep.specs.Blocks.{IsBlock}
 use Rattle.line_sweep.specs.Held.{HasEdges, IsBadCell, IsFineCell, IsHeld, gaps_held}
 use Rattle.line_sweep.specs.Kinds.{AreBad, gap_of, gaps_of, move_at_block}
-use Rattle.line_sweep.specs.Sweeping.{IsSweptTo, points_of}
+use Rattle.line_sweep.specs.Sweeping.{HasTimetable, IsSweptTo, points_of}
 use Rattle.line_sweep.proofs.CellGaps.{gap_has, has_gap, no_cell}
 use Rattle.line_sweep.proofs.NextEvent.{keys_size, opened_known, room_next, room_gaps, swept_next}
+use Rattle.line_sweep.proofs.TimedMoves.{run_is_timed, trail_made}
 use Rattle.line_sweep.proofs.PlaneLaws.{all_made, begins, ends_as_run, ends_fine}
 
 pub begun : (edges : List Edge) (table : List Timed) (live keys : List ℕ) (slab : Slab Cell) (moves : List Move) (told : List Gap) → IsTimetable (length edges) (edge_of edges) table
@@ -45,6 +46,16 @@ pub run_at_end : (edges : List Edge) (table : List Timed) (live keys : List ℕ)
     → Run (length edges) (edge_of edges) (steps_from [] moves)
 run_at_end edges table live keys slab moves told s =
     subst (Run (length edges) (edge_of edges)) (all_made moves) (ends_as_run (length edges) (edge_of edges) (points_of table) (made [] moves) (ended edges table live keys slab moves told s))
+
+pub timed_at_end : (edges : List Edge) (table : List Timed) (live keys : List ℕ) (slab : Slab Cell) (moves : List Move) (told : List Gap) → IsTimetable (length edges) (edge_of edges) table
+    → IsSweptTo edges table (length table) live keys slab moves told → HasTimetable edges moves
+timed_at_end edges table live keys slab moves told t s =
+    let points = sym (trail_made [] moves []) ∙ (ended edges table live keys slab moves told s).front.is in
+    record {
+      table = table;
+      is_table = t;
+      is = run_is_timed (length edges) (edge_of edges) moves table t (run_at_end edges table live keys slab moves told s) s.fit (sym (append-nil (map (λ (v : Move). v.at) moves)) ∙ points);
+    }
 
 pub clear_at_end : (edges : List Edge) (table : List Timed) (live keys : List ℕ) (slab : Slab Cell) (moves : List Move) (told : List Gap) → IsSweptTo edges table (length table) live keys slab moves told
     → (a b : ℕ) → a < length edges → b < length edges → (a ≡ b → ⊥) → Bad (edge_of edges a) (edge_of edges b) → ⊥

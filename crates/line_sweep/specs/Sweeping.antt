@@ -5,7 +5,7 @@ use Rattle.plane.specs.declared.kinds.Edge.{Edge}
 use Rattle.plane.specs.Runs.Gaps.{Gap, open_gaps, closed_gaps}
 use Rattle.plane.specs.Runs.Moves.{Move, Fit, live_from, made}
 use Rattle.plane.specs.Runs.Sweeps.{IsUnderWay}
-use Rattle.plane.specs.Runs.Timetables.{Timed}
+use Rattle.plane.specs.Runs.Timetables.{IsTimetable, Timed, moves_at}
 use Rattle.slab.specs.Slab.{Slab}
 use Rattle.straight_predicates.specs.EdgeLists.{edge_of}
 use Rattle.straight_predicates.specs.Rows.{values_of, room_of}
@@ -33,3 +33,9 @@ pub record HasSwept (edges : List Edge) (table : List Timed) (k : ℕ) (s : Stat
   pub swept : IsSweptTo edges table k (values_of s.live) (values_of s.keys) s.open (moves_of s.swept.events.items) (gaps_of s.swept.cells.items)
   pub room : room_of s.live ≡ length edges
   pub gap_room : room_of s.keys ≡ length edges + 1
+
+-- The moves are those of the timetable of the edges, each at its place of the live list.
+pub record HasTimetable (edges : List Edge) (moves : List Move) : Type 0 where
+  pub table : List Timed
+  pub is_table : IsTimetable (length edges) (edge_of edges) table
+  pub is : moves ≡ moves_at table (map (λ (v : Move). v.position) moves)

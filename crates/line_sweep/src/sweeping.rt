@@ -14,7 +14,7 @@ ghost use Rattle.slab.specs.Slab.{ContainsKey};
 ghost use Rattle.line_sweep.specs.Blocks.{IsBlock};
 ghost use Rattle.line_sweep.specs.Held.{IsFineCell, IsHeld, gaps_held};
 ghost use Rattle.line_sweep.specs.Kinds.{IsRefused, gaps_of, move_at_block, moves_of};
-ghost use Rattle.line_sweep.specs.Sweeping.{HasSwept};
+ghost use Rattle.line_sweep.specs.Sweeping.{HasSwept, HasTimetable};
 
 use super::blocks::{Block, find_block};
 use super::cells::{edge_at, edge_before, open_cells, test_cells};
@@ -36,6 +36,7 @@ pub fn sweep(alloc: Global, edges: &[Edge]) -> Result<Swept, SweepRefusal>
     ensures run { IfOk result (λ s. Run (length edges.now) (edge_of edges.now) (steps_from []
         (moves_of s.events.items))) }
     ensures fit { IfOk result (λ s. Fit [] (moves_of s.events.items)) }
+    ensures timed { IfOk result (λ s. HasTimetable edges.now (moves_of s.events.items)) }
     ensures cells { IfOk result (λ s. gaps_of s.cells.items
         ≡ closed_gaps (moves_of s.events.items)) }
     ensures clear { IfOk result (λ s. (a b : ℕ) → a < length edges.now → b < length edges.now

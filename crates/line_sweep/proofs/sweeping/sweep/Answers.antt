@@ -1,7 +1,7 @@
 use Rattle.std.proofs.Common.{ap}
 use Rattle.straight_predicates.specs.Tables.{table_of}
 use Rattle.line_sweep.specs.Kinds.{gaps_of, moves_of}
-use Rattle.line_sweep.proofs.Stepping.{begun, run_at_end, clear_at_end}
+use Rattle.line_sweep.proofs.Stepping.{begun, run_at_end, clear_at_end, timed_at_end}
 use Rattle.line_sweep.proofs.sweeping.sweep.Goals as goal
 
 pub run-requires-clause-begun : goal.run-requires-clause-begun
@@ -18,3 +18,6 @@ returns-clause-run c = run_at_end c.args.edges.now (table_of c.in_ok-table.table
 
 pub returns-clause-clear : goal.returns-clause-clear
 returns-clause-clear c = clear_at_end c.args.edges.now (table_of c.in_ok-table.table) _ _ _ _ _ c.in_ok-run.ensures.done.swept
+
+pub returns-clause-timed : goal.returns-clause-timed
+returns-clause-timed c = timed_at_end c.args.edges.now (table_of c.in_ok-table.table) _ _ _ _ _ c.in_ok-table.ensures c.in_ok-run.ensures.done.swept
