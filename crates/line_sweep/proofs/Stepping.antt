@@ -54,6 +54,7 @@ timed_at_end edges table live keys slab moves told t s =
     record {
       table = table;
       is_table = t;
+      size = sym s.size;
       is = run_is_timed (length edges) (edge_of edges) moves table t (run_at_end edges table live keys slab moves told s) s.fit (sym (append-nil (map (λ (v : Move). v.at) moves)) ∙ points);
     }
 

@@ -38,4 +38,5 @@ pub record HasSwept (edges : List Edge) (table : List Timed) (k : ℕ) (s : Stat
 pub record HasTimetable (edges : List Edge) (moves : List Move) : Type 0 where
   pub table : List Timed
   pub is_table : IsTimetable (length edges) (edge_of edges) table
+  pub size : length table ≡ length moves
   pub is : moves ≡ moves_at table (map (λ (v : Move). v.position) moves)
