@@ -5,10 +5,10 @@ use Rattle.std.proofs.lemmas.Bool.{eqb-true, eqb-false, ne_eqb, eq-eqb}
 use Rattle.itf_lines.specs.LogicalLines.{LogicalLine}
 use Rattle.itf_reader.specs.Forms.{Table, Form, Row, TableRows, TopicRows, names, table_named, table_came, topic_came, rows_in, rows_from, tables_of}
 use Rattle.itf_reader.specs.TransferText.{IsTables, no_table, more_tables, IsTopics, no_topic, more_topics, IsText, text, TransferText}
-use Rattle.itf_reader.specs.ClosedRows.{closed_rows, of_table, by_table_from, by_table}
+use Rattle.itf_reader.specs.ClosedRows.{closed_rows, of_table, by_table_from, by_table, all_pairs}
 use Rattle.itf_reader.proofs.Counted.{table_more, topic_more}
 use Rattle.itf_reader.proofs.Drive.{text_drive}
-use Rattle.itf_reader.proofs.HeldRows.{all_pairs, closed_whole}
+use Rattle.itf_reader.proofs.HeldRows.{closed_whole}
 
 -- no table has that number
 abbrev Without : ℕ → List TableRows → Type 0
@@ -21,11 +21,11 @@ Distinct [] = Unit {0}
 Distinct (c ∷ cs) = Without c.table cs × Distinct cs
 
 -- the rows of one table among the rows of all
-own_pairs : (n i : ℕ) (rows : List Row) (rest : List (ℕ × Row)) → i ≡ n → of_table n (map (λ row. (i, row)) rows ++ rest) ≡ rows ++ of_table n rest
+pub own_pairs : (n i : ℕ) (rows : List Row) (rest : List (ℕ × Row)) → i ≡ n → of_table n (map (λ row. (i, row)) rows ++ rest) ≡ rows ++ of_table n rest
 own_pairs n i [] rest e = refl
 own_pairs n i (r ∷ rows) rest e = rw (eq-eqb i n e) (ap (λ (l : List Row). r ∷ l) (own_pairs n i rows rest e))
 
-other_pairs : (n i : ℕ) (rows : List Row) (rest : List (ℕ × Row)) → (i ≡ n → ⊥) → of_table n (map (λ row. (i, row)) rows ++ rest) ≡ of_table n rest
+pub other_pairs : (n i : ℕ) (rows : List Row) (rest : List (ℕ × Row)) → (i ≡ n → ⊥) → of_table n (map (λ row. (i, row)) rows ++ rest) ≡ of_table n rest
 other_pairs n i [] rest e = refl
 other_pairs n i (r ∷ rows) rest e = rw (ne_eqb i n e) (other_pairs n i rows rest e)
 

@@ -2,12 +2,12 @@
 use Rattle.std.proofs.Common.{◌≡◌, ℕ, Bool, true, false, cond, if◌then◌else◌, nat_eq, List, [], ◌∷◌, ◌++◌, refl, ap, ◌∙◌}
 use Rattle.itf_reader.specs.Forms.{TableRows, TopicRows, topic_came, table_came}
 
-swap : (a b x : Bool) → (if a then true else cond b true x) ≡ cond b true (if a then true else x)
+pub swap : (a b x : Bool) → (if a then true else cond b true x) ≡ cond b true (if a then true else x)
 swap true true x = refl
 swap true false x = refl
 swap false b x = refl
 
-one : (b : Bool) → (if b then true else false) ≡ cond b true false
+pub one : (b : Bool) → (if b then true else false) ≡ cond b true false
 one true = refl
 one false = refl
 

@@ -6,15 +6,7 @@ use Rattle.itf_lines.specs.declared.word.LineWord.TheVariants.{Scnt, Slashes, Mt
 use Rattle.itf_lines.specs.LogicalLines.{LogicalLine}
 use Rattle.itf_reader.specs.Forms.{Table, Form, Start, Straight, OnArc, vertex, Row, TableRows, TopicRows, names, table_named, topic_named, table_came, topic_came, tables_of}
 use Rattle.itf_reader.specs.Machine.{InTopic, InTable, InRow, State, start, free, title, model, topics, tables, objects, strokes, vertices, arc, last, done, Code, Name, Twice, Word, closed_topic, closed_table, closed_row, opened_row, named_topic, named_table, has_room, by_word, step, then_run, run}
-use Rattle.itf_reader.specs.ClosedRows.{row_closed, closes, closed_behind, closed_from}
-
--- the rows of a table that came, each with its number
-abbrev pub pairs : TableRows → List (ℕ × Row)
-pairs c = map (λ row. (c.table, row)) c.rows
-
-abbrev pub all_pairs : List TableRows → List (ℕ × Row)
-all_pairs [] = []
-all_pairs (c ∷ cs) = pairs c ++ all_pairs cs
+use Rattle.itf_reader.specs.ClosedRows.{row_closed, closes, closed_behind, closed_from, pairs, all_pairs}
 
 abbrev held_topics : List TopicRows → List (ℕ × Row)
 held_topics came = all_pairs (tables_of came)

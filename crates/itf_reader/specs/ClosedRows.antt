@@ -1,9 +1,9 @@
 -- The rows that the lines of a text close, one after another.
-use Rattle.std.specs.Prelude.{ℕ, ◌+◌, List, [], ◌∷◌, ◌++◌, Result, Ok, Err, if◌then◌else◌, nat_eq}
+use Rattle.std.specs.Prelude.{ℕ, ◌+◌, List, [], ◌∷◌, ◌++◌, map, Result, Ok, Err, if◌then◌else◌, nat_eq}
 use Rattle.itf_lines.specs.declared.word.LineWord.{LineWord}
 use Rattle.itf_lines.specs.declared.word.LineWord.TheVariants.{Obje, Etab}
 use Rattle.itf_lines.specs.LogicalLines.{LogicalLine}
-use Rattle.itf_reader.specs.Forms.{Table, Form, Row, filled}
+use Rattle.itf_reader.specs.Forms.{Table, Form, Row, TableRows, filled}
 use Rattle.itf_reader.specs.Machine.{InRow, State, strokes, start, Code, step}
 
 -- the row that an open object becomes
@@ -40,3 +40,12 @@ by_table_from n (t ∷ ts) rows = of_table n rows ∷ by_table_from (n + 1) ts r
 -- the rows of each table, in the order of the form
 abbrev pub by_table : Form → List (ℕ × Row) → List (List Row)
 by_table f rows = by_table_from 0 f.tables rows
+
+-- the rows of a table that came, each with the number of the table
+abbrev pub pairs : TableRows → List (ℕ × Row)
+pairs c = map (λ row. (c.table, row)) c.rows
+
+-- and those of some tables
+abbrev pub all_pairs : List TableRows → List (ℕ × Row)
+all_pairs [] = []
+all_pairs (c ∷ cs) = pairs c ++ all_pairs cs

@@ -1,7 +1,4 @@
 -- What a refusal of the code tells.
-use Rattle.std.specs.Prelude.{Option, Some, None}
-use Rattle.itf_lines.specs.declared.logical.LineFault.{LineFault}
-use Rattle.itf_lines.specs.declared.logical.LineFault.TheVariants.{OpenContinue, StrayCont}
 use Rattle.itf_lines.specs.LogicalLines.{LogicalLines}
 use Rattle.itf_reader.specs.declared.transfer.Structure.{Structure}
 use Rattle.itf_reader.specs.declared.transfer.Structure.TheVariants as codes
@@ -24,9 +21,3 @@ fault_of codes.Cont = Cont
 abbrev pub Refuses : Form → LogicalLines → ReadRefusal → Type 0
 Refuses form found (refusals.At line code) = IsRefused form found line (fault_of code)
 Refuses form found refusals.Memory = Unit {0}
-
--- a fault of continuation, as it is told
-abbrev pub broken : Option LineFault → Option ReadRefusal
-broken None = None
-broken (Some (OpenContinue line)) = Some (refusals.At line codes.Continue)
-broken (Some (StrayCont line)) = Some (refusals.At line codes.Cont)

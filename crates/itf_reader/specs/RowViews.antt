@@ -7,9 +7,7 @@ use Rattle.itf_reader.specs.declared.transfer.Stroke.{Stroke as CodeStroke}
 use Rattle.itf_reader.specs.declared.transfer.Row.{Row as CodeRow}
 use Rattle.itf_reader.specs.declared.transfer.TableRows.{TableRows as CodeTableRows}
 use Rattle.itf_reader.specs.declared.transfer.Transfer.{Transfer}
-use Rattle.itf_reader.specs.declared.came.CameTable.{CameTable}
-use Rattle.itf_reader.specs.declared.came.CameTopic.{CameTopic}
-use Rattle.itf_reader.specs.Forms.{Kind, Start, Straight, OnArc, Vertex, Row, TableRows, TopicRows}
+use Rattle.itf_reader.specs.Forms.{Kind, Start, Straight, OnArc, Vertex, Row}
 
 abbrev pub kind_of : VertexKind → Kind
 kind_of kinds.Start = Start
@@ -43,15 +41,3 @@ tables_seen ts = map table_seen ts
 -- the rows of each table
 abbrev pub transfer_of : Transfer → List (List Row)
 transfer_of t = tables_seen t.tables.items
-
-abbrev pub came_table : CameTable → TableRows
-came_table t = record { table = t.table; rows = rows_of t.rows.items }
-
-abbrev pub came_tables : List CameTable → List TableRows
-came_tables ts = map came_table ts
-
-abbrev pub came_topic : CameTopic → TopicRows
-came_topic t = record { topic = t.topic; tables = came_tables t.tables.items }
-
-abbrev pub came_topics : List CameTopic → List TopicRows
-came_topics ts = map came_topic ts

@@ -9,6 +9,8 @@ ghost use Rattle.itf_reader.specs.CameBefore.{CameBefore};
 ghost use Rattle.itf_reader.specs.ClosedRows.{by_table, closed_rows};
 ghost use Rattle.itf_reader.specs.RowForms.{EachRow, IsCounted, HasForm};
 ghost use Rattle.itf_reader.specs.Readings.{Structure, IsRead, IsRefused, HasAnswer};
+ghost use Rattle.itf_reader.specs.Reads.{read, refused, read_from, opening, end_of};
+ghost use Rattle.itf_reader.specs.RowFeeds.{standing, shown_rows};
 
 /// Some lines are the text of at most one transfer.
 pub fn one_transfer()
@@ -74,6 +76,20 @@ pub fn rows_by_table()
     ensures { (form : Form) (lines : List LogicalLine) (transfer : List (List Row))
         → TransferText form lines transfer
         → transfer ≡ by_table form (closed_rows form lines) }
+{}
+
+/// A feed that begins in front of a text and takes all of its lines, and their end, gives the
+/// transfer of these lines, or the line at fault with its code. The rows that it shows on the way
+/// are all that the lines close, though no closed row is kept.
+pub fn from_the_opening()
+    ensures reads { (form : Form) (found : LogicalLines) (transfer : List (List Row))
+        → read_from form opening found.lines (end_of found) ≡ read transfer
+        → IsRead form found transfer }
+    ensures refuses { (form : Form) (found : LogicalLines) (n : ℕ) (code : Structure)
+        → read_from form opening found.lines (end_of found) ≡ refused n code
+        → IsRefused form found n code }
+    ensures shows { (form : Form) (lines : List LogicalLine)
+        → shown_rows form (standing start) lines ≡ closed_rows form lines }
 {}
 
 /// A line with the code `twice` names a topic that a line TOPI behind the head named before, or a

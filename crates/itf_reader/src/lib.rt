@@ -37,46 +37,40 @@
 //! The fields of rows and vertices are copies of those of the lines; rows are not copied again.
 #![tactic(auto)]
 
-mod came;
 mod counting;
-mod directory;
 mod findings;
-mod frame;
-mod gathered;
 mod laws;
-mod naming;
-mod open;
+mod machine;
 mod order;
-mod placing;
 mod reading;
 mod refusal;
 mod report;
 mod row_columns;
+mod row_feed;
 mod row_lines;
 mod row_reading;
 mod row_strokes;
 mod row_values;
 mod row_vertices;
-mod rows;
-mod running;
-mod stepping;
-mod stopped;
-mod strokes;
 #[cfg(test)]
 mod tests;
 mod transfer;
+mod transfer_feed;
 
 pub use counting::is_counted;
 pub use findings::{Code, Finding, Other};
 pub use laws::{
-    machine_begins, machine_reads, machine_stops, one_answer, one_transfer, rows_by_table,
-    strokes_counted, twice_came,
+    from_the_opening, machine_begins, machine_reads, machine_stops, one_answer, one_transfer,
+    rows_by_table, strokes_counted, twice_came,
 };
+pub use machine::Names;
 pub use order::sort_findings;
 pub use reading::read_transfer;
 pub use refusal::ReadRefusal;
 pub use report::code_of;
+pub use row_feed::RowFeed;
 pub use row_lines::is_sound_line;
 pub use row_reading::read_row;
 pub use row_values::{Cell, ReadVertex, RowValues, StrokeRead};
 pub use transfer::{Row, Stroke, Structure, TableRows, Transfer, Vertex, VertexKind};
+pub use transfer_feed::TransferFeed;

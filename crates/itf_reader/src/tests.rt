@@ -4,10 +4,11 @@ ghost use Rattle.table_layout.specs.Valid.{IsTable, IsValid};
 ghost use Rattle.table_layout.specs.Values.{layout_view, table_view};
 
 use super::{
-    Code, Finding, Other, ReadRefusal, Row, Structure, Transfer, read_transfer, sort_findings,
+    Code, Finding, Names, Other, ReadRefusal, Row, RowFeed, Structure, Transfer, TransferFeed,
+    read_transfer, sort_findings,
 };
 use ili_grammar::Codes;
-use itf_lines::{Field, logical_lines};
+use itf_lines::{Field, LineEnd, Lines, logical_lines};
 use ports::Name;
 use resolver::{Limits, LineForm, Window};
 use std::alloc::Global;
@@ -279,6 +280,96 @@ fn continuation_and_the_end_keep_their_codes(rt: HostRuntime) {
         ("EMOD \\\nCONT\nFOO\n", 7, Structure::Word),
     ];
     refuses(&rt, rt.alloc(), HEAD, &faults);
+}
+
+const CONTINUED: &str =
+    "TOPI U\nTABL A\nOBJE 9 \\\nCONT x\nETAB\nETOP\nTOPI T\nTABL L\nOBJE 1\nSTPT 0 0\nARCP 2 2\nLIPT 3 3\nELIN\nOBJE 2\nELIN\nELIN\nETAB\nTABL A\nETAB\nETOP\nEMOD\nENDE\n";
+
+const DRAWN: &str =
+    "TOPI T\nTABL L\nOBJE 1\nSTPT 100.000 100.000\nLIPT 200.000 100.000\nLIPT 200.000 200.000\nLIPT 100.000 200.000\nLIPT 100.000 100.000\nELIN\nETAB\nTABL A\nOBJE 1 77 150.000 150.000\nETAB\nETOP\nEMOD\nENDE\n";
+
+fn lines_of(rt: &impl Abort, alloc: Global, text: &str) -> Lines {
+    let mut whole = String::new(alloc);
+    whole.push_str(HEAD).expect(rt, "memory");
+    whole.push_str(text).expect(rt, "memory");
+    assert!(rt; whole.len() <= 268435456);
+    match logical_lines(alloc, whole.as_bytes(), &CODES) {
+        Ok(lines) => lines,
+        Err(_) => panic!(rt; "out of memory"),
+    }
+}
+
+// The transfer of lines that come as `cut` lines and the others.
+fn in_two(
+    rt: &impl Abort,
+    alloc: Global,
+    layout: &Layout,
+    lines: Lines,
+    cut: usize,
+) -> Result<Transfer, ReadRefusal>
+    requires { IsValid (layout_view layout.now) }
+{
+    let end = LineEnd {
+        fault: lines.fault,
+        total: lines.total,
+    };
+    let mut front = lines.lines;
+    assert!(rt; cut <= front.len());
+    let rest = front.split_off(cut).expect(rt, "memory");
+    let mut feed = TransferFeed::new(alloc, layout)?;
+    feed.take(layout, front)?;
+    feed.take(layout, rest)?;
+    assert!(rt; end.total < 4294967295);
+    feed.finish(layout, end)
+}
+
+// What was read, or where it was refused.
+fn answer(rt: &impl Abort, alloc: Global, read: Result<Transfer, ReadRefusal>) -> String {
+    match read {
+        Ok(transfer) => shown(rt, alloc, &transfer),
+        Err(refusal) => format!(in alloc; "{:?}", refusal).expect(rt, "memory"),
+    }
+}
+
+#[test]
+fn the_cut_into_pieces_does_not_matter(rt: HostRuntime) {
+    let alloc = rt.alloc();
+    let layout = small(&rt, alloc);
+    for text in [CONTINUED, DRAWN, "TOPI T\nETOP\nTOPI T\nETOP\n", "EMOD\n"] {
+        let lines = lines_of(&rt, alloc, text);
+        assert!(&rt; lines.total < 4294967295);
+        let count = lines.lines.len();
+        let whole = answer(&rt, alloc, read_transfer(alloc, &layout, &lines));
+        for cut in 0..count + 1 {
+            let lines = lines_of(&rt, alloc, text);
+            let cut_in_two = in_two(&rt, alloc, &layout, lines, cut);
+            assert_eq!(&rt; answer(&rt, alloc, cut_in_two), whole, "cut at {}", cut);
+        }
+    }
+}
+
+#[test]
+fn each_row_is_shown_when_it_is_closed(rt: HostRuntime) {
+    let alloc = rt.alloc();
+    let layout = small(&rt, alloc);
+    let lines = lines_of(&rt, alloc, CONTINUED);
+    match Names::new(alloc, &layout) {
+        Ok(names) => {
+            let mut feed = RowFeed::new(alloc);
+            let mut text = String::new(alloc);
+            for line in &lines.lines {
+                if let Ok(Some(table)) = feed.take(&names, line) {
+                    let number = format!(in alloc; "{} ", table.0).expect(&rt, "memory");
+                    text.push_str(&number).expect(&rt, "memory");
+                    push_row(&rt, alloc, &mut text, feed.closed());
+                }
+            }
+            let want =
+                "2 7 9 x |\n1 13 1 | 14 Start 0 0 15 OnArc 2 2 16 Straight 3 3 |\n1 18 2 | |\n";
+            assert_eq!(&rt; text.as_str(), want);
+        }
+        Err(_) => panic!(&rt; "out of memory"),
+    }
 }
 
 // A line, a column, a code, and the line that came first.

@@ -1,0 +1,78 @@
+-- How the lines of a transfer are taken one after another, where no closed object is kept.
+use Rattle.std.specs.Prelude.{◌≡◌, ⊤, ℕ, ◌+◌, Bool, true, false, List, [], ◌∷◌, ◌++◌, Option, Some, None, Result, Ok, Err}
+use Rattle.itf_lines.specs.declared.word.LineWord.{LineWord}
+use Rattle.itf_lines.specs.declared.word.LineWord.TheVariants.{Obje, Etab, Etop}
+use Rattle.itf_lines.specs.LogicalLines.{LogicalLine}
+use Rattle.itf_reader.specs.Forms.{Form, Row}
+use Rattle.itf_reader.specs.Machine.{InTopic, State, tables, objects, strokes, Code, step}
+use Rattle.itf_reader.specs.Readings.{Structure, OfLine}
+use Rattle.itf_reader.specs.ClosedRows.{closes}
+
+-- in front of a line, or stopped by a line at fault: its number and its code
+pub data Standing : Type 0 where
+  standing : State → Standing
+  stopped : ℕ → Structure → Standing
+
+abbrev pub without_tables : InTopic → InTopic
+without_tables t = record { came = t.came; number = t.number; tables = [] }
+
+-- what is let go in front of a line of that word: an object that it closes, and the tables of a topic that it closes
+abbrev pub let_go : State → LineWord → State
+let_go (strokes r) Obje = objects r.inside
+let_go (strokes r) Etab = objects r.inside
+let_go (tables t) Etop = tables (without_tables t)
+let_go state word = state
+
+abbrev pub moved : ℕ → Result State Code → Standing
+moved number (Ok state) = standing state
+moved number (Err code) = stopped number (OfLine code)
+
+-- where a line leads
+abbrev pub taken : Form → State → LogicalLine → Standing
+taken f s l = moved l.number (step f (let_go s l.word) l)
+
+-- and behind a line at fault to nowhere
+abbrev pub next : Form → Standing → LogicalLine → Standing
+next f (standing s) l = taken f s l
+next f (stopped number code) l = stopped number code
+
+-- and where some lines lead
+abbrev pub after_lines : Form → Standing → List LogicalLine → Standing
+after_lines f at [] = at
+after_lines f at (l ∷ ls) = after_lines f (next f at l) ls
+
+-- the row that a line of that word closes, with the number of its table; most close none
+abbrev pub shows : Standing → LineWord → List (ℕ × Row)
+shows (standing s) word = closes s word
+shows (stopped number code) word = []
+
+-- the rows that some lines close
+abbrev pub shown_rows : Form → Standing → List LogicalLine → List (ℕ × Row)
+shown_rows f at [] = []
+shown_rows f at (l ∷ ls) = shows at l.word ++ shown_rows f (next f at l) ls
+
+-- the number of the table, where there is a row
+abbrev pub number_shown : List (ℕ × Row) → Option ℕ
+number_shown [] = None
+number_shown (p ∷ ps) = Some p.0
+
+-- that row, where there is one
+abbrev pub Shows : List (ℕ × Row) → Row → Type 0
+Shows [] row = ⊤
+Shows (p ∷ ps) row = row ≡ p.1
+
+-- a row of that table, or none
+abbrev pub shown : Option ℕ → Row → List (ℕ × Row)
+shown None row = []
+shown (Some table) row = (table, row) ∷ []
+
+-- an object without strokes
+abbrev pub row_opened : ℕ → List (List ℕ) → Row
+row_opened number fields = record { line = number; fields = fields; strokes = [] }
+
+-- What a RowFeed is seen as: whether a call ran out of memory, of which nothing else is said then; where it stands; and
+-- the row that was closed last.
+pub record RowState : Type 0 where
+  pub failed : Bool
+  pub at : Standing
+  pub closed : Row

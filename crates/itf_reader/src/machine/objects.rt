@@ -1,0 +1,86 @@
+// The lines of a table: its objects and their strokes.
+ghost use Rattle.std.specs.Prelude.{◌≡◌, OnOk};
+ghost use Rattle.itf_lines.specs.Views.{line_seen};
+ghost use Rattle.itf_reader.specs.Forms.{Form};
+ghost use Rattle.itf_reader.specs.Machine.{objects, strokes, opened_row, has_room};
+ghost use Rattle.itf_reader.specs.ClosedRows.{row_closed, closes};
+ghost use Rattle.itf_reader.specs.RowViews.{row_of};
+ghost use Rattle.itf_reader.specs.RowFeeds.{taken, standing, Shows};
+ghost use Rattle.itf_reader.specs.MachineViews.{at_of, in_table, in_row};
+
+use super::Machine;
+use super::rows::{fill, open_row};
+use super::state::State;
+use itf_lines::{Line, LineWord};
+use ports::Memory;
+use std::mem::swap;
+
+impl Machine {
+    // Behind TABL, where no object has come.
+    pub fn in_table(&mut self, line: &Line) -> Result<(), Memory>
+        ensures { (form : Form) → OnOk result (at_of self.new ≡ taken form
+            (objects (in_table self.old.frame)) (line_seen line.now)) }
+    {
+        match line.word {
+            LineWord::Obje => self.start_object(line),
+            LineWord::Etab => self.close_table(),
+            _ => {
+                self.refuse(line);
+                Ok(())
+            }
+        }
+    }
+
+    // Opens the object of a line.
+    fn start_object(&mut self, line: &Line) -> Result<(), Memory>
+        ensures at { OnOk result (at_of self.new ≡ standing
+            (strokes (opened_row (in_table self.old.frame) line.now.number line.now.fields.items))) }
+        ensures closed { self.new.closed ≡ self.old.closed }
+    {
+        open_row(self.alloc, &mut self.open, self.frame.lines, line)?;
+        self.frame.state = State::InObject;
+        Ok(())
+    }
+
+    // Closes the open object: strokes that did not come are undefined.
+    fn close_row(&mut self) -> Result<(), Memory>
+        ensures row { OnOk result (row_of self.new.closed ≡ row_closed (in_row self.old)) }
+        ensures frame { self.new.frame ≡ self.old.frame }
+    {
+        fill(self.alloc, &mut self.open.strokes, self.frame.lines)?;
+        swap(&mut self.open, &mut self.closed);
+        Ok(())
+    }
+
+    // Whether the table of the object has a line for one more stroke.
+    fn has_room(&self) -> bool
+        ensures { result ≡ has_room (in_row self.now) }
+    {
+        self.open.strokes.len() < self.frame.lines
+    }
+
+    // Behind the line of an object or one of its strokes.
+    pub fn in_object(&mut self, line: &Line) -> Result<(), Memory>
+        ensures at { (form : Form) → OnOk result (at_of self.new ≡ taken form
+            (strokes (in_row self.old)) (line_seen line.now)) }
+        ensures row { OnOk result (Shows (closes (strokes (in_row self.old)) line.now.word)
+            (row_of self.new.closed)) }
+    {
+        match line.word {
+            LineWord::Obje => {
+                self.close_row()?;
+                self.start_object(line)
+            }
+            LineWord::Etab => {
+                self.close_row()?;
+                self.close_table()
+            }
+            LineWord::Stpt if self.has_room() => self.start_polyline(line),
+            LineWord::Elin if self.has_room() => self.add_undefined(),
+            _ => {
+                self.refuse(line);
+                Ok(())
+            }
+        }
+    }
+}

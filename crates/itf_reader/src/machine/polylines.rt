@@ -1,0 +1,90 @@
+// The lines of a polyline.
+ghost use Rattle.std.specs.Prelude.{◌≡◌, ◌∷◌, [], OnOk};
+ghost use Rattle.itf_lines.specs.Views.{line_seen};
+ghost use Rattle.itf_reader.specs.Forms.{Form, Start, vertex};
+ghost use Rattle.itf_reader.specs.Machine.{strokes, vertices, arc, with_stroke};
+ghost use Rattle.itf_reader.specs.RowViews.{vertices_of};
+ghost use Rattle.itf_reader.specs.RowFeeds.{taken, standing};
+ghost use Rattle.itf_reader.specs.MachineViews.{at_of, in_row};
+
+use super::Machine;
+use super::rows::add_vertex;
+use super::state::State;
+use crate::transfer::{Stroke, VertexKind};
+use itf_lines::{Line, LineWord};
+use ports::Memory;
+use std::mem::replace;
+
+impl Machine {
+    // Adds an undefined stroke to the open object.
+    pub fn add_undefined(&mut self) -> Result<(), Memory>
+        ensures { OnOk result (at_of self.new ≡ standing
+            (strokes (with_stroke (in_row self.old) []))) }
+    {
+        self.open.strokes.push(Stroke {
+            vertices: Vec::new(self.alloc),
+        })?;
+        self.frame.state = State::InObject;
+        Ok(())
+    }
+
+    // Begins a polyline. There is room for one more vertex, since most polylines are one straight.
+    pub fn start_polyline(&mut self, line: &Line) -> Result<(), Memory>
+        ensures { OnOk result (at_of self.new ≡ standing (vertices (in_row self.old)
+            (vertex Start line.now.number line.now.fields.items ∷ []))) }
+    {
+        self.polyline.clear();
+        self.polyline.reserve_exact(2)?;
+        add_vertex(self.alloc, &mut self.polyline, VertexKind::Start, line)?;
+        self.frame.state = State::InPolyline;
+        Ok(())
+    }
+
+    // Adds the polyline to the open object.
+    fn end_polyline(&mut self) -> Result<(), Memory>
+        ensures { OnOk result (at_of self.new ≡ standing (strokes (with_stroke (in_row self.old)
+            (vertices_of self.old.polyline.items)))) }
+    {
+        let vertices = replace(&mut self.polyline, Vec::new(self.alloc));
+        self.open.strokes.push(Stroke { vertices })?;
+        self.frame.state = State::InObject;
+        Ok(())
+    }
+
+    // Behind a vertex that is no ARCP.
+    pub fn in_polyline(&mut self, line: &Line) -> Result<(), Memory>
+        ensures { (form : Form) → OnOk result (at_of self.new ≡ taken form
+            (vertices (in_row self.old) (vertices_of self.old.polyline.items))
+            (line_seen line.now)) }
+    {
+        match line.word {
+            LineWord::Lipt => {
+                add_vertex(self.alloc, &mut self.polyline, VertexKind::Straight, line)?;
+                self.frame.state = State::InPolyline;
+            }
+            LineWord::Arcp => {
+                add_vertex(self.alloc, &mut self.polyline, VertexKind::OnArc, line)?;
+                self.frame.state = State::AfterArcPoint;
+            }
+            LineWord::Elin => return self.end_polyline(),
+            _ => self.refuse(line),
+        }
+        Ok(())
+    }
+
+    // Behind ARCP.
+    pub fn after_arc_point(&mut self, line: &Line) -> Result<(), Memory>
+        ensures { (form : Form) → OnOk result (at_of self.new ≡ taken form
+            (arc (in_row self.old) (vertices_of self.old.polyline.items))
+            (line_seen line.now)) }
+    {
+        match line.word {
+            LineWord::Lipt => {
+                add_vertex(self.alloc, &mut self.polyline, VertexKind::Straight, line)?;
+                self.frame.state = State::InPolyline;
+            }
+            _ => self.refuse(line),
+        }
+        Ok(())
+    }
+}

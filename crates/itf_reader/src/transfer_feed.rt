@@ -1,0 +1,133 @@
+// A transfer whose lines come in pieces.
+ghost use Rattle.std.specs.Prelude.{◌≡◌, ◌<◌, ◌≤◌, ◌++◌, [], List, true, false, length, OnOk, OnErr, IfOk, Err};
+ghost use Rattle.table_layout.specs.Valid.{IsValid};
+ghost use Rattle.table_layout.specs.Values.{layout_view};
+ghost use Rattle.itf_lines.specs.declared.logical.LineEnd.{LineEnd};
+ghost use Rattle.itf_lines.specs.LogicalLines.{LogicalLine};
+ghost use Rattle.itf_lines.specs.Views.{line_seen, lines_seen};
+ghost use Rattle.itf_reader.specs.declared.refusal.ReadRefusal.TheVariants.{Memory as OutOfMemory};
+ghost use Rattle.itf_reader.specs.Layouts.{form_of};
+ghost use Rattle.itf_reader.specs.Names.{form_in};
+ghost use Rattle.itf_reader.specs.Reads.{opening, read_from, Gives};
+ghost use Rattle.itf_reader.specs.RowFeeds.{next, shows, after_lines, shown_rows};
+
+mod gathered;
+mod placing;
+
+use super::machine::Names;
+use super::refusal::ReadRefusal;
+use super::row_feed::RowFeed;
+use super::transfer::Transfer;
+use gathered::Gathered;
+use itf_lines::{Line, LineEnd};
+use placing::placed;
+use ports::Memory;
+use std::alloc::Global;
+use std::marker::Model;
+use table_layout::Layout;
+
+/// A transfer that is read in pieces: the rows of closed objects, and what is open.
+#[derive(Drop)]
+pub struct TransferFeed {
+    alloc: Global,
+    feed: RowFeed,
+    gathered: Gathered,
+    failed: bool,
+}
+
+impl Model for TransferFeed {
+    ghost use Rattle.itf_reader.specs.Reads.{TransferState};
+    ghost use Rattle.itf_reader.specs.GatheredRows.{gathered_rows};
+
+    ghost Value = { TransferState };
+
+    ghost view = { λ feed. record {
+      failed = feed.failed;
+      rows = gathered_rows feed.gathered;
+      at = feed.feed.at;
+    } };
+}
+
+impl TransferFeed {
+    /// In front of a text that is read by a layout. It takes no memory yet.
+    pub fn new(alloc: Global, _layout: &Layout) -> Result<TransferFeed, Memory>
+        ensures { IfOk result (λ feed. feed ≡ opening) }
+    {
+        Ok(TransferFeed {
+            alloc,
+            feed: RowFeed::new(alloc),
+            gathered: Gathered::new(alloc),
+            failed: false,
+        })
+    }
+
+    // Takes a line, and the row that it closes.
+    fn take_line(&mut self, names: &Names, line: &Line) -> Result<(), Memory>
+        ensures at { OnOk result
+            (self.new.at ≡ next (form_in names.now) self.old.at (line_seen line.now)) }
+        ensures rows { OnOk result
+            (self.new.rows ≡ self.old.rows ++ shows self.old.at line.now.word) }
+        ensures failed { self.new.failed ≡ self.old.failed }
+    {
+        if let Some(table) = self.feed.take(names, line)? {
+            let row = self.feed.take_closed();
+            self.gathered.add(table, row)?;
+        }
+        Ok(())
+    }
+
+    /// Takes lines by the names of their layout.
+    pub fn take_lines(&mut self, names: &Names, lines: &[Line]) -> Result<(), Memory>
+        ensures at { OnOk result (self.new.at ≡ after_lines (form_in names.now) self.old.at
+            (lines_seen lines.now)) }
+        ensures rows { OnOk result (self.new.rows ≡ self.old.rows ++
+            shown_rows (form_in names.now) self.old.at (lines_seen lines.now)) }
+        ensures sound { OnOk result ((self.old.failed ≡ false) × (self.new.failed ≡ false)) }
+        ensures failed { OnErr result (self.new.failed ≡ true) }
+    {
+        if self.failed {
+            return Err(Memory);
+        }
+        self.failed = true;
+        for line in lines {
+            self.take_line(names, line)?;
+        }
+        self.failed = false;
+        Ok(())
+    }
+
+    /// Takes the next lines of a transfer's text.
+    pub fn take(&mut self, layout: &Layout, lines: Vec<Line>) -> Result<(), Memory>
+        requires valid { self.old.failed ≡ false → IsValid (layout_view layout.now) }
+        // Whatever follows these lines: the answer is that from here on.
+        ensures lines { OnOk result ((more : List LogicalLine) (end : LineEnd)
+            → read_from (form_of (layout_view layout.now)) self.old (lines_seen lines.items ++ more) end
+            ≡ read_from (form_of (layout_view layout.now)) self.new more end) }
+        // The only error is out of memory, after which each call has it.
+        ensures sound { OnOk result ((self.old.failed ≡ false) × (self.new.failed ≡ false)) }
+        ensures failed { OnErr result (self.new.failed ≡ true) }
+    {
+        if self.failed {
+            return Err(Memory);
+        }
+        self.failed = true;
+        let names = Names::new(self.alloc, layout)?;
+        self.failed = false;
+        self.take_lines(&names, &lines)
+    }
+
+    /// The text ends here: the rows of each table of the layout, or the first line at fault. A feed
+    /// that failed has `Memory`.
+    pub fn finish(self, layout: &Layout, end: LineEnd) -> Result<Transfer, ReadRefusal>
+        requires { self.failed ≡ false → end.total < 4294967295 }
+        ensures gives { self.failed ≡ false
+            → Gives (read_from (form_of (layout_view layout.now)) self [] end) result }
+        ensures failed { self.failed ≡ true → result ≡ Err OutOfMemory }
+    {
+        if self.failed {
+            return Err(ReadRefusal::Memory);
+        }
+        self.feed.finish(end)?;
+        Ok(placed(self.alloc, layout, self.gathered)?)
+    }
+}
