@@ -1,6 +1,6 @@
 -- The arcs of a line, one after the other.
 use Rattle.std.proofs.Common.{◌≡◌, ◌<◌, ℕ, List, [], ◌∷◌, true, length, refl, arith}
-use Rattle.itf_reader.specs.declared.row_values.ReadVertex.{ReadVertex}
+use Rattle.itf_reader.specs.declared.rows.values.ReadVertex.{ReadVertex}
 use Rattle.itf_reader.specs.RowReadings.{vertices_view}
 use Rattle.itf_reader.specs.StrokeFindings.{are_arcs, arc_findings}
 

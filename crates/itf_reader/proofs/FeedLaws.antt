@@ -1,5 +1,5 @@
 -- Lines that are taken in pieces.
-use Rattle.std.proofs.Common.{◌≡◌, ◌<◌, ◌+◌, ℕ, List, [], ◌∷◌, ◌++◌, length, take, drop, get_or, Option, Some, None, Result, Ok, Err, OnOk, refl, ap, sym, ◌∙◌}
+use Rattle.std.proofs.Common.{◌≡◌, ◌<◌, ◌+◌, ℕ, List, [], ◌∷◌, ◌++◌, length, take, get_or, Option, Result, Ok, Err, OnOk, refl, ap, sym, ◌∙◌}
 use Rattle.std.proofs.lemmas.List.{append_assoc, append-nil, take_more, map-append}
 use Rattle.itf_lines.specs.declared.word.LineWord.{LineWord}
 use Rattle.itf_lines.specs.declared.word.LineWord.TheVariants.{Obje, Etab}
@@ -9,7 +9,6 @@ use Rattle.itf_lines.specs.LogicalLines.{LogicalLine}
 use Rattle.itf_lines.specs.Views.{line_seen, lines_seen}
 use Rattle.itf_reader.specs.Forms.{Form, Row}
 use Rattle.itf_reader.specs.Machine.{strokes}
-use Rattle.itf_reader.specs.Readings.{Structure}
 use Rattle.itf_reader.specs.RowFeeds.{Standing, standing, stopped, next, after_lines, shows, shown_rows, number_shown, Shows, shown}
 use Rattle.itf_reader.specs.Reads.{TransferState, read_from, fault_at, answer}
 

@@ -1,9 +1,9 @@
 -- Numbers that came, with a flag for each.
-use Rattle.std.proofs.Common.{◌≡◌, ◌<◌, ◌+◌, ℕ, suc, zero, Bool, true, false, cond, List, [], ◌∷◌, ◌++◌, length, map, set, get_or, refl, ap, sym, ◌∙◌, arith, if◌then◌else◌, nat_eq}
-use Rattle.std.proofs.lemmas.Bool.{eqb-true, eqb-false, eq-eqb, ne_eqb}
+use Rattle.std.proofs.Common.{◌≡◌, ◌<◌, ◌+◌, ℕ, suc, zero, Bool, true, false, cond, List, [], ◌∷◌, ◌++◌, length, set, get_or, refl, ap, sym, ◌∙◌, arith, if◌then◌else◌, nat_eq}
+use Rattle.std.proofs.lemmas.Bool.{eqb-true, eqb-false}
 use Rattle.itf_reader.specs.Forms.{topic_came, table_came}
 use Rattle.itf_reader.specs.Numbers.{has_number, AreFlags}
-use Rattle.itf_reader.specs.MachineViews.{topic_alone, topics_alone, table_alone, tables_alone}
+use Rattle.itf_reader.specs.MachineViews.{topics_alone, tables_alone}
 use Rattle.itf_reader.proofs.Counted.{swap, one}
 
 pub topic_has : (n : ℕ) (ns : List ℕ) → has_number n ns ≡ topic_came n (topics_alone ns)

@@ -1,5 +1,5 @@
 -- The rows that a machine holds are those that the lines before closed.
-use Rattle.std.proofs.Common.{◌≡◌, ℕ, Bool, true, false, List, [], ◌∷◌, ◌++◌, map, Option, Some, None, Result, Ok, Err, refl, ap, sym, ◌∙◌, if◌then◌else◌}
+use Rattle.std.proofs.Common.{◌≡◌, ℕ, Bool, true, false, List, [], ◌∷◌, ◌++◌, Option, Some, None, Result, Ok, Err, refl, ap, sym, ◌∙◌, if◌then◌else◌}
 use Rattle.std.proofs.lemmas.List.{append_assoc, append-nil, map-append}
 use Rattle.itf_lines.specs.declared.word.LineWord.{LineWord}
 use Rattle.itf_lines.specs.declared.word.LineWord.TheVariants.{Scnt, Slashes, Mtid, Modl, Topi, Tabl, Obje, Stpt, Lipt, Arcp, Elin, Etab, Etop, Emod, Ende}

@@ -11,6 +11,7 @@ pub mod Filling
 pub mod Flags
 pub mod Fresh
 pub mod HeldRows
+pub mod KeyLaws
 pub mod Numbers
 pub mod Openings
 pub mod Placed

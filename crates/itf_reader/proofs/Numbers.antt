@@ -1,44 +1,7 @@
--- Numbers of names, found from the last name down.
-use Rattle.std.proofs.Common.{◌≡◌, ℕ, suc, ◌+◌, ◌<◌, ◌≤◌, Bool, true, false, cond, nat_eq, ◌&&◌, if◌then◌else◌, List, [], ◌∷◌, length, drop, map, get_or, Option, Some, None, refl, sym, ap, ◌∙◌, arith, add-one, drop-cons}
-use Rattle.std.specs.Cmp.Lexicographic.{pointwise, nat_list_eq_equiv}
-use Rattle.table_layout.specs.declared.layouts.Table.{Table as LayoutTable}
-use Rattle.table_layout.specs.Values.{table_view, tables_view}
+-- Fields that name nothing.
+use Rattle.std.proofs.Common.{◌≡◌, ℕ, ◌+◌, ◌<◌, ◌≤◌, Bool, true, false, nat_eq, ◌&&◌, if◌then◌else◌, List, [], ◌∷◌, length, Some, None, refl, sym, ap, ◌∙◌, arith}
 use Rattle.itf_reader.specs.Forms.{Table, names, topic_named, table_named}
-use Rattle.itf_reader.specs.Found.{lines_found, same_key}
-use Rattle.itf_reader.specs.Layouts.{wanted_of}
-
--- the topic at i is put in front of those behind it
-pub topic_down : (name key : List ℕ) (i p : ℕ) (ts : List (List ℕ)) (n : List ℕ) (got new : Option ℕ)
-    → p ≡ i + 1 → i < length ts → n ≡ get_or ts i n → key ≡ n
-    → got ≡ topic_named p (name ∷ []) (drop p ts) → new ≡ cond (pointwise nat_eq key name) (Some i) got
-    → new ≡ topic_named i (name ∷ []) (drop i ts)
-topic_down name key i p ts n got new e lt at k g u =
-    let d : drop i ts ≡ n ∷ drop p ts = drop-cons ts i n lt ∙ ap (λ (x : List ℕ). x ∷ drop (suc i) ts) (sym at) ∙ ap (λ (q : ℕ). n ∷ drop q ts) (sym (e ∙ add-one i)) in
-    u ∙ ap (λ (b : Bool). cond b (Some i) got) (nat_list_eq_equiv.symm key name ∙ ap (pointwise nat_eq name) k)
-    ∙ ap (λ (o : Option ℕ). cond (pointwise nat_eq name n) (Some i) o) (g ∙ ap (λ (q : ℕ). topic_named q (name ∷ []) (drop p ts)) e)
-    ∙ ap (topic_named i (name ∷ [])) (sym d)
-
-found_if : (b : Bool) (i : ℕ) (t : Table) (rest : Option (ℕ × Table)) → cond b (Some (i, t.lines)) (lines_found rest) ≡ lines_found (if b then Some (i, t) else rest)
-found_if true i t rest = refl
-found_if false i t rest = refl
-
-abbrev pub found_from : ℕ → ℕ → List ℕ → List LayoutTable → Option (ℕ × ℕ)
-found_from number topic name ts = lines_found (table_named number topic (name ∷ []) (map wanted_of (tables_view ts)))
-
--- the table at i is put in front of those behind it
-pub table_down : (topic : ℕ) (name : List ℕ) (key : ℕ × List ℕ) (value : ℕ × ℕ) (i p : ℕ) (ts : List LayoutTable) (t : LayoutTable) (got new : Option (ℕ × ℕ))
-    → p ≡ i + 1 → i < length ts → t ≡ get_or ts i t → key ≡ (t.topic, t.name) → value ≡ (i, (wanted_of (table_view t)).lines)
-    → got ≡ found_from p topic name (drop p ts) → new ≡ cond (same_key key (topic, name)) (Some value) got
-    → new ≡ found_from i topic name (drop i ts)
-table_down topic name key value i p ts t got new e lt at k v g u =
-    let d : drop i ts ≡ t ∷ drop p ts = drop-cons ts i t lt ∙ ap (λ (x : LayoutTable). x ∷ drop (suc i) ts) (sym at) ∙ ap (λ (q : ℕ). t ∷ drop q ts) (sym (e ∙ add-one i)) in
-    let b : same_key key (topic, name) ≡ (nat_eq t.topic topic && pointwise nat_eq name t.name) =
-    ap (λ (x : ℕ × List ℕ). same_key x (topic, name)) k ∙ ap (λ (c : Bool). nat_eq t.topic topic && c) (nat_list_eq_equiv.symm t.name name) in
-    u ∙ ap (λ (c : Bool). cond c (Some value) got) b
-    ∙ ap (λ (x : ℕ × ℕ). cond (nat_eq t.topic topic && pointwise nat_eq name t.name) (Some x) got) v
-    ∙ ap (λ (o : Option (ℕ × ℕ)). cond (nat_eq t.topic topic && pointwise nat_eq name t.name) (Some (i, (wanted_of (table_view t)).lines)) o) (g ∙ ap (λ (q : ℕ). found_from q topic name (drop p ts)) e)
-    ∙ found_if (nat_eq t.topic topic && pointwise nat_eq name t.name) i (wanted_of (table_view t)) (table_named (i + 1) topic (name ∷ []) (map wanted_of (tables_view (drop p ts))))
-    ∙ ap (found_from i topic name) (sym d)
+use Rattle.itf_reader.specs.TableKeys.{lines_found}
 
 -- no field, and more than one, name nothing
 abbrev none : List (List ℕ) → Type 0

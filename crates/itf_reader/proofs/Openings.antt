@@ -1,5 +1,5 @@
 -- From the opening, the answer is the relation of the lines alone.
-use Rattle.std.proofs.Common.{◌≡◌, ◌+◌, ℕ, Bool, true, false, List, [], ◌∷◌, ◌++◌, Option, Some, None, Result, Ok, Err, IfOk, IfErr, refl, ap, sym, subst, ◌∙◌}
+use Rattle.std.proofs.Common.{◌≡◌, ℕ, Bool, true, false, List, [], ◌++◌, Option, Some, None, Result, Ok, Err, IfOk, IfErr, refl, ap, sym, subst, ◌∙◌}
 use Rattle.std.specs.Bool.{⊤}
 use Rattle.std.proofs.lemmas.List.{append-nil}
 use Rattle.itf_lines.specs.declared.logical.LineEnd.{LineEnd}
@@ -10,10 +10,10 @@ use Rattle.itf_reader.specs.declared.transfer.Transfer.{Transfer}
 use Rattle.itf_reader.specs.declared.refusal.ReadRefusal.{ReadRefusal}
 use Rattle.itf_reader.specs.declared.refusal.ReadRefusal.TheVariants as refusals
 use Rattle.itf_reader.specs.Forms.{Form, Row, TopicRows, placed}
-use Rattle.itf_reader.specs.TransferText.{IsText, TransferText}
+use Rattle.itf_reader.specs.TransferText.{IsText}
 use Rattle.itf_reader.specs.Machine.{State, start, done, has_ended, Code, run}
-use Rattle.itf_reader.specs.Readings.{Structure, OfLine, End, Continue, Cont, IsRead, IsRefused, at_line, at_open, at_stray, at_end}
-use Rattle.itf_reader.specs.Refusals.{fault_of, Refuses}
+use Rattle.itf_reader.specs.Readings.{Structure, IsRead, IsRefused, at_line, at_open, at_stray, at_end}
+use Rattle.itf_reader.specs.Refusals.{Refuses}
 use Rattle.itf_reader.specs.ClosedRows.{closed_rows, by_table}
 use Rattle.itf_reader.specs.RowFeeds.{Standing, standing, stopped, after_lines, shown_rows, RowState}
 use Rattle.itf_reader.specs.RowViews.{transfer_of}
@@ -23,7 +23,7 @@ use Rattle.itf_reader.proofs.Codes.{has_code}
 use Rattle.itf_reader.proofs.Drive.{text_drive}
 use Rattle.itf_reader.proofs.FeedLaws.{read_on, all_took}
 use Rattle.itf_reader.proofs.Stands.{done_text, taken_begins, refused_at}
-use Rattle.itf_reader.proofs.Thin.{thin, thin_ended, StopsWith, Follows, follow, rows_shown}
+use Rattle.itf_reader.proofs.Thin.{thin_ended, StopsWith, Follows, follow, rows_shown}
 
 abbrev pub Answered : Form → LogicalLines → Answer → Type 0
 Answered f found (read transfer) = IsRead f found transfer

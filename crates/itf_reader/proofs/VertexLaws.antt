@@ -1,5 +1,5 @@
 -- Words and vertices that were read, and their codes.
-use Rattle.std.proofs.Common.{◌≡◌, ℕ, ℤ, Bool, true, false, cond, not, ◌&&◌, List, [], ◌∷◌, ◌++◌, drop, Option, Some, None, Result, Ok, Err, refl, ap, sym, subst, ◌∙◌, length, append-nil, append_assoc}
+use Rattle.std.proofs.Common.{◌≡◌, ℕ, ℤ, Bool, true, false, cond, not, ◌&&◌, List, [], ◌∷◌, ◌++◌, drop, Option, Some, None, Result, Ok, Err, refl, ap, subst, ◌∙◌, length, append-nil}
 use Rattle.std.specs.Prelude.{is_none}
 use Rattle.std.specs.Option.{option_map}
 use Rattle.std.specs.List.{flat_map}
@@ -12,10 +12,10 @@ use Rattle.field_values.specs.Readings.{Value, reading, numbers_on}
 use Rattle.itf_reader.specs.declared.findings.Code.{Code}
 use Rattle.itf_reader.specs.declared.findings.Code.TheVariants.{Arcs}
 use Rattle.itf_reader.specs.Findings.{Finding}
-use Rattle.itf_reader.specs.declared.row_values.ReadVertex.{ReadVertex}
+use Rattle.itf_reader.specs.declared.rows.values.ReadVertex.{ReadVertex}
 use Rattle.itf_reader.specs.Forms.{Vertex}
-use Rattle.itf_reader.specs.RowReadings.{Stroke, SoundLine, FaultyLine, is_sound_read, sound_vertex, sound_vertices, sound_height, vertices_view, vertex_view, whole_stroke, stroke_of}
-use Rattle.itf_reader.specs.StrokeFindings.{Seen, is_on_arc, code_if, code_of, first_code, finding_at, seen, all_seen, place_of, heights_of, vertex_code, vertex_finding, is_clean, are_clean, is_short, is_whole, is_sound_stroke, stroke_findings, short_finding, are_arcs, arc_findings, is_bad_arc}
+use Rattle.itf_reader.specs.RowReadings.{Stroke, SoundLine, FaultyLine, is_sound_read, sound_vertex, sound_vertices, sound_height, vertices_view, whole_stroke, stroke_of}
+use Rattle.itf_reader.specs.StrokeFindings.{Seen, is_on_arc, code_if, code_of, first_code, finding_at, seen, all_seen, place_of, heights_of, vertex_code, vertex_finding, is_clean, are_clean, is_short, is_whole, stroke_findings, short_finding, are_arcs, arc_findings, is_bad_arc}
 use Rattle.itf_reader.specs.VertexReadings.{reading_by, vertex_reading}
 
 -- ---- columns

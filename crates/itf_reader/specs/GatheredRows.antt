@@ -1,5 +1,5 @@
 -- The closed objects that a feed holds.
-use Rattle.std.specs.Prelude.{ℕ, List, [], ◌∷◌, ◌++◌, map}
+use Rattle.std.specs.Prelude.{ℕ, List, ◌++◌, map}
 use Rattle.itf_reader.specs.declared.transfer_feed.gathered.CameTable.{CameTable}
 use Rattle.itf_reader.specs.declared.transfer_feed.gathered.Gathered.{Gathered}
 use Rattle.itf_reader.specs.Forms.{Row, TableRows}

@@ -4,7 +4,6 @@ pub mod Codes
 pub mod Few
 pub mod Findings
 pub mod Forms
-pub mod Found
 pub mod GatheredRows
 pub mod Layouts
 pub mod Machine
@@ -22,6 +21,7 @@ pub mod RowKeys
 pub mod RowReadings
 pub mod RowViews
 pub mod StrokeFindings
+pub mod TableKeys
 pub mod TransferText
 pub mod VertexReadings
 pub mod Views

@@ -9,12 +9,12 @@ use Rattle.field_values.specs.Fields.{is_undefined, width}
 use Rattle.field_values.specs.Places.{place_view}
 use Rattle.field_values.specs.Readings.{Value, Numbers, Bytes, column_reading}
 use Rattle.field_values.specs.Values.{value_view}
-use Rattle.itf_reader.specs.declared.row_values.Cell.{Cell as CodeCell}
-use Rattle.itf_reader.specs.declared.row_values.Cell.TheVariants as cells
-use Rattle.itf_reader.specs.declared.row_values.ReadVertex.{ReadVertex}
-use Rattle.itf_reader.specs.declared.row_values.StrokeRead.{StrokeRead as CodeStroke}
-use Rattle.itf_reader.specs.declared.row_values.StrokeRead.TheVariants as strokes
-use Rattle.itf_reader.specs.declared.row_values.RowValues.{RowValues}
+use Rattle.itf_reader.specs.declared.rows.values.Cell.{Cell as CodeCell}
+use Rattle.itf_reader.specs.declared.rows.values.Cell.TheVariants as cells
+use Rattle.itf_reader.specs.declared.rows.values.ReadVertex.{ReadVertex}
+use Rattle.itf_reader.specs.declared.rows.values.StrokeRead.{StrokeRead as CodeStroke}
+use Rattle.itf_reader.specs.declared.rows.values.StrokeRead.TheVariants as strokes
+use Rattle.itf_reader.specs.declared.rows.values.RowValues.{RowValues}
 use Rattle.itf_reader.specs.Forms.{Vertex, Row}
 use Rattle.itf_reader.specs.RowViews.{kind_of}
 use Rattle.itf_reader.specs.RowFindings.{is_counted}

@@ -23,6 +23,11 @@
 //!   its table has lines; or the line at fault and its code. Its answer is exact: it is a
 //!   transfer only where the lines are its text, and a refusal only where they are refused at
 //!   that line with that code. The only other answer is want of memory.
+//! - **In pieces.** A `TransferFeed` takes the lines in pieces: whatever follows them, the answer
+//!   is that from its new state on, so that the cut does not matter. A `RowFeed` takes one line
+//!   after another, shows each row when it is closed, and keeps none but that. From the opening
+//!   both give the answer of the lines, and the rows that are shown are all of them
+//!   (`from_the_opening`). `read_transfer` is one feed.
 //! - **What lines it takes.** Those that `logical_lines` gives by the layout's codes. Any other
 //!   lines are read by the same rules, as if they were such.
 //! - **Names.** A line names the first topic, or the first table of the open topic, that has its
@@ -32,32 +37,26 @@
 //! - **Degenerate cases:** a text may have no topic, a topic no table, a table no object. Before
 //!   the line of four slashes each word may stand, and behind ENDE none.
 //!
-//! Cost: `read_transfer` makes maps of the layout's names, goes over the lines once, and looks up
-//! each name once, so that it takes time and memory in proportion to the layout and the lines.
-//! The fields of rows and vertices are copies of those of the lines; rows are not copied again.
+//! Cost: `Names` sorts the names of a layout, n log n for every layout, and each line TOPI or TABL
+//! looks one up by binary search. A feed goes over the lines once and copies their fields. A
+//! `RowFeed` holds the open row and the one that was closed last, whose room is used again, and the
+//! numbers of what came. A `TransferFeed` holds all rows, each moved out of the feed below, and
+//! sorts the names anew for each piece.
 #![tactic(auto)]
 
-mod counting;
 mod findings;
 mod laws;
 mod machine;
 mod order;
 mod reading;
 mod refusal;
-mod report;
-mod row_columns;
 mod row_feed;
-mod row_lines;
-mod row_reading;
-mod row_strokes;
-mod row_values;
-mod row_vertices;
+mod rows;
 #[cfg(test)]
 mod tests;
 mod transfer;
 mod transfer_feed;
 
-pub use counting::is_counted;
 pub use findings::{Code, Finding, Other};
 pub use laws::{
     from_the_opening, machine_begins, machine_reads, machine_stops, one_answer, one_transfer,
@@ -67,10 +66,9 @@ pub use machine::Names;
 pub use order::sort_findings;
 pub use reading::read_transfer;
 pub use refusal::ReadRefusal;
-pub use report::code_of;
 pub use row_feed::RowFeed;
-pub use row_lines::is_sound_line;
-pub use row_reading::read_row;
-pub use row_values::{Cell, ReadVertex, RowValues, StrokeRead};
+pub use rows::{
+    Cell, ReadVertex, RowValues, StrokeRead, code_of, is_counted, is_sound_line, read_row,
+};
 pub use transfer::{Row, Stroke, Structure, TableRows, Transfer, Vertex, VertexKind};
 pub use transfer_feed::TransferFeed;

@@ -18,6 +18,7 @@ mod names;
 mod objects;
 mod polylines;
 mod rows;
+mod spare;
 mod state;
 mod topics;
 
@@ -28,6 +29,7 @@ use itf_lines::{Line, LineWord};
 pub use names::Names;
 use ports::Memory;
 pub use rows::no_row;
+use spare::Spare;
 pub use state::State;
 use std::alloc::Global;
 use table_layout::TableId;
@@ -42,6 +44,8 @@ pub struct Machine {
     /// The vertices of the open polyline.
     pub polyline: Vec<Vertex>,
     pub closed: Row,
+    /// Room of objects that were let go.
+    pub spare: Spare,
 }
 
 // The code of a word that may not stand where it does, in front of ENDE.
@@ -72,6 +76,7 @@ impl Machine {
             open: no_row(alloc),
             polyline: Vec::new(alloc),
             closed: no_row(alloc),
+            spare: Spare::new(alloc),
         }
     }
 

@@ -1,73 +1,69 @@
 // The names of a layout.
-ghost use Rattle.std.specs.Prelude.{◌≡◌, ◌≤◌, ◌∷◌, [], ℕ, List, length, map, nat_eq, IfOk};
-ghost use Rattle.std.specs.Cmp.Lexicographic.{pointwise};
-ghost use Rattle.indexmap.specs.IndexMap.{get};
+ghost use Rattle.std.specs.Prelude.{◌≡◌, ◌≤◌, length, IfOk, OnOk};
+ghost use Rattle.std.specs.List.{position_from};
+ghost use Rattle.ports.specs.SortedKeys.{IsSortedKeys, is_key};
 ghost use Rattle.table_layout.specs.Values.{layout_view, tables_view};
 ghost use Rattle.itf_reader.specs.Forms.{names, topic_named, table_named};
-ghost use Rattle.itf_reader.specs.Found.{lines_found, same_key};
-ghost use Rattle.itf_reader.specs.Layouts.{form_of, wanted_of};
+ghost use Rattle.itf_reader.specs.TableKeys.{lines_found, entry_at, name_keys, table_key, table_keys, AreSmall};
+ghost use Rattle.itf_reader.specs.Layouts.{form_of};
 
-use indexmap::IndexMap;
 use itf_lines::Field;
-use ports::{Key, Memory, Name};
+use ports::{Memory, Name, SortedKeys};
 use std::alloc::Global;
 use table_layout::{Layout, Table};
 
-/// A layout with maps of its names: the number of each topic; and by the number of a topic and
-/// a name the number of the table and how many lines it has. The first of a name counts.
+/// A layout with its names in order: those of its topics, and for each table the number of its
+/// topic and its name as one key. The first of a name counts.
 #[derive(Drop)]
 pub struct Names<'a> {
     pub layout: &'a Layout,
-    topics: IndexMap<Key<'a>, usize>,
-    tables: IndexMap<(usize, Key<'a>), (u32, usize)>,
-    ghost topics_told: { (name : List ℕ) → get (pointwise nat_eq) topics name ≡ topic_named 0 (name ∷ []) layout.now.topics.items },
-    ghost tables_told: { (topic : ℕ) (name : List ℕ) → get same_key tables (topic, name) ≡ lines_found (table_named 0 topic (name ∷ []) (form_of (layout_view layout.now)).tables) },
+    topics: SortedKeys,
+    keys: Vec<Name>,
+    tables: SortedKeys,
+    ghost topics_told: { IsSortedKeys (name_keys layout.now.topics.items) topics },
+    ghost tables_told: { IsSortedKeys (name_keys keys.items) tables },
+    ghost keys_told: { keys.items ≡ table_keys (tables_view layout.now.tables.items) },
+    ghost small: { AreSmall (tables_view layout.now.tables.items) },
+    ghost few: { length layout.now.tables.items ≤ 4194304 },
 }
 
-// The number of each topic.
-fn topic_numbers<'a>(alloc: Global, topics: &'a [Name]) -> Result<IndexMap<Key<'a>, usize>, Memory>
-    ensures { IfOk result (λ numbers. (name : List ℕ)
-        → get (pointwise nat_eq) numbers name ≡ topic_named 0 (name ∷ []) topics.now) }
+// The number of a topic and a name as one key: eight bytes, then those of the name.
+fn table_key(alloc: Global, topic: u64, name: &[u8]) -> Result<Name, Memory>
+    ensures { IfOk result (λ key. key ≡ table_key topic name.now) }
 {
-    let mut numbers = IndexMap::new(alloc);
-    for number in (0..topics.len()).rev() {
-        numbers.insert(Key::new(topics[number].bytes()), number)?;
-    }
-    Ok(numbers)
+    let mut bytes = Vec::new(alloc);
+    bytes.extend_from_slice(&topic.to_be_bytes())?;
+    bytes.extend_from_slice(name)?;
+    Name::new(alloc, &bytes)
 }
 
-// The number of each table, and how many lines it has.
-fn table_numbers<'a>(
-    alloc: Global,
-    tables: &'a [Table],
-) -> Result<IndexMap<(usize, Key<'a>), (u32, usize)>, Memory>
-    requires { length tables.now ≤ 4194304 }
-    ensures { IfOk result (λ numbers. (topic : ℕ) (name : List ℕ)
-        → get same_key numbers (topic, name) ≡ lines_found
-        (table_named 0 topic (name ∷ []) (map wanted_of (tables_view tables.now)))) }
+// The keys of all tables.
+fn table_keys(alloc: Global, tables: &[Table]) -> Result<Vec<Name>, Memory>
+    ensures keys { IfOk result (λ keys. keys.items ≡ table_keys (tables_view tables.now)) }
+    ensures small { OnOk result (AreSmall (tables_view tables.now)) }
 {
-    let mut numbers = IndexMap::new(alloc);
-    for number in (0..tables.len()).rev() {
-        let table = &tables[number];
-        let key = (table.topic as usize, Key::new(table.name.bytes()));
-        numbers.insert(key, (number as u32, table.lines.len()))?;
+    let mut keys = Vec::with_capacity(alloc, tables.len())?;
+    for table in tables {
+        keys.push(table_key(alloc, u64::from(table.topic), table.name.bytes())?)?;
     }
-    Ok(numbers)
+    Ok(keys)
 }
 
 impl<'a> Names<'a> {
     ghost use Rattle.itf_reader.specs.Names.{form_in};
 
-    /// The names of a layout.
+    /// The names of a layout, in order. It takes n log n comparisons for every layout.
     pub fn new(alloc: Global, layout: &'a Layout) -> Result<Names<'a>, Memory>
         requires { length layout.now.tables.items ≤ 4194304 }
         ensures { IfOk result (λ names. form_in names ≡ form_of (layout_view layout.now)) }
     {
-        let topics = topic_numbers(alloc, &layout.topics)?;
-        let tables = table_numbers(alloc, &layout.tables)?;
+        let topics = SortedKeys::new(alloc, &layout.topics)?;
+        let keys = table_keys(alloc, &layout.tables)?;
+        let tables = SortedKeys::new(alloc, &keys)?;
         Ok(Names {
             layout,
             topics,
+            keys,
             tables,
         })
     }
@@ -87,18 +83,38 @@ impl<'a> Names<'a> {
         ensures { result ≡ topic_named 0 fields.now (form_in self.now).topics }
     {
         match fields {
-            [field] => self.topics.get(&Key::new(field.bytes())).copied(),
+            [field] => self.topics.first(&self.layout.topics, field.bytes()),
             _ => None,
         }
     }
 
-    /// The number of the table of that topic that the fields name, and how many lines it has.
-    pub fn find_table(&self, topic: usize, fields: &[Field]) -> Option<(u32, usize)>
-        ensures { result ≡ lines_found (table_named 0 topic fields.now (form_in self.now).tables) }
+    // The number of the table with that key, and how many lines it has.
+    fn find_key(&self, key: &[u8]) -> Option<(u32, usize)>
+        ensures { result ≡ entry_at (tables_view self.now.layout.now.tables.items)
+            (position_from (is_key key.now) 0 (name_keys self.now.keys.items)) }
+    {
+        let place = self.tables.first(&self.keys, key)?;
+        let table = self.layout.tables.get(place)?;
+        Some((place as u32, table.lines.len()))
+    }
+
+    /// The number of the table of that topic that the fields name, and how many lines it has. The
+    /// only error is out of memory.
+    pub fn find_table(
+        &self,
+        alloc: Global,
+        topic: usize,
+        fields: &[Field],
+    ) -> Result<Option<(u32, usize)>, Memory>
+        ensures { IfOk result (λ found. found ≡ lines_found
+            (table_named 0 topic fields.now (form_in self.now).tables)) }
     {
         match fields {
-            [field] => self.tables.get(&(topic, Key::new(field.bytes()))).copied(),
-            _ => None,
+            [field] => {
+                let key = table_key(alloc, topic as u64, field.bytes())?;
+                Ok(self.find_key(key.bytes()))
+            }
+            _ => Ok(None),
         }
     }
 }

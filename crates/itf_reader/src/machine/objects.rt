@@ -37,6 +37,7 @@ impl Machine {
             (strokes (opened_row (in_table self.old.frame) line.now.number line.now.fields.items))) }
         ensures closed { self.new.closed ≡ self.old.closed }
     {
+        self.spare.recycle(&mut self.open.strokes)?;
         open_row(self.alloc, &mut self.open, self.frame.lines, line)?;
         self.frame.state = State::InObject;
         Ok(())

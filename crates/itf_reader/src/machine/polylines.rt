@@ -1,14 +1,13 @@
 // The lines of a polyline.
-ghost use Rattle.std.specs.Prelude.{◌≡◌, ◌∷◌, [], OnOk};
+ghost use Rattle.std.specs.Prelude.{◌≡◌, ◌++◌, ◌∷◌, [], OnOk};
 ghost use Rattle.itf_lines.specs.Views.{line_seen};
 ghost use Rattle.itf_reader.specs.Forms.{Form, Start, vertex};
 ghost use Rattle.itf_reader.specs.Machine.{strokes, vertices, arc, with_stroke};
-ghost use Rattle.itf_reader.specs.RowViews.{vertices_of};
+ghost use Rattle.itf_reader.specs.RowViews.{kind_of, vertices_of};
 ghost use Rattle.itf_reader.specs.RowFeeds.{taken, standing};
 ghost use Rattle.itf_reader.specs.MachineViews.{at_of, in_row};
 
 use super::Machine;
-use super::rows::add_vertex;
 use super::state::State;
 use crate::transfer::{Stroke, VertexKind};
 use itf_lines::{Line, LineWord};
@@ -16,6 +15,19 @@ use ports::Memory;
 use std::mem::replace;
 
 impl Machine {
+    // Adds the vertex of a line to the open polyline.
+    fn add_vertex(&mut self, kind: VertexKind, line: &Line) -> Result<(), Memory>
+        ensures vertices { OnOk result (vertices_of self.new.polyline.items ≡ vertices_of
+            self.old.polyline.items ++ vertex (kind_of kind) line.now.number
+            line.now.fields.items ∷ []) }
+        ensures frame { self.new.frame ≡ self.old.frame }
+        ensures row { self.new.open ≡ self.old.open }
+    {
+        let vertex = self.spare.vertex(self.alloc, kind, line)?;
+        self.polyline.push(vertex)?;
+        Ok(())
+    }
+
     // Adds an undefined stroke to the open object.
     pub fn add_undefined(&mut self) -> Result<(), Memory>
         ensures { OnOk result (at_of self.new ≡ standing
@@ -35,7 +47,7 @@ impl Machine {
     {
         self.polyline.clear();
         self.polyline.reserve_exact(2)?;
-        add_vertex(self.alloc, &mut self.polyline, VertexKind::Start, line)?;
+        self.add_vertex(VertexKind::Start, line)?;
         self.frame.state = State::InPolyline;
         Ok(())
     }
@@ -45,7 +57,8 @@ impl Machine {
         ensures { OnOk result (at_of self.new ≡ standing (strokes (with_stroke (in_row self.old)
             (vertices_of self.old.polyline.items)))) }
     {
-        let vertices = replace(&mut self.polyline, Vec::new(self.alloc));
+        let next = self.spare.polyline(self.alloc);
+        let vertices = replace(&mut self.polyline, next);
         self.open.strokes.push(Stroke { vertices })?;
         self.frame.state = State::InObject;
         Ok(())
@@ -59,11 +72,11 @@ impl Machine {
     {
         match line.word {
             LineWord::Lipt => {
-                add_vertex(self.alloc, &mut self.polyline, VertexKind::Straight, line)?;
+                self.add_vertex(VertexKind::Straight, line)?;
                 self.frame.state = State::InPolyline;
             }
             LineWord::Arcp => {
-                add_vertex(self.alloc, &mut self.polyline, VertexKind::OnArc, line)?;
+                self.add_vertex(VertexKind::OnArc, line)?;
                 self.frame.state = State::AfterArcPoint;
             }
             LineWord::Elin => return self.end_polyline(),
@@ -80,7 +93,7 @@ impl Machine {
     {
         match line.word {
             LineWord::Lipt => {
-                add_vertex(self.alloc, &mut self.polyline, VertexKind::Straight, line)?;
+                self.add_vertex(VertexKind::Straight, line)?;
                 self.frame.state = State::InPolyline;
             }
             _ => self.refuse(line),

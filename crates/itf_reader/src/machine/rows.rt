@@ -1,16 +1,16 @@
-// Objects and their vertices, built up line by line.
-ghost use Rattle.std.specs.Prelude.{◌≡◌, ◌++◌, ◌∷◌, [], OnOk, IfOk};
-ghost use Rattle.itf_reader.specs.Forms.{vertex, filled};
-ghost use Rattle.itf_reader.specs.RowViews.{kind_of, vertices_of, strokes_of, row_of};
+// Objects, built up line by line.
+ghost use Rattle.std.specs.Prelude.{◌≡◌, [], OnOk};
+ghost use Rattle.itf_reader.specs.Forms.{filled};
+ghost use Rattle.itf_reader.specs.RowViews.{strokes_of, row_of};
 ghost use Rattle.itf_reader.specs.RowFeeds.{row_opened};
 
-use crate::transfer::{Row, Stroke, Vertex, VertexKind};
+use crate::transfer::{Row, Stroke};
 use itf_lines::{Field, Line};
 use ports::Memory;
 use std::alloc::Global;
 
-// Puts copies of some fields in place of others.
-fn refill(alloc: Global, into: &mut Vec<Field>, fields: &[Field]) -> Result<(), Memory>
+/// Puts copies of some fields in place of others.
+pub fn refill(alloc: Global, into: &mut Vec<Field>, fields: &[Field]) -> Result<(), Memory>
     ensures { OnOk result (into.new.items ≡ fields.now) }
 {
     into.clear();
@@ -18,26 +18,6 @@ fn refill(alloc: Global, into: &mut Vec<Field>, fields: &[Field]) -> Result<(), 
     for field in fields {
         into.push(Field::new(alloc, field.bytes())?)?;
     }
-    Ok(())
-}
-
-/// Adds the vertex of a line.
-pub fn add_vertex(
-    alloc: Global,
-    vertices: &mut Vec<Vertex>,
-    kind: VertexKind,
-    line: &Line,
-) -> Result<(), Memory>
-    ensures { OnOk result (vertices_of vertices.new.items ≡ vertices_of vertices.old.items ++ vertex
-        (kind_of kind) line.now.number line.now.fields.items ∷ []) }
-{
-    let mut fields = Vec::new(alloc);
-    refill(alloc, &mut fields, &line.fields)?;
-    vertices.push(Vertex {
-        line: line.number,
-        kind,
-        fields,
-    })?;
     Ok(())
 }
 
@@ -50,13 +30,13 @@ pub fn no_row(alloc: Global) -> Row {
     }
 }
 
-/// Makes a row the object of a line, without strokes. It keeps its room, and gets room for the
+/// Makes a row without strokes the object of a line. It keeps its room, and gets room for the
 /// strokes of its table and no more, since a transfer has millions of objects with one stroke.
 pub fn open_row(alloc: Global, row: &mut Row, lines: usize, line: &Line) -> Result<(), Memory>
+    requires { row.old.strokes.items ≡ [] }
     ensures { OnOk result (row_of row.new ≡ row_opened line.now.number line.now.fields.items) }
 {
     row.line = line.number;
-    row.strokes.clear();
     row.strokes.reserve_exact(lines)?;
     refill(alloc, &mut row.fields, &line.fields)
 }

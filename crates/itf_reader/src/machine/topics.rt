@@ -48,13 +48,13 @@ impl Machine {
     }
 
     // Opens the table that a line names.
-    fn open_table(&mut self, names: &Names, line: &Line)
-        ensures { at_of self.new ≡ moved line.now.number
+    fn open_table(&mut self, names: &Names, line: &Line) -> Result<(), Memory>
+        ensures { OnOk result (at_of self.new ≡ moved line.now.number
             (named_table (in_topic self.old.frame)
             (table_named 0 self.old.frame.topic line.now.fields.items
-            (form_in names.now).tables)) }
+            (form_in names.now).tables))) }
     {
-        match names.find_table(self.frame.topic, &line.fields) {
+        match names.find_table(self.alloc, self.frame.topic, &line.fields)? {
             None => self.stop(line, Structure::Name),
             Some((number, lines)) => {
                 if self.frame.has_table(number) {
@@ -66,6 +66,7 @@ impl Machine {
                 }
             }
         }
+        Ok(())
     }
 
     // Closes the open topic.
@@ -85,10 +86,12 @@ impl Machine {
     {
         match line.word {
             LineWord::Tabl => self.open_table(names, line),
-            LineWord::Etop => return self.close_topic(),
-            _ => self.refuse(line),
+            LineWord::Etop => self.close_topic(),
+            _ => {
+                self.refuse(line);
+                Ok(())
+            }
         }
-        Ok(())
     }
 
     // Closes the open table.

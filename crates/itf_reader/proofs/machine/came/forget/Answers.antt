@@ -1,4 +1,4 @@
-use Rattle.std.proofs.Common.{rules, arith, ◌<◌, ◌+◌, length}
+use Rattle.std.proofs.Common.{rules, ◌<◌, ◌+◌, length}
 use Rattle.itf_reader.proofs.Flags.{forgot, forgot_past}
 use Rattle.itf_reader.proofs.machine.came.forget.Goals as goal
 

@@ -1,4 +1,4 @@
-use Rattle.std.proofs.Common.{rules, ◌≤◌, length, ◌+◌, sym}
+use Rattle.std.proofs.Common.{rules, ◌≤◌, length, sym}
 use Rattle.itf_reader.specs.GatheredRows.{came_table}
 use Rattle.itf_reader.proofs.Placed.{put_at, put_beyond}
 use Rattle.itf_reader.proofs.transfer_feed.placing.put.Goals as goal

@@ -1,4 +1,4 @@
-use Rattle.std.proofs.Common.{List, ◌++◌, ◌∷◌, [], ap, ◌∙◌}
+use Rattle.std.proofs.Common.{◌++◌, ◌∷◌, [], ap, ◌∙◌}
 use Rattle.std.proofs.lemmas.List.{map-append}
 use Rattle.itf_reader.specs.declared.transfer_feed.gathered.CameTable.{CameTable}
 use Rattle.itf_reader.specs.GatheredRows.{came_table, came_tables}

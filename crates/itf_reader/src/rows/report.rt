@@ -1,0 +1,46 @@
+// Findings of values.
+ghost use Rattle.std.specs.Prelude.{◌≡◌, ◌++◌};
+ghost use Rattle.std.specs.Result.{OnOk};
+ghost use Rattle.itf_reader.specs.Findings.{findings_of};
+ghost use Rattle.itf_reader.specs.StrokeFindings.{code_of, finding_at};
+
+use crate::findings::{Code, Finding, Other};
+use field_values::ValueFault;
+use ports::Memory;
+
+/// Adds a finding, if a test failed.
+pub fn report(
+    found: &mut Vec<Finding>,
+    line: u32,
+    column: u32,
+    failed: Option<Code>,
+) -> Result<(), Memory>
+    ensures { OnOk result (findings_of found.new.items ≡ findings_of found.old.items ++ finding_at
+        line column failed) }
+{
+    if let Some(code) = failed {
+        found.push(Finding {
+            line,
+            column,
+            code,
+            other: Other::Nothing,
+        })?;
+    }
+    Ok(())
+}
+
+/// The code of a rule that words break.
+pub fn code_of(fault: ValueFault) -> Code
+    ensures { result ≡ code_of fault }
+{
+    match fault {
+        ValueFault::Undefined => Code::Undefined,
+        ValueFault::Number => Code::Number,
+        ValueFault::Decimals => Code::Decimals,
+        ValueFault::Range => Code::Range,
+        ValueFault::Text => Code::Text,
+        ValueFault::Date => Code::Date,
+        ValueFault::Enum => Code::Enum,
+        ValueFault::Coord => Code::Coord,
+    }
+}
