@@ -1,5 +1,5 @@
 // A transfer whose lines come in pieces.
-ghost use Rattle.std.specs.Prelude.{◌≡◌, ◌<◌, ◌≤◌, ◌++◌, [], List, true, false, length, OnOk, OnErr, IfOk, Err};
+ghost use Rattle.std.specs.Prelude.{◌≡◌, ◌<◌, ◌≤◌, ◌++◌, [], List, true, false, length, OnOk, OnErr, IfOk, IsOk, Err};
 ghost use Rattle.table_layout.specs.Valid.{IsValid};
 ghost use Rattle.table_layout.specs.Values.{layout_view};
 ghost use Rattle.itf_lines.specs.declared.logical.LineEnd.{LineEnd};
@@ -51,7 +51,8 @@ impl Model for TransferFeed {
 impl TransferFeed {
     /// In front of a text that is read by a layout. It takes no memory yet.
     pub fn new(alloc: Global, _layout: &Layout) -> Result<TransferFeed, Memory>
-        ensures { IfOk result (λ feed. feed ≡ opening) }
+        ensures opening { IfOk result (λ feed. feed ≡ opening) }
+        ensures free { IsOk result }
     {
         Ok(TransferFeed {
             alloc,

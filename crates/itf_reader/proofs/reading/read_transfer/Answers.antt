@@ -11,7 +11,7 @@ pub returns-clause-read : goal.returns-clause-read
 returns-clause-read c =
     let f = form_of (layout_view c.args.layout.now) in
     let found = seen c.args.lines.now in
-    let whole = whole_took f (form_in c.in_ok-names.names) found c.in_ok-feed.feed c.take_lines.new.self (lines_seen c.deref.result.now) c.in_ok-names.ensures c.in_ok-feed.ensures (ap lines_seen c.deref.ensures.value)
+    let whole = whole_took f (form_in c.in_ok-names.names) found c.in_ok-feed.feed c.take_lines.new.self (lines_seen c.deref.result.now) c.in_ok-names.ensures c.in_ok-feed.ensures.opening (ap lines_seen c.deref.ensures.value)
     c.in_ok-take_lines.ensures.at c.in_ok-take_lines.ensures.rows in
     gives_read f found (read_from f c.take_lines.new.self [] (end_of found)) c.finish.result whole (c.finish.ensures.gives c.in_ok-take_lines.ensures.sound.1)
 
@@ -19,6 +19,6 @@ pub returns-clause-refused : goal.returns-clause-refused
 returns-clause-refused c =
     let f = form_of (layout_view c.args.layout.now) in
     let found = seen c.args.lines.now in
-    let whole = whole_took f (form_in c.in_ok-names.names) found c.in_ok-feed.feed c.take_lines.new.self (lines_seen c.deref.result.now) c.in_ok-names.ensures c.in_ok-feed.ensures (ap lines_seen c.deref.ensures.value)
+    let whole = whole_took f (form_in c.in_ok-names.names) found c.in_ok-feed.feed c.take_lines.new.self (lines_seen c.deref.result.now) c.in_ok-names.ensures c.in_ok-feed.ensures.opening (ap lines_seen c.deref.ensures.value)
     c.in_ok-take_lines.ensures.at c.in_ok-take_lines.ensures.rows in
     gives_refused f found (read_from f c.take_lines.new.self [] (end_of found)) c.finish.result whole (c.finish.ensures.gives c.in_ok-take_lines.ensures.sound.1)
