@@ -34,7 +34,8 @@ impl Machine {
     // Opens the object of a line.
     fn start_object(&mut self, line: &Line) -> Result<(), Memory>
         ensures at { OnOk result (at_of self.new ≡ standing
-            (strokes (opened_row (in_table self.old.frame) line.now.number line.now.fields.items))) }
+            (strokes (opened_row (in_table self.old.frame) line.now.number
+            line.now.fields.items))) }
         ensures closed { self.new.closed ≡ self.old.closed }
     {
         self.spare.recycle(&mut self.open.strokes)?;

@@ -51,8 +51,8 @@ fn put(tables: &mut [TableRows], came: CameTable) -> Result<(), Memory>
 
 // The rows of all tables that came, from the last one on, so that they keep their order.
 fn put_tables(tables: &mut [TableRows], came: Vec<CameTable>) -> Result<(), Memory>
-    ensures { OnOk result (tables_seen tables.new ≡ with_rows 0 (all_pairs (came_tables came.items))
-        (tables_seen tables.old)) }
+    ensures { OnOk result (tables_seen tables.new ≡ with_rows 0
+        (all_pairs (came_tables came.items)) (tables_seen tables.old)) }
 {
     let mut left = came;
     while let Some(table) = left.pop() {
