@@ -9,6 +9,10 @@ use itf_lines::Line;
 use ports::Memory;
 use std::alloc::Global;
 
+// As many vertices are kept, and those of one polyline. Longer ones are rare, and their room goes
+// back, so that no long polyline is paid for twice.
+const MOST: usize = 4096;
+
 /// Vertices of objects that were let go, and the lists that held them, whose room is used again,
 /// since a transfer has millions of vertices of two short words.
 #[derive(Drop)]
@@ -26,14 +30,16 @@ impl Spare {
         }
     }
 
-    /// Takes the strokes of an object.
+    /// Takes the strokes of an object, and keeps the room of short ones.
     pub fn recycle(&mut self, strokes: &mut Vec<Stroke>) -> Result<(), Memory>
         ensures { OnOk result (strokes.new.items ≡ []) }
     {
         while let Some(stroke) = strokes.pop() {
             let mut vertices = stroke.vertices;
-            self.vertices.append(&mut vertices)?;
-            self.polylines.push(vertices)?;
+            if vertices.len() < MOST && self.vertices.len() < MOST {
+                self.vertices.append(&mut vertices)?;
+                self.polylines.push(vertices)?;
+            }
         }
         Ok(())
     }
