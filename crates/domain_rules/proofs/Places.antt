@@ -23,7 +23,7 @@ use Rattle.itf_reader.specs.Findings.{Finding, put_in, sorted, is_before, in_ord
 use Rattle.itf_reader.specs.Forms.{Vertex, Row}
 use Rattle.itf_reader.specs.RowFindings.{column_code, widths, is_counted, columns_findings, line_findings, lines_findings, row_findings}
 use Rattle.itf_reader.specs.StrokeFindings.{Seen, finding_at, code_if, code_of, first_code, is_on_arc, vertex_code, vertex_finding, is_clean, are_clean, all_seen, is_bad_arc, arc_findings, short_finding, stroke_findings, place_of}
-use Rattle.domain_rules.specs.CleanPlaces.{IsInside, HasPoint, HavePoints, AreInside, IsArc, AreArcs, AreLines, HasPlaces, RowsHavePlaces, HavePlaces}
+use Rattle.domain_rules.specs.CleanPlaces.{IsInside, HasPoint, HavePoints, IsSoundVertex, AreSoundVertices, IsArc, AreArcs, AreLines, HasPlaces, RowsHavePlaces, HavePlaces}
 use Rattle.domain_rules.specs.ValueFindings.{table_findings, tables_findings, value_findings}
 
 -- ---- lists that are empty
@@ -135,15 +135,17 @@ first_code_none : (a b : Option Code) → first_code a b ≡ None → a ≡ None
 first_code_none None b h = refl
 first_code_none (Some c) b h = cc
 
-vertex_in : (l : LineForm) (v : Vertex) → vertex_code l v ≡ None → IsInside l.window (place_of l v)
-vertex_in l v h = by v.fields (code_none (vertex_fault l v.fields) (first_code_none (option_map code_of (vertex_fault l v.fields)) _ h))
+vertex_in : (l : LineForm) (v : Vertex) → vertex_code l v ≡ None → IsSoundVertex l v
+vertex_in l v h =
+    let f = code_none (vertex_fault l v.fields) (first_code_none (option_map code_of (vertex_fault l v.fields)) _ h) in
+    record { sound = f; inside = by v.fields f }
   where
     by : (fields : List (List ℕ)) → vertex_fault l fields ≡ None → IsInside l.window (place_named l.window fields)
     by [] f = absurd (let g : count_fault (line_axes l) [] ≡ None = (first_none (numbers_fault (line_axes l) []) (count_fault (line_axes l) []) f).1 in cc)
     by (x ∷ []) f = absurd (let g : count_fault (line_axes l) (x ∷ []) ≡ None = (first_none (numbers_fault (line_axes l) (x ∷ [])) (count_fault (line_axes l) (x ∷ [])) f).1 in cc)
     by (x ∷ y ∷ ws) f = inside l.window x y (option_to_list l.height) ws (first_none (numbers_fault (line_axes l) (x ∷ y ∷ ws)) (count_fault (line_axes l) (x ∷ y ∷ ws)) f).0
 
-vertices_in : (l : LineForm) (column : ℕ) (vs : List Vertex) → flat_map (vertex_finding l column) vs ≡ [] → AreInside l vs
+vertices_in : (l : LineForm) (column : ℕ) (vs : List Vertex) → flat_map (vertex_finding l column) vs ≡ [] → AreSoundVertices l vs
 vertices_in l column [] h = tt
 vertices_in l column (v ∷ vs) h =
     let e = empty_both (vertex_finding l column v) (flat_map (vertex_finding l column) vs) h in
@@ -157,7 +159,7 @@ none_by : (o : Option Code) → is_none o ≡ true → o ≡ None
 none_by None h = refl
 none_by (Some c) h = cc
 
-clean_in : (l : LineForm) (vs : List Vertex) → are_clean l vs ≡ true → AreInside l vs
+clean_in : (l : LineForm) (vs : List Vertex) → are_clean l vs ≡ true → AreSoundVertices l vs
 clean_in l [] h = tt
 clean_in l (v ∷ vs) h =
     let b = both_true (is_clean l v) (are_clean l vs) h in
@@ -209,13 +211,13 @@ stroke_clean : (role : Role) (l : LineForm) (column : ℕ) (vs : List Vertex) (b
 stroke_clean role l column vs true e h = e
 stroke_clean role l column vs false e h = silent l column vs (sym (if_false (are_clean l vs) (short_finding role column (all_seen l vs) ++ arc_findings column (all_seen l vs)) (flat_map (vertex_finding l column) vs) e) ∙ h)
 
-stroke_in : (role : Role) (l : LineForm) (column : ℕ) (vs : List Vertex) → stroke_findings role l column vs ≡ [] → AreInside l vs × AreArcs (all_seen l vs)
+stroke_in : (role : Role) (l : LineForm) (column : ℕ) (vs : List Vertex) → stroke_findings role l column vs ≡ [] → AreSoundVertices l vs × AreArcs (all_seen l vs)
 stroke_in role l column vs h =
     let c = stroke_clean role l column vs (are_clean l vs) refl h in
     let f = sym (if_true (are_clean l vs) (short_finding role column (all_seen l vs) ++ arc_findings column (all_seen l vs)) (flat_map (vertex_finding l column) vs) c) ∙ h in
     (clean_in l vs c, arcs_in column (all_seen l vs) (empty_both (short_finding role column (all_seen l vs)) (arc_findings column (all_seen l vs)) f).1)
 
-line_in : (role : Role) (line column : ℕ) (l : LineForm) (vs : List Vertex) → line_findings role line column l vs ≡ [] → AreInside l vs × AreArcs (all_seen l vs)
+line_in : (role : Role) (line column : ℕ) (l : LineForm) (vs : List Vertex) → line_findings role line column l vs ≡ [] → AreSoundVertices l vs × AreArcs (all_seen l vs)
 line_in role line column l [] h = (tt, tt)
 line_in role line column l (v ∷ vs) h = stroke_in role l column (v ∷ vs) h
 
@@ -243,6 +245,7 @@ row_in codes t r h =
     let c = counted_by (is_counted t r) (columns_findings codes r.line 1 t.columns (drop 1 r.fields) ++ lines_findings t.role r.line (1 + length t.columns) t.lines r.strokes) _ h in
     let e = empty_both (columns_findings codes r.line 1 t.columns (drop 1 r.fields)) (lines_findings t.role r.line (1 + length t.columns) t.lines r.strokes) c.1 in
     record {
+      counted = c.0;
       points = points codes r.line 1 t.columns (drop 1 r.fields) (words_left (widths t.columns) r.fields (same_count (length r.fields) (1 + widths t.columns) c.0)) e.0;
       lines = lines_in t.role r.line (1 + length t.columns) t.lines r.strokes e.1;
     }

@@ -1,13 +1,14 @@
 -- The places of a transfer in which no value is at fault.
-use Rattle.std.specs.Prelude.{◌≡◌, ◌⊎◌, ◌≤ℤ◌, Bool, true, false, ◌&&◌, ⊤, ℕ, List, [], ◌∷◌, take, drop}
+use Rattle.std.specs.Prelude.{◌≡◌, ◌⊎◌, ◌≤ℤ◌, Bool, true, false, ◌&&◌, ⊤, ℕ, List, [], ◌∷◌, take, drop, None}
 use Rattle.std.specs.List.{list_all}
 use Rattle.ili_grammar.specs.Syntax.{Codes}
 use Rattle.resolver.specs.Resolved as model
 use Rattle.resolver.specs.Resolved.{Form, LineForm, Window}
 use Rattle.table_layout.specs.Layouts.{Column, Table}
-use Rattle.field_values.specs.Fields.{is_undefined, width}
+use Rattle.field_values.specs.Fields.{is_undefined, vertex_fault, width}
 use Rattle.field_values.specs.Places.{Place, place_named, is_same_place, are_collinear, is_between}
 use Rattle.itf_reader.specs.Forms.{Vertex, Row}
+use Rattle.itf_reader.specs.RowFindings.{is_counted}
 use Rattle.itf_reader.specs.StrokeFindings.{Seen, is_on_arc, place_of, all_seen}
 
 -- a place lies in its window
@@ -28,9 +29,14 @@ HavePoints codes [] words = ⊤
 HavePoints codes (c ∷ cs) words = HasPoint codes c.optional c.form (take (width c.form) words) × HavePoints codes cs (drop (width c.form) words)
 
 -- ---- the lines of objects
-abbrev pub AreInside : LineForm → List Vertex → Type 0
-AreInside l [] = ⊤
-AreInside l (v ∷ vs) = IsInside l.window (place_of l v) × AreInside l vs
+-- the fields of a vertex break no rule, and its place lies in the window of its line
+pub record IsSoundVertex (l : LineForm) (v : Vertex) : Type 0 where
+  pub sound : vertex_fault l v.fields ≡ None
+  pub inside : IsInside l.window (place_of l v)
+
+abbrev pub AreSoundVertices : LineForm → List Vertex → Type 0
+AreSoundVertices l [] = ⊤
+AreSoundVertices l (v ∷ vs) = IsSoundVertex l v × AreSoundVertices l vs
 
 -- the ends of an arc are two places, and where all three lie on one straight, the middle one lies between the ends or on one of them
 pub record IsArc (s m e : Place) : Type 0 where
@@ -47,10 +53,12 @@ AreArcs (s ∷ m ∷ e ∷ vs) = (is_on_arc m.kind ≡ true → IsArc s.at m.at 
 abbrev pub AreLines : List LineForm → List (List Vertex) → Type 0
 AreLines [] ss = ⊤
 AreLines (l ∷ ls) [] = ⊤
-AreLines (l ∷ ls) (s ∷ ss) = (AreInside l s × AreArcs (all_seen l s)) × AreLines ls ss
+AreLines (l ∷ ls) (s ∷ ss) = (AreSoundVertices l s × AreArcs (all_seen l s)) × AreLines ls ss
 
 -- ---- rows
+-- a row has the words of its columns, and its points and lines are sound
 pub record HasPlaces (codes : Codes) (t : Table) (r : Row) : Type 0 where
+  pub counted : is_counted t r ≡ true
   pub points : HavePoints codes t.columns (drop 1 r.fields)
   pub lines : AreLines t.lines r.strokes
 
