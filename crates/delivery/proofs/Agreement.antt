@@ -10,17 +10,18 @@ use Rattle.table_layout.specs.Layouts.{AreaOf, Layout}
 use Rattle.delivery.specs.declared.files.File.{File}
 use Rattle.delivery.specs.declared.status.Status.{Status}
 use Rattle.delivery.specs.declared.status.Status.TheVariants.{ReadFault, WriteFault}
-use Rattle.delivery.specs.Answers.{AgreeLines, AgreeFilings, Agree, Answers, IsStopped, IsAnswer}
+use Rattle.delivery.specs.Answers.{same, AgreeLines, AgreeFilings, Agree, Answers, IsStopped, IsAnswer}
 use Rattle.delivery.specs.AreaLimits.{has_too_large}
 use Rattle.delivery.specs.Commands.{Command, Source, compile, check, limit_of, model_of, further_files}
 use Rattle.delivery.specs.Deciding.{Decides, formless, formed}
 use Rattle.delivery.specs.Gathering as gathering
 use Rattle.delivery.specs.Gathering.{Gathered, Reads, ReadsAll, Compiles, Gathers}
-use Rattle.delivery.specs.Judging.{lines_of, IsRowsChecked, faulty, oversized, left, clean, IsChecked, at_fault, well_formed, Amounts}
+use Rattle.delivery.specs.Judging.{lines_of, AreJudged, IsRowsChecked, faulty, oversized, drawn, clean, IsChecked, at_fault, well_formed, Amounts}
 use Rattle.delivery.specs.Lines.{Line}
 use Rattle.delivery.specs.ModelTexts.{Refusal, IsRefused, HasLayout}
-use Rattle.delivery.specs.Outcomes.{Filing, Outcome, misbuilt, report_of}
+use Rattle.delivery.specs.Outcomes.{Filing, Outcome, misbuilt, areas_told, report_of}
 use Rattle.delivery.specs.Reading.{IsWhole, IsLonger}
+use Rattle.delivery.proofs.AreaLemmas.{areas_agree}
 use Rattle.delivery.proofs.Causes.{by_write}
 use Rattle.delivery.proofs.CommandLemmas.{one_command}
 use Rattle.delivery.proofs.ModelTextLemmas.{one_layout, one_refusal, not_refused}
@@ -28,7 +29,7 @@ use Rattle.delivery.proofs.ModelTextLemmas.{one_layout, one_refusal, not_refused
 -- ---- an outcome agrees with itself
 same_lines : (ls : List Line) → AgreeLines ls ls
 same_lines [] = tt
-same_lines (l ∷ ls) = (refl, same_lines ls)
+same_lines (l ∷ ls) = (same refl, same_lines ls)
 
 same_filings : (f : Option Filing) → AgreeFilings f f
 same_filings None = tt
@@ -120,7 +121,7 @@ module _ (files : Files) (far near : List ℕ → Type 0) where
       same_read (model_of c) g h (λ text. Compiles (Some files) far c text g) (λ text. Compiles (Some files) near c text h)
       (λ text p q. same_compiled c text g h p q) r k
 
--- ---- what is read has one outcome
+-- ---- outcomes of what is read agree
 differ : true ≡ false → ⊥
 differ e = cc
 
@@ -129,42 +130,51 @@ none_too_large : (rows : List (List Row)) (as_ : List AreaOf) → as_ ≡ [] →
 none_too_large rows [] e h = differ (sym h)
 none_too_large rows (a ∷ as_) e h = let k : a ∷ as_ ≡ [] = e in cc
 
-same_rows : (name : List ℕ) (l : Layout) (rows : List (List Row)) (o p : Outcome) → IsRowsChecked name l rows o → IsRowsChecked name l rows p → o ≡ p
-same_rows name l rows o p (faulty n e) (faulty m f) = e ∙ sym f
-same_rows name l rows o p (faulty n e) (oversized k b f) = absurd (n k)
-same_rows name l rows o p (faulty n e) (left k b a f) = absurd (n k)
-same_rows name l rows o p (faulty n e) (clean k a f) = absurd (n k)
-same_rows name l rows o p (oversized k b e) (faulty m f) = absurd (m k)
-same_rows name l rows o p (oversized k b e) (oversized m d f) = e ∙ sym f
-same_rows name l rows o p (oversized k b e) (left m d a f) = absurd (differ (sym b ∙ d))
-same_rows name l rows o p (oversized k b e) (clean m a f) = absurd (none_too_large rows l.areas a b)
-same_rows name l rows o p (left k b a e) (faulty m f) = absurd (m k)
-same_rows name l rows o p (left k b a e) (oversized m d f) = absurd (differ (sym d ∙ b))
-same_rows name l rows o p (left k b a e) (left m d c f) = e ∙ sym f
-same_rows name l rows o p (left k b a e) (clean m c f) = absurd (a c)
-same_rows name l rows o p (clean k a e) (faulty m f) = absurd (m k)
-same_rows name l rows o p (clean k a e) (oversized m d f) = absurd (none_too_large rows l.areas a d)
-same_rows name l rows o p (clean k a e) (left m d b f) = absurd (b a)
-same_rows name l rows o p (clean k a e) (clean m b f) = e ∙ sym f
+agree_both : (o p q : Outcome) → o ≡ q → p ≡ q → Agree o p
+agree_both o p q e f = agree_same o p (e ∙ sym f)
 
-same_text : (name : List ℕ) (l : Layout) (text : List ℕ) (o p : Outcome) → IsChecked name l text o → IsChecked name l text p → o ≡ p
-same_text name l text o p (at_fault n c h e) (at_fault m d k f) =
+agree_areas : (l : Layout) (rows : List (List Row)) (o p : Outcome) → AreJudged l rows o → AreJudged l rows p → Agree o p
+agree_areas l rows o p j k =
+    subst (λ (x : Outcome). Agree x p) (sym j.told)
+    (subst (Agree (areas_told l j.answers)) (sym k.told)
+    (areas_agree l rows j.drawings k.drawings j.answers k.answers j.drawn j.answered k.drawn k.answered))
+
+agree_rows : (name : List ℕ) (l : Layout) (rows : List (List Row)) (o p : Outcome) → IsRowsChecked name l rows o → IsRowsChecked name l rows p → Agree o p
+agree_rows name l rows o p (faulty n e) (faulty m f) = agree_both o p _ e f
+agree_rows name l rows o p (faulty n e) (oversized k b f) = absurd (n k)
+agree_rows name l rows o p (faulty n e) (drawn k b a j) = absurd (n k)
+agree_rows name l rows o p (faulty n e) (clean k a f) = absurd (n k)
+agree_rows name l rows o p (oversized k b e) (faulty m f) = absurd (m k)
+agree_rows name l rows o p (oversized k b e) (oversized m d f) = agree_both o p _ e f
+agree_rows name l rows o p (oversized k b e) (drawn m d a j) = absurd (differ (sym b ∙ d))
+agree_rows name l rows o p (oversized k b e) (clean m a f) = absurd (none_too_large rows l.areas a b)
+agree_rows name l rows o p (drawn k b a i) (faulty m f) = absurd (m k)
+agree_rows name l rows o p (drawn k b a i) (oversized m d f) = absurd (differ (sym d ∙ b))
+agree_rows name l rows o p (drawn k b a i) (drawn m d c j) = agree_areas l rows o p i j
+agree_rows name l rows o p (drawn k b a i) (clean m c f) = absurd (a c)
+agree_rows name l rows o p (clean k a e) (faulty m f) = absurd (m k)
+agree_rows name l rows o p (clean k a e) (oversized m d f) = absurd (none_too_large rows l.areas a d)
+agree_rows name l rows o p (clean k a e) (drawn m d b j) = absurd (b a)
+agree_rows name l rows o p (clean k a e) (clean m b f) = agree_both o p _ e f
+
+agree_text : (name : List ℕ) (l : Layout) (text : List ℕ) (o p : Outcome) → IsChecked name l text o → IsChecked name l text p → Agree o p
+agree_text name l text o p (at_fault n c h e) (at_fault m d k f) =
     let q = one_fault (form_of l) (lines_of l text) n m c d h k in
-    e ∙ ap (λ (x : ℕ). misbuilt x c) q.0 ∙ ap (misbuilt m) q.1 ∙ sym f
-same_text name l text o p (at_fault n c h e) (well_formed t k f) = absurd (never_both (form_of l) (lines_of l text) t n c k h)
-same_text name l text o p (well_formed t h e) (at_fault m d k f) = absurd (never_both (form_of l) (lines_of l text) t m d h k)
-same_text name l text o p (well_formed t h e) (well_formed u k f) =
+    agree_same o p (e ∙ ap (λ (x : ℕ). misbuilt x c) q.0 ∙ ap (misbuilt m) q.1 ∙ sym f)
+agree_text name l text o p (at_fault n c h e) (well_formed t k f) = absurd (never_both (form_of l) (lines_of l text) t n c k h)
+agree_text name l text o p (well_formed t h e) (at_fault m d k f) = absurd (never_both (form_of l) (lines_of l text) t m d h k)
+agree_text name l text o p (well_formed t h e) (well_formed u k f) =
     let q = one_transfer (form_of l) (lines_of l text).lines t u h.1 k.1 in
-    same_rows name l u o p (subst (λ (x : List (List Row)). IsRowsChecked name l x o) q e) f
+    agree_rows name l u o p (subst (λ (x : List (List Row)). IsRowsChecked name l x o) q e) f
 
-same_amount : (c : Command) (g : Gathered) (o p : Outcome) → Amounts c g o → Amounts c g p → o ≡ p
-same_amount c (gathering.unread f) o p h k = h ∙ sym k
-same_amount c (gathering.too_long f) o p h k = h ∙ sym k
-same_amount c (gathering.refused r) o p h k = h ∙ sym k
-same_amount (compile m) (gathering.texts l ts) o p h k = h ∙ sym k
-same_amount (check c) (gathering.texts l []) o p h k = absurd h
-same_amount (check c) (gathering.texts l (text ∷ [])) o p h k = same_text c.certificate l text o p h k
-same_amount (check c) (gathering.texts l (t ∷ u ∷ ts)) o p h k = absurd h
+agree_amount : (c : Command) (g : Gathered) (o p : Outcome) → Amounts c g o → Amounts c g p → Agree o p
+agree_amount c (gathering.unread f) o p h k = agree_both o p _ h k
+agree_amount c (gathering.too_long f) o p h k = agree_both o p _ h k
+agree_amount c (gathering.refused r) o p h k = agree_both o p _ h k
+agree_amount (compile m) (gathering.texts l ts) o p h k = agree_both o p _ h k
+agree_amount (check c) (gathering.texts l []) o p h k = absurd h
+agree_amount (check c) (gathering.texts l (text ∷ [])) o p h k = agree_text c.certificate l text o p h k
+agree_amount (check c) (gathering.texts l (t ∷ u ∷ ts)) o p h k = absurd h
 
 unread_status : (c : Command) (g : Gathered) (o : Outcome) → IsUnread g → Amounts c g o → o.status ≡ ReadFault
 unread_status c (gathering.unread f) o u e = ap (λ (x : Outcome). x.status) e
@@ -181,7 +191,7 @@ files_agree c g h o p s a b = elim s as (λ z. AgreeUnlessUnread o p) [
   | inl u ↦ inl (unread_status c g o u a)
   | inr n ↦ elim n as (λ z. AgreeUnlessUnread o p) [
     | inl u ↦ inr (inl (unread_status c h p u b))
-    | inr e ↦ inr (inr (agree_same o p (same_amount c h o p (subst (λ (x : Gathered). Amounts c x o) e a) b)))
+    | inr e ↦ inr (inr (agree_amount c h o p (subst (λ (x : Gathered). Amounts c x o) e a) b))
   ]
 ]
 

@@ -1,6 +1,6 @@
 -- What the outcome of the words and the files says of the answer.
-use Rattle.std.proofs.Common.{◌≡◌, ℕ, List, [], ◌∷◌, Option, refl, sym, ◌∙◌, subst, inl, inr}
-use Rattle.std.specs.Prelude.{◌≢◌, ⊤}
+use Rattle.std.proofs.Common.{◌≡◌, ℕ, Bool, true, false, List, [], ◌∷◌, ◌++◌, Option, refl, sym, ◌∙◌, subst, inl, inr}
+use Rattle.std.specs.Prelude.{◌≢◌, ⊤, if◌then◌else◌}
 use Rattle.ports.specs.Files.{Files}
 use Rattle.itf_reader.specs.Forms.{Row}
 use Rattle.table_layout.specs.Layouts.{Layout}
@@ -11,8 +11,13 @@ use Rattle.delivery.specs.Commands.{Check, Command, compile, check, IsCheck, IsC
 use Rattle.delivery.specs.Deciding.{Decides, formless, formed}
 use Rattle.delivery.specs.Gathering as gathering
 use Rattle.delivery.specs.Gathering.{Gathered, Gathers}
-use Rattle.delivery.specs.Judging.{findings, objects, Tells, IsRowsChecked, faulty, oversized, left, clean, IsChecked, at_fault, well_formed, Amounts}
-use Rattle.delivery.specs.Outcomes.{Outcome, usage, unread, too_long, area_too_large, refused, compiled, misbuilt, rejected, areas_later, accepted}
+use Rattle.delivery.specs.Judging.{findings, objects, Tells, IsClean, AreJudged, IsRowsChecked, faulty, oversized, drawn, clean, IsChecked, at_fault, well_formed, Amounts}
+use Rattle.delivery.specs.AreaAnswers.{has_fault}
+use Rattle.delivery.specs.AreaLimits.{has_too_large}
+use Rattle.delivery.specs.Lines as lines
+use Rattle.delivery.specs.Outcomes.{Outcome, reported, usage, unread, too_long, area_too_large, refused, compiled, misbuilt, rejected, area_lines, areas_told, accepted}
+use Rattle.delivery.specs.declared.report.lines.Verdict.TheVariants as verdict
+use Rattle.delivery.proofs.AreaLemmas.{faulty_area, left_areas}
 
 -- ---- the causes
 module _ (told : Option Files) (counted : List ℕ → Type 0) (words : List (List ℕ)) where
@@ -21,10 +26,19 @@ module _ (told : Option Files) (counted : List ℕ → Type 0) (words : List (Li
   moved o p e h = subst (λ (x : Outcome). Means told counted words x.status) (sym e) h
 
   module _ (c : Check) (i : IsCheck words c) (l : Layout) (text : List ℕ) (g : Gathers told counted (check c) (gathering.texts l (text ∷ []))) where
+    -- the status of the answers to areas
+    areas_mean : (rows : List (List Row)) → Tells l text rows → IsClean l rows → has_too_large rows l.areas ≡ false → l.areas ≢ [] → (o : Outcome) → AreJudged l rows o → Means told counted words o.status
+    areas_mean rows t k b a o j = moved o (areas_told l j.answers) j.told (by (has_fault j.answers) refl)
+      where
+        by : (f : Bool) → has_fault j.answers ≡ f
+            → Means told counted words (if f then reported Rejected (area_lines l l.areas j.answers ++ (lines.verdict verdict.Rejected ∷ [])) else reported Undecided (area_lines l l.areas j.answers ++ (lines.verdict verdict.Undecided ∷ []))).status
+        by true f = (check c, l, text ∷ [], i, g, inr (rows, t, inr (k, b, faulty_area l rows j.drawings j.answers j.drawn j.answered f)))
+        by false f = (check c, l, text ∷ [], i, g, (rows, t, (k, b, a, left_areas l rows j.drawings j.answers j.drawn j.answered f)))
+
     rows_mean : (rows : List (List Row)) → Tells l text rows → (o : Outcome) → IsRowsChecked c.certificate l rows o → Means told counted words o.status
-    rows_mean rows t o (faulty n e) = moved o (rejected (findings l rows)) e (check c, l, text ∷ [], i, g, inr (rows, t, n))
+    rows_mean rows t o (faulty n e) = moved o (rejected (findings l rows)) e (check c, l, text ∷ [], i, g, inr (rows, t, inl n))
     rows_mean rows t o (oversized k b e) = moved o area_too_large e (inr (check c, l, text ∷ [], i, g, (rows, t, k, b)))
-    rows_mean rows t o (left k b a e) = moved o (areas_later l) e (check c, l, text ∷ [], i, g, (rows, t, k, b, a))
+    rows_mean rows t o (drawn k b a j) = areas_mean rows t k b a o j
     rows_mean rows t o (clean k a e) = moved o (accepted (objects rows) c.certificate []) e (check c, l, text ∷ [], i, g, (rows, t, k, a))
 
     check_means : (o : Outcome) → IsChecked c.certificate l text o → Means told counted words o.status
@@ -54,10 +68,17 @@ IsFixed _ = ⊤
 fixed_as : (o p : Outcome) → o ≡ p → IsFixed p.status → IsFixed o.status
 fixed_as o p e h = subst (λ (x : Outcome). IsFixed x.status) (sym e) h
 
+areas_fixed : (l : Layout) (rows : List (List Row)) (o : Outcome) → AreJudged l rows o → IsFixed o.status
+areas_fixed l rows o j = fixed_as o (areas_told l j.answers) j.told (by (has_fault j.answers))
+  where
+    by : (f : Bool) → IsFixed (if f then reported Rejected (area_lines l l.areas j.answers ++ (lines.verdict verdict.Rejected ∷ [])) else reported Undecided (area_lines l l.areas j.answers ++ (lines.verdict verdict.Undecided ∷ []))).status
+    by true = tt
+    by false = tt
+
 rows_fixed : (name : List ℕ) (l : Layout) (rows : List (List Row)) (o : Outcome) → IsRowsChecked name l rows o → IsFixed o.status
 rows_fixed name l rows o (faulty n e) = fixed_as o (rejected (findings l rows)) e tt
 rows_fixed name l rows o (oversized k b e) = fixed_as o area_too_large e tt
-rows_fixed name l rows o (left k b a e) = fixed_as o (areas_later l) e tt
+rows_fixed name l rows o (drawn k b a j) = areas_fixed l rows o j
 rows_fixed name l rows o (clean k a e) = fixed_as o (accepted (objects rows) name []) e tt
 
 check_fixed : (name : List ℕ) (l : Layout) (text : List ℕ) (o : Outcome) → IsChecked name l text o → IsFixed o.status

@@ -1,8 +1,13 @@
 pub mod Agreement
+pub mod AreaLemmas
+pub mod AreaLines
 pub mod Causes
 pub mod CommandLemmas
+pub mod CurveLemmas
+pub mod Drawables
 pub mod ModelTextLemmas
 pub mod Pieces
+pub mod PointLemmas
 pub mod PutLemmas
 pub mod ReportLemmas
 pub mod Steps

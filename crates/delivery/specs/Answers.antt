@@ -7,10 +7,12 @@ use Rattle.delivery.specs.Commands.{Command, IsCommand, IsUsage}
 use Rattle.delivery.specs.Deciding.{Decides}
 use Rattle.delivery.specs.Gathering.{Gathered, unread, too_long, refused, texts, Gathers}
 use Rattle.delivery.specs.Judging.{Accepts, Rejects, LeavesAreas, IsOversized}
+use Rattle.delivery.specs.Lines as lines
 use Rattle.delivery.specs.Lines.{Line}
 use Rattle.delivery.specs.ModelTexts.{Refusal}
 use Rattle.delivery.specs.Outcomes.{Filing, Outcome, report_of}
 use Rattle.delivery.specs.declared.files.File.{File}
+use Rattle.delivery.specs.declared.report.lines.AreaAnswer.TheVariants.{Meeting}
 use Rattle.delivery.specs.declared.status.Status.{Status}
 use Rattle.delivery.specs.declared.status.Status.TheVariants.{Accepted, Rejected, Undecided, ModelRefused, Usage, ReadFault, WriteFault, OverLimit, Memory, NotProved}
 
@@ -24,8 +26,8 @@ Passes told counted words test = (c : Command) × (l : Layout) × (ts : List (Li
 
 -- The cause of each answer.
 -- Accepted: the model has no fault; for `check`, it has no AREA, and every object meets the declarations of its table.
--- Rejected: a line of the transfer is at fault, or the objects have findings.
--- Undecided: every object meets the declarations of its table, and the model has an AREA; none is over its limit.
+-- Rejected: a line of the transfer is at fault, or the objects have findings; or they have none, and in the drawing of an AREA two curves meet badly, so that it is no partition.
+-- Undecided: every object meets the declarations of its table, and the model has an AREA; none is over its limit, and the drawing of each has a half arc, or straights alone of which no two meet badly.
 -- ModelRefused: the model has this first fault of its tokens, of its grammar, or of its names and types.
 -- Usage: the words are no command. ReadFault: a fault was counted for a file that was to be read. OverLimit: a file is longer than its limit, or every object meets the declarations of its table and an area is over its limit.
 -- The cause of WriteFault is a clause of its own; Memory has none, and NotProved does not come.
@@ -42,9 +44,14 @@ Means told counted words Memory = ⊤
 Means told counted words NotProved = ⊥
 
 -- ---- outcomes that agree
--- two lines in one place of two reports on the same words and files: no line leaves a choice so far
-abbrev pub Matches : Line → Line → Type 0
-Matches x y = x ≡ y
+-- a line that names a meeting of an area
+abbrev pub meeting_line : List ℕ → List ℕ → List ℕ → ℕ → ℕ → Line
+meeting_line topic table attribute i j = lines.area (record { topic = topic; table = table; attribute = attribute; answer = Meeting i j })
+
+-- two lines in one place of two reports on the same words and files: the same, or each names a meeting of the same area, and any may be named
+pub data Matches (x y : Line) : Type 0 where
+  same : x ≡ y → Matches x y
+  meetings : (topic table attribute : List ℕ) (i j k m : ℕ) → x ≡ meeting_line topic table attribute i j → y ≡ meeting_line topic table attribute k m → Matches x y
 
 abbrev pub AgreeLines : List Line → List Line → Type 0
 AgreeLines [] [] = ⊤
@@ -59,7 +66,7 @@ AgreeFilings (Some f) (Some g) = f.name ≡ g.name
 AgreeFilings None (Some g) = ⊥
 AgreeFilings (Some f) None = ⊥
 
--- the same answer, and the same lines as far as they leave no choice
+-- the same answer, and the same lines but for the meetings that they name
 pub record Agree (o p : Outcome) : Type 0 where
   pub status : o.status ≡ p.status
   pub lines : AgreeLines o.lines p.lines

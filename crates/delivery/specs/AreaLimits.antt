@@ -1,5 +1,5 @@
 -- How large an area may be.
-use Rattle.std.specs.Prelude.{ℕ, ◌+◌, Bool, nat_lt, ◌||◌, List, [], ◌∷◌, length, slice_index_or}
+use Rattle.std.specs.Prelude.{◌≡◌, ℕ, ◌+◌, Bool, false, nat_lt, ◌||◌, List, [], ◌∷◌, length, Some, slice_get, slice_index_or}
 use Rattle.std.specs.List.{list_any}
 use Rattle.itf_reader.specs.Forms.{Vertex, Row}
 use Rattle.table_layout.specs.Layouts.{AreaOf}
@@ -20,6 +20,10 @@ vertex_count (r ∷ rs) = vertices_in r.strokes + vertex_count rs
 -- the table of an area's lines, or its main table, has more than the limit
 abbrev pub is_too_large : List (List Row) → AreaOf → Bool
 is_too_large rows a = nat_lt area_limit (vertex_count (slice_index_or rows a.lines [])) || nat_lt area_limit (length (slice_index_or rows a.main []))
+
+-- the area of that number is within the limits
+abbrev pub IsWithinLimits : List (List Row) → List AreaOf → ℕ → Type 0
+IsWithinLimits rows as_ k = (a : AreaOf) → slice_get as_ k ≡ Some a → is_too_large rows a ≡ false
 
 -- some area is too large
 abbrev pub has_too_large : List (List Row) → List AreaOf → Bool

@@ -8,11 +8,14 @@ use Rattle.itf_reader.specs.Readings.{Structure, IsRead, IsRefused as IsAtFault}
 use Rattle.table_layout.specs.Layouts.{Layout}
 use Rattle.domain_rules.specs.ValueFindings.{value_findings}
 use Rattle.ident_refs.specs.KeyFindings.{key_findings}
+use Rattle.plane.specs.Rule.Plans.{Plan}
+use Rattle.delivery.specs.AreaAnswers.{AreDrawings, AreAnswers, HasFaultyArea, AreLeftAreas}
 use Rattle.delivery.specs.AreaLimits.{has_too_large}
 use Rattle.delivery.specs.Commands.{Command, compile, check}
 use Rattle.delivery.specs.Gathering as gathering
 use Rattle.delivery.specs.Gathering.{Gathered}
-use Rattle.delivery.specs.Outcomes.{Outcome, unread, too_long, area_too_large, refused, compiled, misbuilt, rejected, areas_later, accepted}
+use Rattle.delivery.specs.Outcomes.{Outcome, unread, too_long, area_too_large, refused, compiled, misbuilt, rejected, areas_told, accepted}
+use Rattle.delivery.specs.declared.report.lines.AreaAnswer.{AreaAnswer}
 
 -- the logical lines of a transfer, by the codes of its layout
 abbrev pub lines_of : Layout → List ℕ → LogicalLines
@@ -40,14 +43,22 @@ Tells l text rows = IsRead (form_of l) (lines_of l text) rows
 abbrev pub IsClean : Layout → List (List Row) → Type 0
 IsClean l rows = findings l rows ≡ []
 
+-- the areas of rows are drawn, and the outcome tells the answers to their drawings
+pub record AreJudged (l : Layout) (rows : List (List Row)) (o : Outcome) : Type 0 where
+  pub drawings : List Plan
+  pub answers : List AreaAnswer
+  pub drawn : AreDrawings l rows drawings
+  pub answered : AreAnswers drawings answers
+  pub told : o ≡ areas_told l answers
+
 -- the outcome of rows, whose certificates go to the file of that name
 pub data IsRowsChecked (name : List ℕ) (l : Layout) (rows : List (List Row)) (o : Outcome) : Type 0 where
   -- they break a rule
   faulty : findings l rows ≢ [] → o ≡ rejected (findings l rows) → IsRowsChecked name l rows o
   -- they meet the declarations, and an area is over its limit
   oversized : IsClean l rows → has_too_large rows l.areas ≡ true → o ≡ area_too_large → IsRowsChecked name l rows o
-  -- they meet the declarations, the model has an AREA, and none is over its limit
-  left : IsClean l rows → has_too_large rows l.areas ≡ false → l.areas ≢ [] → o ≡ areas_later l → IsRowsChecked name l rows o
+  -- they meet the declarations, the model has an AREA, and none is over its limit: they are judged
+  drawn : IsClean l rows → has_too_large rows l.areas ≡ false → l.areas ≢ [] → AreJudged l rows o → IsRowsChecked name l rows o
   -- they meet the declarations, and the model has no AREA
   clean : IsClean l rows → l.areas ≡ [] → o ≡ accepted (objects rows) name [] → IsRowsChecked name l rows o
 
@@ -72,16 +83,23 @@ Accepts (compile model) l ts = ⊤
 Accepts (check c) l (text ∷ []) = (rows : List (List Row)) × Tells l text rows × IsClean l rows × (l.areas ≡ [])
 Accepts (check c) l ts = ⊥
 
--- a line of the transfer is at fault, or the rows have findings
+-- the rows have findings; or they have none, no AREA is over its limit, and in the drawing of one of them two curves meet badly
+abbrev pub AreRejected : Layout → List (List Row) → Type 0
+AreRejected l rows = (findings l rows ≢ []) ⊎ (IsClean l rows × (has_too_large rows l.areas ≡ false) × HasFaultyArea l rows)
+
+-- a line of the transfer is at fault, or its rows are
 abbrev pub Rejects : Command → Layout → List (List ℕ) → Type 0
 Rejects (compile model) l ts = ⊥
-Rejects (check c) l (text ∷ []) = ((n : ℕ) × (code : Structure) × IsMisbuilt l text n code) ⊎ ((rows : List (List Row)) × Tells l text rows × (findings l rows ≢ []))
+Rejects (check c) l (text ∷ []) = ((n : ℕ) × (code : Structure) × IsMisbuilt l text n code) ⊎ ((rows : List (List Row)) × Tells l text rows × AreRejected l rows)
 Rejects (check c) l ts = ⊥
 
--- the rows meet the declarations, the model has an AREA, and none is over its limit
+-- the rows meet the declarations, the model has an AREA, none is over its limit, and each drawing has a half arc, or straights alone of which no two meet badly
+abbrev pub AreLeft : Layout → List (List Row) → Type 0
+AreLeft l rows = IsClean l rows × (has_too_large rows l.areas ≡ false) × (l.areas ≢ []) × AreLeftAreas l rows
+
 abbrev pub LeavesAreas : Command → Layout → List (List ℕ) → Type 0
 LeavesAreas (compile model) l ts = ⊥
-LeavesAreas (check c) l (text ∷ []) = (rows : List (List Row)) × Tells l text rows × IsClean l rows × (has_too_large rows l.areas ≡ false) × (l.areas ≢ [])
+LeavesAreas (check c) l (text ∷ []) = (rows : List (List Row)) × Tells l text rows × AreLeft l rows
 LeavesAreas (check c) l ts = ⊥
 
 -- the rows meet the declarations, and an area is over its limit

@@ -1,9 +1,12 @@
 pub mod Answers
+pub mod AreaAnswers
 pub mod AreaLimits
 pub mod Codes
 pub mod Commands
 pub mod CommandViews
 pub mod Deciding
+pub mod Drawable
+pub mod Drawings
 pub mod Effects
 pub mod Ending
 pub mod FileRefusals

@@ -79,8 +79,14 @@ other_text (AWord w) = codes " " ++ w
 abbrev pub finding_words : Finding → List ℕ
 finding_words f = codes "FINDING " ++ decimal f.line ++ codes " " ++ code_text f.code ++ codes " " ++ decimal f.column ++ other_text f.other
 
+-- two lines of the transfer
+abbrev pub pair_text : ℕ → ℕ → List ℕ
+pair_text first second = decimal first ++ codes " " ++ decimal second
+
+-- a pair of curves is told by their lines
 abbrev pub area_text : AreaAnswer → List ℕ
 area_text answer.Later = codes "LATER"
+area_text (answer.Meeting first second) = codes "MEETING " ++ pair_text first second
 
 abbrev pub area_words : AreaLine → List ℕ
 area_words a = codes "AREA " ++ a.topic ++ codes " " ++ a.table ++ codes " " ++ a.attribute ++ codes " " ++ area_text a.answer

@@ -1,15 +1,16 @@
 -- Outcomes: what a call answers, reports and writes.
-use Rattle.std.specs.Prelude.{ℕ, List, [], ◌∷◌, ◌++◌, map, length, Option, Some, None, slice_get, slice_index_or}
+use Rattle.std.specs.Prelude.{ℕ, if◌then◌else◌, List, [], ◌∷◌, ◌++◌, map, length, Option, Some, None, slice_get, slice_index_or}
 use Rattle.std.specs.List.{flat_map}
 use Rattle.certificate.specs.Spelling.{Plain}
 use Rattle.itf_reader.specs.Findings.{Finding}
 use Rattle.itf_reader.specs.Readings.{Structure}
 use Rattle.table_layout.specs.Layouts.{Table, AreaOf, Layout}
+use Rattle.delivery.specs.AreaAnswers.{has_fault}
 use Rattle.delivery.specs.Lines as lines
 use Rattle.delivery.specs.Lines.{TableLine, AreaLine, Line, line_text}
 use Rattle.delivery.specs.ModelTexts.{Refusal}
 use Rattle.delivery.specs.declared.files.File.{File}
-use Rattle.delivery.specs.declared.report.lines.AreaAnswer.TheVariants as answer
+use Rattle.delivery.specs.declared.report.lines.AreaAnswer.{AreaAnswer}
 use Rattle.delivery.specs.declared.report.lines.Verdict.TheVariants as verdict
 use Rattle.delivery.specs.declared.status.Status.{Status}
 use Rattle.delivery.specs.declared.status.Status.TheVariants as status
@@ -79,13 +80,20 @@ abbrev pub name_at : Option Table → List ℕ
 name_at (Some t) = t.name
 name_at None = []
 
--- an area of the layout, whose lines are not checked yet
-abbrev pub later_line : Layout → AreaOf → Line
-later_line l a = lines.area (record { topic = topic_at l (slice_get l.tables a.main); table = name_at (slice_get l.tables a.main); attribute = a.name; answer = answer.Later })
+-- an area of the layout, and the answer to it
+abbrev pub area_line : Layout → AreaOf → AreaAnswer → Line
+area_line l a x = lines.area (record { topic = topic_at l (slice_get l.tables a.main); table = name_at (slice_get l.tables a.main); attribute = a.name; answer = x })
 
--- the transfer has no finding, and the areas of the layout are not checked yet
-abbrev pub areas_later : Layout → Outcome
-areas_later l = reported status.Undecided (map (later_line l) l.areas ++ (lines.verdict verdict.Undecided ∷ []))
+abbrev pub area_lines : Layout → List AreaOf → List AreaAnswer → List Line
+area_lines l [] xs = []
+area_lines l (a ∷ as_) [] = []
+area_lines l (a ∷ as_) (x ∷ xs) = area_line l a x ∷ area_lines l as_ xs
+
+-- the transfer has no finding, and these are the answers to the areas of the layout: one at fault rejects it
+abbrev pub areas_told : Layout → List AreaAnswer → Outcome
+areas_told l xs =
+    if has_fault xs then reported status.Rejected (area_lines l l.areas xs ++ (lines.verdict verdict.Rejected ∷ []))
+    else reported status.Undecided (area_lines l l.areas xs ++ (lines.verdict verdict.Undecided ∷ []))
 
 -- so many objects without a finding: the certificates go to the file of that name
 abbrev pub accepted : ℕ → List ℕ → List Plain → Outcome

@@ -40,8 +40,8 @@ fn has_more_vertices(rows: &[Row]) -> bool
     false
 }
 
-// The rows of the table of that number, none where there is no such table.
-fn rows_at(tables: &[TableRows], id: TableId) -> &[Row]
+/// The rows of the table of that number, none where there is no such table.
+pub fn rows_at(tables: &[TableRows], id: TableId) -> &[Row]
     ensures { rows_of result.now ≡ slice_index_or (tables_seen tables.now) id.0 [] }
 {
     match tables.get(id.0 as usize) {

@@ -9,27 +9,37 @@
 //!   line, column and word. Every transfer is read by the layout of its model; where a line is
 //!   at fault, the first one is reported with its code. All values, identifications, IDENT lists
 //!   and references of a transfer are checked, and each finding is reported.
-//! - **What is decided.** A transfer of a model without AREA, whole. The areas of any other are
-//!   reported as left for later, once the transfer has no finding; an area of more than
-//!   16,000,000 vertices, or rows of its main table, is over its limit.
-//! - **What is not checked here:** how the lines of an area lie.
+//! - **What is decided.** A transfer of a model without AREA, whole. Once any other has no finding,
+//!   its areas are drawn. Where a drawing has straights alone, two of them that meet badly are
+//!   reported, and the transfer is rejected; an area of more than 16,000,000 vertices, or rows of
+//!   its main table, is over its limit. All else of an area is left for later.
+//! - **Drawings.** `drawing` turns the rows of an area into curves and points of the plane, each
+//!   with its line in the transfer. What makes a drawing a partition is said in `plane`; that two
+//!   curves meet badly is found by `meetings`.
+//! - **What is not checked here:** drawings with a half arc, and where points and faces lie.
 //! - **Degenerate cases:** an empty file is read as one; a model without a table and a transfer
 //!   without an object are decided; two words may name one file, since all reads come before the
-//!   first write.
+//!   first write. A vertex at the place before it draws nothing, an arc over three places of one
+//!   straight draws straights, and an area may have no line and no point.
 //!
 //! `deciding` fixes the outcome: a status, the lines of the report, and the certificates where
 //! there are any to write. `report` has the lines and their text, and `publishing` writes. An
-//! outcome has one constructor in `outcome`, a line of the report one variant in `report`.
+//! outcome has one constructor in `outcome`, a line of the report one variant in `report`, an
+//! answer to an area one arm in `area_answers`.
 //!
 //! Cost of `run`: time and memory in proportion to the files, but for the names of a model and
-//! the findings of a transfer, which take n log n. Of a model only its layout is held while the
-//! transfer is read. The text of a transfer, its lines and its rows are held together while the
-//! rows are read, and its text and its rows while they are checked.
+//! the findings of a transfer, which take n log n, and for what `meetings` takes to sweep the
+//! drawing of an area. Of a model only its layout is held while the transfer is read. The text of
+//! a transfer, its lines and its rows are held together while the rows are read, and its text and
+//! its rows while they are checked. All areas are drawn, with some 60 bytes for a curve, before
+//! the rows are let go; then the drawings are swept one after the other.
 #![tactic(auto)]
 
+mod area_answers;
 mod area_limits;
 mod command;
 mod deciding;
+mod drawings;
 mod files;
 mod findings;
 mod model;
@@ -42,6 +52,7 @@ mod status;
 mod top;
 mod word;
 
+pub use drawings::drawing;
 pub use files::File;
 pub use status::Status;
 pub use top::run;

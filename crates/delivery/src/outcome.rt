@@ -4,12 +4,13 @@ ghost use Rattle.certificate.specs.Spelling.{views};
 ghost use Rattle.itf_reader.specs.Findings.{findings_of};
 ghost use Rattle.itf_reader.specs.Refusals.{fault_of};
 ghost use Rattle.table_layout.specs.Values.{area_view, areas_view, layout_view, table_view, tables_view};
-ghost use Rattle.delivery.specs.Outcomes.{reported, usage, unread, too_long, area_too_large, refused, compiled, misbuilt, rejected, areas_later, accepted, later_line, table_line, topic_at, name_at};
+ghost use Rattle.delivery.specs.Outcomes.{reported, usage, unread, too_long, area_too_large, refused, compiled, misbuilt, rejected, areas_told, accepted, area_line, area_lines, table_line, topic_at, name_at};
 ghost use Rattle.delivery.specs.LineViews.{line_of, lines_of};
 ghost use Rattle.delivery.specs.OutcomeViews.{outcome_of, table_there};
 ghost use Rattle.delivery.specs.FileRefusals.{IsNotRead};
 ghost use Rattle.delivery.specs.RefusalViews.{refusal_of};
 
+use crate::area_answers::has_fault;
 use crate::files::{File, FileRefusal};
 use crate::refusals::Refusal;
 use crate::report::{AreaAnswer, AreaLine, Line, TableLine, Verdict};
@@ -182,37 +183,50 @@ fn title<'a>(layout: &'a Layout, table: Option<&'a Table>) -> (&'a [u8], &'a [u8
     }
 }
 
-// The line for an area that is not checked yet.
-fn later_line(alloc: Global, layout: &Layout, area: &AreaOf) -> Result<Line, Memory>
-    ensures { IfOk result (λ line. line_of line ≡ later_line (layout_view layout.now)
-        (area_view area.now)) }
+// The line for an area, and the answer to it.
+fn area_line(
+    alloc: Global,
+    layout: &Layout,
+    area: &AreaOf,
+    answer: AreaAnswer,
+) -> Result<Line, Memory>
+    ensures { IfOk result (λ line. line_of line ≡ area_line (layout_view layout.now)
+        (area_view area.now) answer) }
 {
     let (topic, table) = title(layout, table_at(&layout.tables, area.main));
     Ok(Line::Area(AreaLine {
         topic: Name::new(alloc, topic)?,
         table: Name::new(alloc, table)?,
         attribute: Name::new(alloc, area.name.bytes())?,
-        answer: AreaAnswer::Later,
+        answer,
     }))
 }
 
-// The lines for areas that are not checked yet.
-fn later_lines(alloc: Global, layout: &Layout) -> Result<Vec<Line>, Memory>
-    ensures { IfOk result (λ lines. lines_of lines.items ≡ map (later_line (layout_view layout.now))
-        (areas_view layout.now.areas.items)) }
+// The lines for areas, one for each answer.
+fn area_lines(alloc: Global, layout: &Layout, answers: &[AreaAnswer]) -> Result<Vec<Line>, Memory>
+    ensures { IfOk result (λ lines. lines_of lines.items ≡ area_lines (layout_view layout.now)
+        (areas_view layout.now.areas.items) answers.now) }
 {
     let mut lines = Vec::new(alloc);
-    for area in &layout.areas {
-        lines.push(later_line(alloc, layout, area)?)?;
+    for (area, answer) in layout.areas.iter().zip(answers) {
+        lines.push(area_line(alloc, layout, area, *answer)?)?;
     }
     Ok(lines)
 }
 
-/// The transfer has no finding, and the areas of the layout are not checked yet.
-pub fn areas_later<'a>(alloc: Global, layout: &Layout) -> Result<Outcome<'a>, Memory>
-    ensures { IfOk result (λ o. outcome_of o ≡ areas_later (layout_view layout.now)) }
+/// The transfer has no finding, and these are the answers to the areas of the layout.
+pub fn areas_told<'a>(
+    alloc: Global,
+    layout: &Layout,
+    answers: &[AreaAnswer],
+) -> Result<Outcome<'a>, Memory>
+    ensures { IfOk result (λ o. outcome_of o ≡ areas_told (layout_view layout.now) answers.now) }
 {
-    let mut lines = later_lines(alloc, layout)?;
+    let mut lines = area_lines(alloc, layout, answers)?;
+    if has_fault(answers) {
+        lines.push(Line::Verdict(Verdict::Rejected))?;
+        return Ok(reported(alloc, Status::Rejected, lines));
+    }
     lines.push(Line::Verdict(Verdict::Undecided))?;
     Ok(reported(alloc, Status::Undecided, lines))
 }

@@ -27,7 +27,7 @@ use Rattle.domain_rules.specs.CleanPlaces.{IsInside, HasPoint, HavePoints, IsSou
 use Rattle.domain_rules.specs.ValueFindings.{table_findings, tables_findings, value_findings}
 
 -- ---- lists that are empty
-empty_both : {X : Type 0} (xs ys : List X) → xs ++ ys ≡ [] → (xs ≡ []) × (ys ≡ [])
+pub empty_both : {X : Type 0} (xs ys : List X) → xs ++ ys ≡ [] → (xs ≡ []) × (ys ≡ [])
 empty_both [] ys h = (refl, h)
 empty_both (x ∷ xs) ys h = cc
 
@@ -39,7 +39,7 @@ put_in_some lt x (y ∷ ys) h = by (lt y x) h
     by true h = cc
     by false h = cc
 
-unsorted : (lt : Finding → Finding → Bool) (xs : List Finding) → sorted lt xs ≡ [] → xs ≡ []
+pub unsorted : (lt : Finding → Finding → Bool) (xs : List Finding) → sorted lt xs ≡ [] → xs ≡ []
 unsorted lt [] h = refl
 unsorted lt (x ∷ xs) h = put_in_some lt x (sorted lt xs) h
 

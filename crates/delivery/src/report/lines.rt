@@ -19,8 +19,10 @@ pub struct TableLine {
 /// What is found out about an area.
 #[derive(Clone, Copy, Debug, PartialEq, Eq)]
 pub enum AreaAnswer {
-    /// Its lines are not checked yet.
+    /// It is not decided yet.
     Later,
+    /// Two curves of its drawing, each by its line, meet elsewhere than in control points of both.
+    Meeting { first: u32, second: u32 },
 }
 
 /// An area, by its topic, its main table and its attribute, and the answer to it.

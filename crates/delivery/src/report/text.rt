@@ -4,7 +4,7 @@ ghost use Rattle.std.specs.List.{flat_map};
 ghost use Rattle.table_layout.specs.Values.{role_view};
 ghost use Rattle.itf_reader.specs.Findings.{finding_of, findings_of, other_of};
 ghost use Rattle.itf_reader.specs.Refusals.{fault_of};
-ghost use Rattle.delivery.specs.Lines.{finding as finding_line, file_text, place_text, role_text, other_text, finding_words, table_words, area_text, area_words, structure_words, refusal_words, verdict_text, words_of, line_text};
+ghost use Rattle.delivery.specs.Lines.{finding as finding_line, file_text, place_text, role_text, other_text, finding_words, table_words, area_text, pair_text, area_words, structure_words, refusal_words, verdict_text, words_of, line_text};
 ghost use Rattle.delivery.specs.LineViews.{findings_seen, line_of, lines_of, table_of, area_of};
 ghost use Rattle.delivery.specs.Outcomes.{report_of};
 ghost use Rattle.delivery.specs.OutcomeViews.{outcome_of};
@@ -38,14 +38,6 @@ fn role_text(role: Role) -> &'static [u8]
         Role::Main => b"MAIN",
         Role::AreaLines { .. } => b"AREA",
         Role::SurfaceLines { .. } => b"SURFACE",
-    }
-}
-
-fn area_text(answer: AreaAnswer) -> &'static [u8]
-    ensures { result.now ≡ area_text answer }
-{
-    match answer {
-        AreaAnswer::Later => b"LATER",
     }
 }
 
@@ -149,6 +141,25 @@ impl Text {
         self.add_count(u128::from(table.lines))
     }
 
+    // Words, and two lines of the transfer.
+    fn add_pair(&mut self, words: &[u8], first: u32, second: u32) -> Result<(), Memory>
+        ensures { OnOk result (self.new ≡ self.old ++ (words.now ++ pair_text first second)) }
+    {
+        self.add(words)?;
+        self.add_number(first)?;
+        self.add(b" ")?;
+        self.add_number(second)
+    }
+
+    fn add_answer(&mut self, answer: AreaAnswer) -> Result<(), Memory>
+        ensures { OnOk result (self.new ≡ self.old ++ area_text answer) }
+    {
+        match answer {
+            AreaAnswer::Later => self.add(b"LATER"),
+            AreaAnswer::Meeting { first, second } => self.add_pair(b"MEETING ", first, second),
+        }
+    }
+
     // AREA topic table attribute, and the answer
     fn add_area(&mut self, area: &AreaLine) -> Result<(), Memory>
         ensures { OnOk result (self.new ≡ self.old ++ area_words (area_of area.now)) }
@@ -160,7 +171,7 @@ impl Text {
         self.add(b" ")?;
         self.add(area.attribute.bytes())?;
         self.add(b" ")?;
-        self.add(area_text(area.answer))
+        self.add_answer(area.answer)
     }
 
     // STRUCTURE line code

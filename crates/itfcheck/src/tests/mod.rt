@@ -1,5 +1,6 @@
 //! The program's worked rows: inputs with the answers that a reader of the rules expects.
 
+mod areas;
 mod compiled;
 mod deliveries;
 mod endless;
