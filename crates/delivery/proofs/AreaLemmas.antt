@@ -17,7 +17,7 @@ use Rattle.plane.proofs.Covers.NotApart.{bad_not_apart}
 use Rattle.meetings.specs.StraightEdges.{AreStraights, curve_of}
 use Rattle.meetings.specs.declared.pairs.BadPair.{BadPair}
 use Rattle.delivery.specs.Answers.{Matches, same, meetings, AgreeLines, Agree}
-use Rattle.delivery.specs.AreaAnswers.{HasNoBadPair, meeting_of, IsAnswer, arc_later, meeting, rest_later, is_half, is_half_arc, plans, AreDrawings, AreAnswers, is_fault, has_fault, IsFaultyPlan, IsLeftPlan, IsFaultyArea, IsLeftArea}
+use Rattle.delivery.specs.AreaAnswers.{meeting_of, IsAnswer, arc_later, meeting, rest_later, is_half, is_half_arc, plans, AreDrawings, AreAnswers, is_fault, has_fault, IsFaultyPlan, IsLeftPlan, IsFaultyArea, IsLeftArea}
 use Rattle.delivery.specs.Drawings.{IsDrawing}
 use Rattle.delivery.specs.Lines as lines
 use Rattle.delivery.specs.Lines.{Line}

@@ -1,5 +1,5 @@
 -- The lines of areas and their answers, one pair after the other.
-use Rattle.std.proofs.Common.{◌≡◌, ◌⊎◌, inl, inr, List, [], ◌∷◌, ◌++◌, map, refl, ◌∙◌, sym, ap, append-nil, append_assoc}
+use Rattle.std.proofs.Common.{◌≡◌, ◌⊎◌, inl, inr, List, [], ◌∷◌, ◌++◌, refl, ◌∙◌, sym, ap, append-nil, append_assoc}
 use Rattle.std.proofs.lemmas.List.{map-append}
 use Rattle.table_layout.specs.Layouts.{Layout}
 use Rattle.table_layout.specs.Values.{area_view, areas_view}

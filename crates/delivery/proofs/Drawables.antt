@@ -1,5 +1,5 @@
 -- Where a layout is valid and rows have no findings, each area within its limits can be drawn.
-use Rattle.std.proofs.Common.{◌≡◌, ◌⊎◌, inl, inr, ℕ, zero, suc, ◌+◌, ◌≤◌, ◌<◌, Bool, true, false, ◌&&◌, ◌||◌, ◌==◌, nat_lt, List, [], ◌∷◌, ◌++◌, length, take, drop, map, get_or, Option, Some, None, Result, Ok, Err, refl, sym, ap, ◌∙◌, subst, arith}
+use Rattle.std.proofs.Common.{◌≡◌, inl, inr, ℕ, zero, suc, ◌+◌, ◌≤◌, ◌<◌, Bool, true, false, ◌&&◌, ◌||◌, ◌==◌, nat_lt, List, [], ◌∷◌, ◌++◌, length, take, drop, map, get_or, Option, Some, None, Ok, refl, sym, ap, ◌∙◌, subst, arith}
 use Rattle.std.specs.Prelude.{slice_get, slice_index_or, if◌then◌else◌}
 use Rattle.std.specs.List.{All, list_any, list_all}
 use Rattle.std.specs.Option.{option_map}
@@ -9,7 +9,7 @@ use Rattle.std.proofs.lemmas.List.Elements.{All-nil, All-cons, All-head, All-tai
 use Rattle.std.proofs.lemmas.Option.{slice_get_within, slice_get_read, slice_get-map, get_or_from_slice_get}
 use Rattle.ili_grammar.specs.Syntax.{Codes}
 use Rattle.resolver.specs.Resolved.{Form, AreaPoint, LineForm, Window}
-use Rattle.table_layout.specs.Layouts.{Role, AreaLines, Column, Table, AreaOf, Layout}
+use Rattle.table_layout.specs.Layouts.{Column, Table, AreaOf, Layout}
 use Rattle.table_layout.specs.Values.{area_view, areas_view}
 use Rattle.table_layout.specs.declared.layouts.AreaOf as area
 use Rattle.table_layout.specs.Valid.{IsValid, IsArea, IsAreaTable, IsTable, IsRole}
@@ -19,7 +19,7 @@ use Rattle.field_values.specs.Fields.{is_undefined, field_fault, value_fault, wi
 use Rattle.field_values.specs.Places.{Place, place_named}
 use Rattle.field_values.specs.Readings.{Value, reading, value_of, column_reading}
 use Rattle.itf_reader.specs.Forms.{Vertex, Row}
-use Rattle.itf_reader.specs.RowFindings.{widths, is_counted}
+use Rattle.itf_reader.specs.RowFindings.{widths}
 use Rattle.domain_rules.specs.CleanPlaces as clean
 use Rattle.domain_rules.specs.CleanPlaces.{HasPoint, HavePoints, AreSoundVertices, AreLines, HasPlaces, RowsHavePlaces, HavePlaces}
 use Rattle.plane.specs.Rule.Windows.{IsInside}
@@ -31,9 +31,9 @@ use Rattle.itf_reader.specs.Findings.{is_before}
 use Rattle.domain_rules.proofs.Places.{empty_both, unsorted, have_places}
 use Rattle.domain_rules.specs.ValueFindings.{value_findings}
 use Rattle.ident_refs.specs.KeyFindings.{key_findings}
-use Rattle.delivery.specs.AreaLimits.{area_limit, vertex_count, is_too_large, has_too_large, IsWithinLimits}
+use Rattle.delivery.specs.AreaLimits.{area_limit, is_too_large, has_too_large, IsWithinLimits}
 use Rattle.delivery.specs.Judging.{IsClean}
-use Rattle.delivery.specs.Drawings.{point_at, place_read, placed, points_at, first_word, words_at, lines_in, columns_in, IsWindowOf, IsDrawing, IsDrawingAt}
+use Rattle.delivery.specs.Drawings.{point_at, place_read, placed, first_word, words_at, lines_in, columns_in, IsWindowOf, IsDrawing, IsDrawingAt}
 use Rattle.delivery.specs.Drawable.{HasForms, HasSoundLine, HasPointIn, HavePointsIn, IsDrawable}
 
 -- ---- lists

@@ -1,6 +1,7 @@
 -- Points of objects by a column, and the forms of an area.
-use Rattle.std.proofs.Common.{◌≡◌, ℕ, zero, suc, ◌+◌, List, [], ◌∷◌, ◌++◌, length, map, take, get_or, Option, Some, None, refl, sym, ap, ◌∙◌, subst, arith, append-nil}
+use Rattle.std.proofs.Common.{◌≡◌, ℕ, ◌+◌, List, [], ◌∷◌, ◌++◌, take, get_or, Option, Some, None, sym, ap, ◌∙◌, subst, append-nil}
 use Rattle.std.specs.List.{All, flat_map}
+use Rattle.std.proofs.lemmas.List.{take-map}
 use Rattle.std.proofs.lemmas.List.Elements.{All-head}
 use Rattle.ili_grammar.specs.Syntax.{Codes}
 use Rattle.resolver.specs.Resolved.{LineForm}
@@ -52,10 +53,5 @@ module _ (codes : Codes) (first : ℕ) (o : Option Column) (rows : List Row) whe
   no_points ps e = sym (append-nil ps) ∙ ap (λ (x : Option Column). ps ++ points_by codes first x rows) e
 
 -- the words of the columns before one
-taken_map : {X Y : Type 0} (f : X → Y) (n : ℕ) (xs : List X) → take n (map f xs) ≡ map f (take n xs)
-taken_map f zero xs = refl
-taken_map f (suc n) [] = refl
-taken_map f (suc n) (x ∷ xs) = ap (λ ys. f x ∷ ys) (taken_map f n xs)
-
 pub words_before : (cs : List column.Column) (n words : ℕ) → words ≡ widths (columns_view (take n cs)) → 1 + words ≡ first_word (columns_view cs) n
-words_before cs n words h = ap (λ (k : ℕ). 1 + k) (h ∙ ap widths (sym (taken_map column_view n cs)))
+words_before cs n words h = ap (λ (k : ℕ). 1 + k) (h ∙ ap widths (sym (take-map column_view n cs)))

@@ -4,7 +4,7 @@ use Rattle.std.specs.Borrow.{Bor}
 use Rattle.std.specs.List.{All}
 use Rattle.std.specs.Option.{option_map, IfSome}
 use Rattle.ili_grammar.specs.Syntax.{Codes}
-use Rattle.resolver.specs.Resolved.{AreaPoint, LineForm, Window}
+use Rattle.resolver.specs.Resolved.{AreaPoint, LineForm}
 use Rattle.resolver.specs.Sound.{IsNarrow}
 use Rattle.table_layout.specs.Layouts.{Column, AreaOf, Layout}
 use Rattle.table_layout.specs.Values.{column_view}

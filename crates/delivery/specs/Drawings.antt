@@ -1,5 +1,5 @@
 -- The drawing of an area: from the rows of a transfer to curves and points of the plane.
-use Rattle.std.specs.Prelude.{◌≡◌, ℕ, ◌+◌, if◌then◌else◌, List, [], ◌∷◌, ◌++◌, take, drop, map, Option, Some, None, Result, Ok, Err, slice_get, slice_index_or}
+use Rattle.std.specs.Prelude.{◌≡◌, ℕ, ◌+◌, if◌then◌else◌, List, [], ◌∷◌, ◌++◌, take, drop, map, Option, Some, None, Result, Ok, slice_get, slice_index_or}
 use Rattle.std.specs.List.{All, flat_map}
 use Rattle.ili_grammar.specs.Syntax.{Codes}
 use Rattle.resolver.specs.Resolved.{LineForm, Window}
@@ -7,7 +7,7 @@ use Rattle.table_layout.specs.Layouts.{Column, Table, AreaOf, Layout}
 use Rattle.field_values.specs.declared.value.ValueFault.{ValueFault}
 use Rattle.field_values.specs.Fields.{width}
 use Rattle.field_values.specs.Places.{Place, is_same_place, are_collinear}
-use Rattle.field_values.specs.Readings.{Value, Numbers, Bytes, column_reading}
+use Rattle.field_values.specs.Readings.{Value, Numbers, column_reading}
 use Rattle.itf_reader.specs.Forms.{Vertex, Row}
 use Rattle.itf_reader.specs.RowFindings.{widths}
 use Rattle.itf_reader.specs.StrokeFindings.{Seen, is_on_arc, place_of, all_seen}
