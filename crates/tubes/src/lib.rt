@@ -1,0 +1,24 @@
+//! The edges that stand for the curves of a drawing, and which curve each stands for.
+//!
+//! - **What it answers.** `edge_list` gives one edge for each straight, in the order of the curves,
+//!   from the end that comes first by x, then y, to the other one. `specs/DrawnEdges.antt` has the
+//!   list as a function of the drawing (`edges_of`), which the layers above speak of.
+//! - **The rule that it serves.** Two straights meet badly exactly where their edges do; the edge
+//!   of each number is that of the curve of that number (`laws::edges_of_drawing`).
+//! - **Not here yet: half arcs.** A half arc is to be covered by a tube, a band of triangles whose
+//!   edges stand for it at a level from 0 to 5. As long as none is made, `edge_list` answers `None`
+//!   exactly where the drawing has a half arc, whatever the level.
+//! - **Degenerate cases.** No curve, upright straights, straights that are delivered backwards and
+//!   equal straights are all taken.
+//!
+//! Cost: linear in the curves; 40 bytes for each.
+#![tactic(auto)]
+
+mod kinds;
+pub mod laws;
+mod listing;
+#[cfg(test)]
+mod tests;
+
+pub use kinds::{EdgeList, Owner, Part};
+pub use listing::edge_list;
