@@ -1,0 +1,16 @@
+pub mod PlaneLaws
+pub mod Runs
+pub mod Proving
+pub mod OneFault
+pub mod ListParts
+pub mod Marking
+pub mod Closeness
+pub mod Placing
+pub mod PlacedSpots
+pub mod Spots
+pub mod InCellLemmas
+pub mod Moving
+pub mod Linking
+pub mod Ending
+pub mod Beginning
+pub mod Judging

@@ -1,0 +1,9 @@
+use Rattle.std.proofs.Common.{ℕ, pos, ◌<ℤ◌, get_or}
+use Rattle.plane.specs.Runs.Positions.{turn_at}
+use Rattle.straight_predicates.specs.EdgeLists.{edge_of}
+use Rattle.certificate_checker.proofs.ListParts.{over_place}
+use Rattle.certificate_checker.proofs.events.is_over.Goals as goal
+
+pub returns-else-place-eq0 : goal.returns-else-place-eq0
+returns-else-place-eq0 c =
+    over_place (λ (i : ℕ). pos 0 <ℤ turn_at (edge_of c.args.edges.now) (get_or c.args.live.now i 0) c.args.at) c.args.place c.if-place-eq0.false c.is_above.result c.is_above.ensures

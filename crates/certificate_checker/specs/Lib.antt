@@ -1,0 +1,9 @@
+pub mod Subjects
+pub mod Rules
+pub mod Verdicts
+pub mod Cases
+pub mod Marked
+pub mod Placed
+pub mod InCells
+pub mod Progress
+pub mod Ended

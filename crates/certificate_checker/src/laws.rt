@@ -1,0 +1,24 @@
+// Laws of certificates: what one proves, and that its first broken rule is one.
+ghost use Rattle.std.specs.Prelude.{◌≡◌, ℕ};
+ghost use Rattle.plane.specs.Rule.Partition.{IsPartition};
+ghost use Rattle.plane.specs.Rule.Plans.{Plan};
+ghost use Rattle.certificate_checker.specs.Subjects.{Claims};
+ghost use Rattle.certificate_checker.specs.Verdicts.{IsBroken, Proves};
+
+/// Claims that prove a drawing make it a partition, whoever made them.
+pub fn proves_partition()
+    ensures { (d : Plan) (c : Claims) → Proves d c → IsPartition d }
+{}
+
+/// Where a rule is broken the claims prove nothing.
+pub fn broken_is_unproved()
+    ensures { (d : Plan) (c : Claims) (rule place : ℕ) → Proves d c → IsBroken d c rule place → ⊥ }
+{}
+
+/// There is one first broken rule, and it has one place.
+pub fn one_fault()
+    ensures rule { (d : Plan) (c : Claims) (m p n q : ℕ)
+        → IsBroken d c m p → IsBroken d c n q → m ≡ n }
+    ensures place { (d : Plan) (c : Claims) (m p n q : ℕ)
+        → IsBroken d c m p → IsBroken d c n q → p ≡ q }
+{}

@@ -1,0 +1,147 @@
+// The replay, event by event.
+ghost use Rattle.std.specs.Prelude.{◌≡◌, ℕ, suc, ◌<◌, ◌≤◌, IfErr, OnOk, length};
+ghost use Rattle.straight_predicates.specs.Rows.{room_of, values_of};
+ghost use Rattle.certificate_checker.specs.Cases.{IsFit, judged};
+ghost use Rattle.certificate_checker.specs.Marked.{IsAtBorder, NamesAcross};
+ghost use Rattle.certificate_checker.specs.Placed.{IsLater};
+ghost use Rattle.certificate_checker.specs.Progress.{AreMarkedTo, HasReplayed, IsMovedTo};
+ghost use Rattle.certificate_checker.specs.Rules.{PassesEvent};
+ghost use Rattle.certificate_checker.specs.Subjects.{live_list};
+ghost use Rattle.certificate_checker.specs.Verdicts.{FirstBroken};
+
+use super::case::Case;
+use super::events::{judge_event, position_of};
+use super::labels::{edge_at, edge_before};
+use super::marks::mark_neighbours;
+use super::points::place_points;
+use super::state::{Broken, State};
+use event_mesh::turn_event;
+use half_edges::{HalfEdgeId, Mesh};
+use straight_predicates::Row;
+
+/// Goes over all events, and names the first one that breaks a rule. It takes no memory.
+pub fn replay(case: &Case, state: &mut State) -> Result<(), Broken>
+    requires fit { IsFit (judged case.now) }
+    requires begun { HasReplayed (judged case.now) 0 state.old }
+    ensures done { OnOk result (HasReplayed (judged case.now) (length (judged case.now).table)
+        state.new) }
+    ensures later { OnOk result (IsLater (judged case.now) (length (judged case.now).table)
+        state.new.placing.next state.new.placing.spots.items) }
+    ensures broken { IfErr result (λ b. FirstBroken (judged case.now) b.rule b.place) }
+{
+    for event in 0..case.table.events() {
+        step(case, event, state)?;
+    }
+    place_to(case, case.table.events(), state);
+    Ok(())
+}
+
+/// Places the points up to the event of that number.
+fn place_to(case: &Case, event: u32, state: &mut State)
+    requires fit { IsFit (judged case.now) }
+    requires event { event ≤ length (judged case.now).table }
+    requires replayed { HasReplayed (judged case.now) event state.old }
+    ensures replayed { HasReplayed (judged case.now) event state.new }
+    ensures later { IsLater (judged case.now) event state.new.placing.next
+        state.new.placing.spots.items }
+{
+    place_points(
+        case,
+        event,
+        state.live.values(),
+        &mut state.placing,
+        &mut state.marks.point,
+    );
+}
+
+fn step(case: &Case, event: u32, state: &mut State) -> Result<(), Broken>
+    requires fit { IsFit (judged case.now) }
+    requires event { event < length (judged case.now).table }
+    requires replayed { HasReplayed (judged case.now) event state.old }
+    ensures done { OnOk result (HasReplayed (judged case.now) (suc event) state.new) }
+    ensures broken { IfErr result (λ b. FirstBroken (judged case.now) b.rule b.place) }
+{
+    place_to(case, event, state);
+    test_event(case, event, state)?;
+    go_on(case, event, state);
+    Ok(())
+}
+
+fn test_event(case: &Case, event: u32, state: &State) -> Result<(), Broken>
+    requires fit { IsFit (judged case.now) }
+    requires event { event < length (judged case.now).table }
+    requires replayed { HasReplayed (judged case.now) event state.now }
+    ensures passes { OnOk result (PassesEvent (judged case.now) event) }
+    ensures broken { IfErr result (λ b. FirstBroken (judged case.now) b.rule b.place) }
+{
+    match judge_event(case, event, state.live.values()) {
+        Ok(()) => Ok(()),
+        Err(rule) => Err(Broken { rule, place: event }),
+    }
+}
+
+/// Marks the half-edges beside the new neighbours, turns the event, and puts the edges that start
+/// there in the place of those that end.
+fn go_on(case: &Case, event: u32, state: &mut State)
+    requires fit { IsFit (judged case.now) }
+    requires event { event < length (judged case.now).table }
+    requires replayed { HasReplayed (judged case.now) event state.old }
+    requires later { IsLater (judged case.now) event state.old.placing.next
+        state.old.placing.spots.items }
+    requires passes { PassesEvent (judged case.now) event }
+    ensures { HasReplayed (judged case.now) (suc event) state.new }
+{
+    mark_event(
+        case,
+        event,
+        state.live.values(),
+        &mut state.marks.border,
+        &mut state.marks.across,
+    );
+    move_event(
+        case,
+        event,
+        &mut state.live,
+        &mut state.mesh,
+        &mut state.fan,
+    );
+}
+
+fn mark_event(case: &Case, event: u32, live: &[u32], border: &mut [bool], across: &mut [bool])
+    requires fit { IsFit (judged case.now) }
+    requires event { event < length (judged case.now).table }
+    requires passed { (j : ℕ) → j < event → PassesEvent (judged case.now) j }
+    requires passes { PassesEvent (judged case.now) event }
+    requires live { live.now ≡ live_list (judged case.now) event }
+    requires border { AreMarkedTo (judged case.now) IsAtBorder event border.old }
+    requires across { AreMarkedTo (judged case.now) (NamesAcross (judged case.now).claims.notes)
+        event across.old }
+    ensures border { AreMarkedTo (judged case.now) IsAtBorder (suc event) border.new }
+    ensures across { AreMarkedTo (judged case.now) (NamesAcross (judged case.now).claims.notes)
+        (suc event) across.new }
+{
+    let position = position_of(case, event);
+    let ending = case.table.ending(event).len();
+    let starting = case.table.starting(event);
+    let lower = edge_before(live, position);
+    let upper = edge_at(live, position + ending);
+    let notes = &case.certificate.notes;
+    mark_neighbours(border, across, notes, lower, starting, upper);
+}
+
+fn move_event(case: &Case, event: u32, live: &mut Row<u32>, mesh: &mut Mesh, fan: &mut [HalfEdgeId])
+    requires fit { IsFit (judged case.now) }
+    requires event { event < length (judged case.now).table }
+    requires passes { PassesEvent (judged case.now) event }
+    requires moved { IsMovedTo (judged case.now) event (values_of live.old) (room_of live.old)
+        (length fan.old) mesh.old }
+    ensures { IsMovedTo (judged case.now) (suc event) (values_of live.new) (room_of live.new)
+        (length fan.new) mesh.new }
+{
+    let position = position_of(case, event);
+    let ending = case.table.ending(event).len();
+    let starting = case.table.starting(event);
+    let block = &live.values()[position..position + ending];
+    turn_event(mesh, starting, block, fan);
+    live.replace(position, ending, starting);
+}

@@ -1,0 +1,46 @@
+// What the replay keeps from event to event.
+use half_edges::{HalfEdgeId, Mesh};
+use plane::Point;
+use straight_predicates::Row;
+
+/// The rule that is broken, and its place.
+#[derive(Clone, Copy)]
+pub struct Broken {
+    pub rule: u8,
+    pub place: u32,
+}
+
+/// An object's point with its number.
+#[derive(Clone, Copy)]
+pub struct Spot {
+    pub at: Point,
+    pub number: u32,
+}
+
+/// The points by x, then y, of which so many were passed, and the least number of one that was not
+/// where it is placed; that is the number of points where there was none.
+#[derive(Drop)]
+pub struct Placing {
+    pub spots: Vec<Spot>,
+    pub next: usize,
+    pub bad: u32,
+}
+
+/// For each half-edge whether it was beside a border, whether it was across a cell from the one that
+/// its note names, and whether it bounds a cell in which a point was placed.
+#[derive(Drop)]
+pub struct Marks {
+    pub border: Vec<bool>,
+    pub across: Vec<bool>,
+    pub point: Vec<bool>,
+}
+
+/// The live list, the mesh with room for one event's half-edges, the marks and the points.
+#[derive(Drop)]
+pub struct State {
+    pub live: Row<u32>,
+    pub mesh: Mesh,
+    pub fan: Vec<HalfEdgeId>,
+    pub marks: Marks,
+    pub placing: Placing,
+}
