@@ -1,6 +1,6 @@
 // The check of a certificate against a drawing.
-ghost use Rattle.std.specs.Prelude.{◌≡◌, ◌↔◌, ℕ, ◌<◌, ◌^◌, IfErr, IfOk, IsTrue, OnOk, false, length};
-ghost use Rattle.std.specs.Prelude.{replicate};
+ghost use Rattle.std.specs.Prelude.{◌≡◌, ◌↔◌, ℕ, ◌<◌, ◌^◌, IfErr, IfOk, IsTrue, OnOk};
+ghost use Rattle.std.specs.Prelude.{false, length, replicate};
 ghost use Rattle.plane.specs.Rule.Partition.{IsPartition};
 ghost use Rattle.plane.specs.Rule.Plans.{plan};
 ghost use Rattle.plane.specs.Runs.Timetables.{IsTimetable};
@@ -87,7 +87,7 @@ fn has_counts(
         && certificate.places.len() == points.len()
 }
 
-/// Nothing is replayed yet. All memory of the check but the edges and their timetable is taken here.
+/// Nothing is replayed yet. All memory but that of the edges and their timetable is taken here.
 fn begin(alloc: Global, case: &Case) -> Result<State, Memory>
     requires { IsFit (judged case.now) }
     ensures { IfOk result (HasReplayed (judged case.now) 0) }

@@ -15,12 +15,12 @@
 //!   was beside a border, across a cell from the one that its note names, or beside a placed point,
 //!   and looks at each point when the events before it are done. That the list is in order is never
 //!   tested and never assumed: it follows when all events have passed.
-//! - **The laws** (`laws`): what is proved is a partition; what is broken is not proved; there is one
-//!   first broken rule.
+//! - **The laws** (`laws`): what is proved is a partition; what is broken is not proved; there is
+//!   one first broken rule.
 //! - **Not here.** Half arcs have no tubes yet, so a drawing with one breaks rule 2. The names in a
 //!   certificate are not read. This crate stands on no sweep, face or search.
-//! - **Degenerate cases.** No curve, no point, upright and equal straights, many in one point, points
-//!   at corners and on lines, links to half-edges that are not there, and counts that do not fit.
+//! - **Degenerate cases.** No curve, no point, upright and equal straights, many in one point,
+//!   points at corners and on lines, links to half-edges that are not there, and counts that do not fit.
 //!
 //! Cost: O((m + p) log (m + p)) for m straights and p points, and what the live list moves: at most
 //! its length at each event that changes it. All memory is taken at the start, about 130 bytes a

@@ -9,8 +9,8 @@ ghost use Rattle.certificate.specs.declared.notes.Link.TheVariants.{Across};
 
 use certificate::{HalfNote, Link};
 
-/// Marks the half-edges beside the new neighbours, from the lower edge over the starting ones to the
-/// upper edge: those at a border, and those across from the one that their note names.
+/// Marks the half-edges beside the new neighbours, from the lower edge over the starting ones to
+/// the upper edge: those at a border, and those across from the one that their note names.
 pub fn mark_neighbours(
     border: &mut [bool],
     across: &mut [bool],

@@ -1,5 +1,5 @@
 // Points in the cells of the live list.
-ghost use Rattle.std.specs.Prelude.{◌≡◌, ◌↔◌, ◌⊎◌, ℕ, suc, ◌+◌, ◌-◌, ◌<◌, ◌≤◌, ◌^◌, pos, ◌<ℤ◌, Some};
+ghost use Rattle.std.specs.Prelude.{◌≡◌, ◌↔◌, ◌⊎◌, ℕ, suc, ◌+◌, ◌-◌, ◌<◌, ◌≤◌, ◌^◌, Some};
 ghost use Rattle.std.specs.Prelude.{None, IfOk, IsTrue, length};
 ghost use Rattle.plane.specs.Faces.Halves.{Half};
 ghost use Rattle.plane.specs.Forms.Vectors.{Before};

@@ -26,8 +26,8 @@ pub struct Placing {
     pub bad: u32,
 }
 
-/// For each half-edge whether it was beside a border, whether it was across a cell from the one that
-/// its note names, and whether it bounds a cell in which a point was placed.
+/// For each half-edge whether it was beside a border, whether it was across a cell from the one
+/// that its note names, and whether it bounds a cell in which a point was placed.
 #[derive(Drop)]
 pub struct Marks {
     pub border: Vec<bool>,

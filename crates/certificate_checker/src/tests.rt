@@ -1,7 +1,4 @@
 // A square with a point, and its certificate by hand, changed in one place after another.
-ghost use Rattle.std.specs.Prelude.{IsTrue};
-ghost use Rattle.plane.specs.Rule.Windows.{IsInside};
-
 use super::{Verdict, check};
 use certificate::{Certificate, HalfNote, Link, PointPlace};
 use plane::{Drawing, Point, Window2};
@@ -14,13 +11,29 @@ const WINDOW: Window2 = Window2 {
     high: Point { x: 1000, y: 1000 },
 };
 
-// The sides of the square, in the order in which they are delivered.
-const SIDES: [[i64; 4]; 4] = [
-    [100, 100, 200, 100],
-    [200, 100, 200, 200],
-    [200, 200, 100, 200],
-    [100, 200, 100, 100],
-];
+// The corners of the square, whose sides are delivered from A over B, C and D.
+const A: Point = Point { x: 100, y: 100 };
+
+const B: Point = Point { x: 200, y: 100 };
+
+const C: Point = Point { x: 200, y: 200 };
+
+const D: Point = Point { x: 100, y: 200 };
+
+// Where the object's point lies: inside, outside, on a side, or at a corner.
+const MIDDLE: Point = Point { x: 150, y: 150 };
+
+const OUTSIDE: Point = Point { x: 250, y: 150 };
+
+const SIDE: Point = Point { x: 150, y: 100 };
+
+#[derive(Clone, Copy)]
+enum Spot {
+    Middle,
+    Outside,
+    Side,
+    Corner,
+}
 
 // Below and above each side: the label, the link and the rank.
 type Note = (u32, Link, u32);
@@ -57,7 +70,7 @@ enum Change {
 }
 
 // What is changed, where the point lies, and the broken rule with its place, (0, 0) for none.
-type Row = (&'static str, Change, [i64; 2], (u8, u32));
+type Row = (&'static str, Change, Spot, (u8, u32));
 
 fn verdict(broken: (u8, u32)) -> Verdict {
     match broken {
@@ -66,43 +79,51 @@ fn verdict(broken: (u8, u32)) -> Verdict {
     }
 }
 
-const MIDDLE: [i64; 2] = [150, 150];
-
 const ROWS: [Row; 20] = [
-    ("as it is", Change::None, MIDDLE, (0, 0)),
+    ("as it is", Change::None, Spot::Middle, (0, 0)),
     (
         "another way across",
         Change::Note(3, (1, Link::Across(4), 1)),
-        MIDDLE,
+        Spot::Middle,
         (0, 0),
     ),
-    ("level 6", Change::Level(6), MIDDLE, (2, 0)),
-    ("no place", Change::NoPlace, MIDDLE, (2, 0)),
-    ("a note less", Change::NoNote, MIDDLE, (2, 0)),
-    ("past the list", Change::Position(0, 1), MIDDLE, (4, 0)),
-    ("another edge ends", Change::Position(1, 0), MIDDLE, (4, 1)),
+    ("level 6", Change::Level(6), Spot::Middle, (2, 0)),
+    ("no place", Change::NoPlace, Spot::Middle, (2, 0)),
+    ("a note less", Change::NoNote, Spot::Middle, (2, 0)),
+    (
+        "past the list",
+        Change::Position(0, 1),
+        Spot::Middle,
+        (4, 0),
+    ),
+    (
+        "another edge ends",
+        Change::Position(1, 0),
+        Spot::Middle,
+        (4, 1),
+    ),
     (
         "a label below",
         Change::Note(0, (1, Link::Root, 0)),
-        MIDDLE,
+        Spot::Middle,
         (7, 0),
     ),
     (
         "a label above",
         Change::Note(7, (1, Link::Root, 0)),
-        MIDDLE,
+        Spot::Middle,
         (7, 0),
     ),
     (
         "another cell",
         Change::Place(PointPlace::Cell(2)),
-        MIDDLE,
+        Spot::Middle,
         (9, 0),
     ),
     (
         "the border",
         Change::Place(PointPlace::Cell(0)),
-        MIDDLE,
+        Spot::Middle,
         (9, 0),
     ),
     (
@@ -111,77 +132,56 @@ const ROWS: [Row; 20] = [
             curve: 0,
             inside: true,
         }),
-        MIDDLE,
+        Spot::Middle,
         (9, 0),
     ),
-    ("the point outside", Change::None, [250, 150], (9, 0)),
-    ("the point on a side", Change::None, [150, 100], (9, 0)),
-    ("the point a corner", Change::None, [200, 100], (9, 0)),
+    ("the point outside", Change::None, Spot::Outside, (9, 0)),
+    ("the point on a side", Change::None, Spot::Side, (9, 0)),
+    ("the point a corner", Change::None, Spot::Corner, (9, 0)),
     (
         "rank 0",
         Change::Note(3, (1, Link::Next, 0)),
-        MIDDLE,
+        Spot::Middle,
         (10, 3),
     ),
     (
         "no root there",
         Change::Note(3, (1, Link::Root, 0)),
-        MIDDLE,
+        Spot::Middle,
         (10, 3),
     ),
     (
         "a circle of links",
         Change::Note(4, (1, Link::Prev, 2)),
-        MIDDLE,
+        Spot::Middle,
         (10, 3),
     ),
     (
         "no half-edge",
         Change::Note(3, (1, Link::Across(9), 1)),
-        MIDDLE,
+        Spot::Middle,
         (10, 3),
     ),
     (
         "a root with a rank",
         Change::Note(1, (1, Link::Root, 1)),
-        MIDDLE,
+        Spot::Middle,
         (10, 1),
     ),
 ];
 
-fn is_inside(window: &Window2, p: Point) -> bool
-    ensures { IsTrue result → IsInside window.now.low window.now.high p }
-{
-    window.low.x <= p.x && p.x <= window.high.x && window.low.y <= p.y && p.y <= window.high.y
-}
-
-fn add_side(drawing: &mut Drawing, from: Point, to: Point) -> Result<(), Memory> {
-    let inside = is_inside(&drawing.window, from) && is_inside(&drawing.window, to);
-    if inside && from != to && drawing.curves.len() < 1000 {
-        drawing.add_straight(from, to, 1)?;
-    }
-    Ok(())
-}
-
-fn add_point(drawing: &mut Drawing, at: Point) -> Result<(), Memory> {
-    if is_inside(&drawing.window, at) && drawing.points.len() < 1000 {
-        drawing.add_point(at, 1)?;
-    }
-    Ok(())
-}
-
-fn square(alloc: Global, point: [i64; 2]) -> Result<Drawing, Memory> {
+fn square(alloc: Global, point: Spot) -> Result<Drawing, Memory> {
     let mut drawing = Drawing::new(alloc, WINDOW);
-    for s in SIDES {
-        let from = Point { x: s[0], y: s[1] };
-        let to = Point { x: s[2], y: s[3] };
-        add_side(&mut drawing, from, to)?;
+    drawing.add_straight(A, B, 1)?;
+    drawing.add_straight(B, C, 2)?;
+    drawing.add_straight(C, D, 3)?;
+    drawing.add_straight(D, A, 4)?;
+    match point {
+        Spot::Middle => drawing.add_point(MIDDLE, 5)?,
+        Spot::Outside => drawing.add_point(OUTSIDE, 5)?,
+        Spot::Side => drawing.add_point(SIDE, 5)?,
+        Spot::Corner => drawing.add_point(B, 5)?,
     }
-    let at = Point {
-        x: point[0],
-        y: point[1],
-    };
-    add_point(&mut drawing, at)?;
     Ok(drawing)
 }
 
@@ -229,7 +229,7 @@ fn certificate(alloc: Global) -> Result<Certificate, Memory> {
     })
 }
 
-fn verdict_of(alloc: Global, changed: Change, point: [i64; 2]) -> Result<Verdict, Memory> {
+fn verdict_of(alloc: Global, changed: Change, point: Spot) -> Result<Verdict, Memory> {
     let drawing = square(alloc, point)?;
     let mut certificate = certificate(alloc)?;
     apply(&mut certificate, changed);
