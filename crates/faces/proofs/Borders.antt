@@ -1,6 +1,5 @@
 -- The half-edges at the border get face 0.
-use Rattle.std.proofs.Common.{◌≡◌, ℕ, suc, ◌+◌, ◌^◌, ◌<◌, ◌≤◌, inl, inr, Option, Some, None, List, [], ◌∷◌, length, get_or, replicate, refl, arith, ap, sym, ◌∙◌, subst, vec_capacity}
-use Rattle.plane.specs.Lists.{Has}
+use Rattle.std.proofs.Common.{◌≡◌, ℕ, ◌+◌, ◌<◌, ◌≤◌, inl, inr, Option, Some, None, List, [], ◌∷◌, length, get_or, refl, arith, ap, sym, ◌∙◌, subst, vec_capacity}
 use Rattle.plane.specs.Runs.Gaps.{Gap}
 use Rattle.half_edges.specs.HalfEdges.{HalfEdges, size}
 use Rattle.half_edges.specs.Meshes.{IsMesh}
@@ -8,7 +7,7 @@ use Rattle.line_sweep.specs.declared.kinds.Cell.{Cell}
 use Rattle.line_sweep.specs.Kinds.{gap_of, gaps_of}
 use Rattle.line_sweep.proofs.CellGaps.{has_gap, no_cell}
 use Rattle.faces.specs.declared.searching.Search.{Search}
-use Rattle.faces.specs.Joined.{AreKnown, AtBorder, HasCell, Joined, highest, lowest, outside, over_of, same, under_of}
+use Rattle.faces.specs.Joined.{AreKnown, AtBorder, Joined, highest, lowest, outside, over_of, same, under_of}
 use Rattle.faces.specs.Searching.{HasSearched, IsKept, IsReached, IsSet, IsWaiting, unset}
 use Rattle.faces.proofs.PairCounts.{by_lt}
 use Rattle.faces.proofs.PairRows.{place_of}

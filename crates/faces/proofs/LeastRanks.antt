@@ -1,12 +1,11 @@
 -- A rank is the least number of steps to a root.
-use Rattle.std.proofs.Common.{◌≡◌, ℕ, zero, suc, ◌<◌, ◌≤◌, List, get_or, refl, arith, ap, sym, ◌∙◌, subst}
+use Rattle.std.proofs.Common.{◌≡◌, ℕ, zero, suc, ◌<◌, ◌≤◌, List, get_or, refl, arith, ap, subst}
 use Rattle.plane.specs.Lists.{Has}
 use Rattle.plane.specs.Runs.Gaps.{Gap}
 use Rattle.half_edges.specs.HalfEdges.{HalfEdges, size}
 use Rattle.half_edges.specs.Meshes.{IsMesh}
 use Rattle.faces.specs.Joined.{AreKnown}
 use Rattle.faces.specs.Ranking.{AreRanks, LeadsIn, at_root, one_step}
-use Rattle.faces.specs.Searching.{IsNear}
 use Rattle.faces.proofs.Searches.{near_within}
 
 pub rank_least : (mesh : HalfEdges) (cells : List Gap) (roots ranks : List ℕ) → IsMesh mesh → AreKnown (size mesh) cells → AreRanks mesh cells roots ranks → (n h r : ℕ) → h < size mesh → Has r roots → LeadsIn mesh cells n h r → get_or ranks h 0 ≤ n

@@ -11,7 +11,6 @@ use Rattle.faces.specs.declared.partners.Partners.{Partners}
 use Rattle.faces.specs.Joined.{Across, AreKnown}
 use Rattle.faces.specs.Ranking.{AreRanks, HasRank, IsBefore, IsLink, IsNote, no_note}
 use Rattle.faces.specs.Rows.{ArePartners, row_of}
-use Rattle.faces.specs.Searching.{IsNear}
 use Rattle.faces.proofs.PairCounts.{by_lt}
 use Rattle.faces.proofs.PairRows.{place_of}
 use Rattle.faces.proofs.PlaneLaws.{has_at}

@@ -1,19 +1,19 @@
 -- Faces by number: the next half-edge without face gets the next number.
-use Rattle.std.proofs.Common.{◌≡◌, ℕ, zero, suc, ◌+◌, ◌-◌, ◌^◌, ◌<◌, ◌≤◌, max, ◌==◌, Bool, true, false, not, ◌⊎◌, inl, inr, List, [], ◌∷◌, ◌++◌, length, take, replicate, get_or, refl, arith, ap, sym, ◌∙◌, subst, vec_capacity}
+use Rattle.std.proofs.Common.{◌≡◌, ℕ, zero, suc, ◌+◌, ◌<◌, ◌≤◌, max, ◌==◌, Bool, true, false, not, ◌⊎◌, inl, inr, List, [], ◌∷◌, ◌++◌, length, take, replicate, get_or, refl, arith, ap, sym, ◌∙◌, subst}
 use Rattle.std.proofs.lemmas.Bool.Decides.{Decides-eqb}
 use Rattle.std.proofs.lemmas.List.{take_more}
 use Rattle.plane.specs.Lists.{Has}
 use Rattle.plane.specs.Runs.Gaps.{Gap}
-use Rattle.half_edges.specs.HalfEdges.{HalfEdges, size, next_of, prev_of}
+use Rattle.half_edges.specs.HalfEdges.{HalfEdges, size, next_of}
 use Rattle.half_edges.specs.Meshes.{AgreesAlong, IsMesh}
 use Rattle.faces.specs.declared.searching.Search.{Search}
-use Rattle.faces.specs.Joined.{Across, AreKnown, AtBorder, Joined, across, back, onward, outside, same}
+use Rattle.faces.specs.Joined.{AreKnown, AtBorder, Joined, across, back, onward, outside, same}
 use Rattle.faces.specs.Labels.{AreFaces, IsNumbered, greatest}
-use Rattle.faces.specs.Searching.{AreWaiting, HasSearched, IsGiven, IsKept, IsNear, IsNumberedTo, IsSearched, IsSet, IsWaiting, unset}
-use Rattle.faces.proofs.PairCounts.{by_lt, same_or}
+use Rattle.faces.specs.Searching.{HasSearched, IsGiven, IsKept, IsNear, IsNumberedTo, IsSet, IsWaiting, unset}
+use Rattle.faces.proofs.PairCounts.{by_lt}
 use Rattle.faces.proofs.PairRows.{place_of}
-use Rattle.faces.proofs.PlaneLaws.{has_append, has_at, has_back, has_front}
-use Rattle.faces.proofs.Searches.{border_within, joined_back, joined_more, near_within}
+use Rattle.faces.proofs.PlaneLaws.{has_back, has_front}
+use Rattle.faces.proofs.Searches.{border_within, near_within}
 
 -- ---- lists of faces
 same_front : (xs ys : List ℕ) (k : ℕ) → length xs ≡ length ys → ((i : ℕ) → i < k → get_or xs i 0 ≡ get_or ys i 0) → take k xs ≡ take k ys

@@ -1,13 +1,12 @@
 -- One half-edge of the queue is passed.
-use Rattle.std.proofs.Common.{◌≡◌, ℕ, zero, suc, ◌+◌, ◌-◌, ◌^◌, ◌<◌, ◌≤◌, ◌⊎◌, inl, inr, List, [], ◌∷◌, ◌++◌, length, get_or, set, refl, arith, ap, sym, ◌∙◌, subst, vec_capacity}
+use Rattle.std.proofs.Common.{◌≡◌, ℕ, zero, suc, ◌+◌, ◌<◌, ◌≤◌, ◌⊎◌, inl, inr, List, [], ◌∷◌, ◌++◌, length, get_or, refl, arith, ap, sym, ◌∙◌, subst, vec_capacity}
 use Rattle.std.proofs.lemmas.List.{get_or-set_same, get_or-set_other, length-append}
-use Rattle.plane.specs.Lists.{Has}
 use Rattle.plane.specs.Runs.Gaps.{Gap}
-use Rattle.half_edges.specs.HalfEdges.{HalfEdges, size, next_of, prev_of}
+use Rattle.half_edges.specs.HalfEdges.{HalfEdges, size}
 use Rattle.half_edges.specs.Meshes.{IsMesh}
 use Rattle.faces.specs.declared.searching.Search.{Search}
-use Rattle.faces.specs.Joined.{Across, AreKnown, AtBorder, Joined}
-use Rattle.faces.specs.Searching.{AreWaiting, HasSearched, IsGiven, IsKept, IsNear, IsPassing, IsPut, IsReached, IsSame, IsSearched, IsSet, IsWaiting, unset}
+use Rattle.faces.specs.Joined.{AreKnown, AtBorder, Joined}
+use Rattle.faces.specs.Searching.{AreWaiting, HasSearched, IsGiven, IsKept, IsNear, IsPassing, IsReached, IsSearched, IsSet, IsWaiting, unset}
 use Rattle.faces.proofs.PairCounts.{by_lt, same_or}
 use Rattle.faces.proofs.PlaneLaws.{has_at}
 use Rattle.faces.proofs.PairRows.{place_of}

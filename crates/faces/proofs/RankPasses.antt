@@ -1,12 +1,12 @@
 -- Ranks of what a half-edge that is passed leads to.
-use Rattle.std.proofs.Common.{◌≡◌, ℕ, ◌+◌, ◌<◌, ◌≤◌, ◌⊎◌, inl, inr, List, length, get_or, refl, arith, ap, sym, ◌∙◌, subst}
+use Rattle.std.proofs.Common.{◌≡◌, ℕ, ◌+◌, ◌<◌, ◌≤◌, inl, inr, List, length, get_or, arith, sym, ◌∙◌, subst}
 use Rattle.plane.specs.Lists.{Has}
 use Rattle.plane.specs.Runs.Gaps.{Gap}
 use Rattle.half_edges.specs.HalfEdges.{HalfEdges, size, next_of, prev_of}
 use Rattle.faces.specs.declared.partners.Partners.{Partners}
 use Rattle.faces.specs.Ranking.{HasRankMost}
 use Rattle.faces.specs.Rows.{ArePartners, row_of}
-use Rattle.faces.specs.Searching.{IsKept, IsNear, IsSet, unset}
+use Rattle.faces.specs.Searching.{IsKept, IsNear, unset}
 use Rattle.faces.proofs.PairCounts.{by_lt}
 use Rattle.faces.proofs.PairRows.{place_of}
 

@@ -1,13 +1,13 @@
 -- A search for ranks: what stays true when one more half-edge gets a rank.
-use Rattle.std.proofs.Common.{◌≡◌, ℕ, zero, suc, ◌+◌, ◌-◌, ◌^◌, ◌<◌, ◌≤◌, ◌⊎◌, inl, inr, List, [], ◌∷◌, ◌++◌, length, get_or, set, refl, arith, ap, sym, ◌∙◌, subst, vec_capacity}
+use Rattle.std.proofs.Common.{◌≡◌, ℕ, zero, suc, ◌+◌, ◌<◌, ◌≤◌, ◌⊎◌, inl, inr, List, [], ◌∷◌, ◌++◌, length, get_or, set, refl, arith, ap, sym, ◌∙◌, subst, vec_capacity}
 use Rattle.std.proofs.lemmas.List.{get_or-set_same, get_or-set_other, length-append, length-set}
-use Rattle.plane.specs.Lists.{Has, Once}
+use Rattle.plane.specs.Lists.{Has}
 use Rattle.plane.specs.Runs.Gaps.{Gap}
-use Rattle.half_edges.specs.HalfEdges.{HalfEdges, size, next_of, prev_of}
+use Rattle.half_edges.specs.HalfEdges.{HalfEdges, size}
 use Rattle.half_edges.specs.Meshes.{IsMesh}
 use Rattle.faces.specs.declared.ranks.Ranks.{Ranks}
-use Rattle.faces.specs.Joined.{Across, AreKnown}
-use Rattle.faces.specs.Ranking.{AreLater, HasRanked, IsRankPut, IsRankReached, IsRankSame, IsRanked, IsRanking}
+use Rattle.faces.specs.Joined.{AreKnown}
+use Rattle.faces.specs.Ranking.{AreLater, HasRanked, IsRankReached, IsRanked, IsRanking}
 use Rattle.faces.specs.Searching.{IsKept, IsNear, IsSet, unset}
 use Rattle.faces.proofs.PairCounts.{by_lt, same_or}
 use Rattle.faces.proofs.PairRows.{place_of}

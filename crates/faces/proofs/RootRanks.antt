@@ -1,5 +1,5 @@
 -- The roots get rank 0, and what is so of ranks when the search ends.
-use Rattle.std.proofs.Common.{◌≡◌, ℕ, zero, suc, ◌+◌, ◌^◌, ◌<◌, ◌≤◌, ◌⊎◌, inl, inr, List, [], ◌∷◌, ◌++◌, length, get_or, set, replicate, refl, arith, ap, sym, ◌∙◌, subst, vec_capacity}
+use Rattle.std.proofs.Common.{◌≡◌, ℕ, zero, suc, ◌+◌, ◌<◌, ◌≤◌, inl, inr, List, [], ◌∷◌, length, get_or, replicate, refl, arith, ap, sym, ◌∙◌, subst, vec_capacity}
 use Rattle.std.proofs.lemmas.List.{get_or-set_other}
 use Rattle.plane.specs.Lists.{Has}
 use Rattle.plane.specs.Runs.Gaps.{Gap}

@@ -1,11 +1,11 @@
 -- A search for faces: what stays true when one more half-edge gets a face.
-use Rattle.std.proofs.Common.{◌≡◌, ℕ, zero, suc, ◌+◌, ◌-◌, ◌^◌, ◌<◌, ◌≤◌, ◌⊎◌, inl, inr, List, [], ◌∷◌, ◌++◌, length, get_or, set, refl, arith, ap, sym, ◌∙◌, subst}
+use Rattle.std.proofs.Common.{◌≡◌, ℕ, zero, suc, ◌<◌, ◌≤◌, ◌⊎◌, inl, inr, List, [], ◌∷◌, ◌++◌, length, get_or, set, refl, arith, ap, sym, ◌∙◌, subst}
 use Rattle.std.proofs.lemmas.List.{get_or-set_same, get_or-set_other, length-append, length-set}
-use Rattle.plane.specs.Lists.{Has, Once}
+use Rattle.plane.specs.Lists.{Has}
 use Rattle.plane.specs.Runs.Gaps.{Gap}
 use Rattle.half_edges.specs.HalfEdges.{HalfEdges, size, next_of, prev_of}
 use Rattle.half_edges.specs.Meshes.{IsMesh}
-use Rattle.faces.specs.Joined.{Across, AreKnown, AtBorder, HasCell, IsBetween, Joined, across, back, highest, lowest, onward, outside, over_of, same, under_of}
+use Rattle.faces.specs.Joined.{Across, AreKnown, AtBorder, IsBetween, Joined, across, back, highest, lowest, onward, outside, same}
 use Rattle.faces.specs.Searching.{AreWaiting, IsKept, IsNear, IsSearched, IsSet, unset}
 use Rattle.faces.proofs.PairCounts.{by_lt, same_or}
 use Rattle.faces.proofs.PlaneLaws.{has_append, has_at, has_back, has_front, once_append, room}

@@ -1,13 +1,11 @@
 -- What the tests conclude from their checks.
-use Rattle.std.proofs.Common.{◌≡◌, ℕ, ◌+◌, ◌*◌, ◌<◌, ◌≤◌, inl, inr, Option, Some, List, [], ◌∷◌, length, get_or, refl, arith, ap, sym, ◌∙◌, subst}
+use Rattle.std.proofs.Common.{◌≡◌, ℕ, ◌+◌, ◌*◌, ◌<◌, ◌≤◌, inl, inr, Some, List, [], ◌∷◌, length, get_or, arith, ap, sym, ◌∙◌, subst}
 use Rattle.plane.specs.Lists.{Has}
 use Rattle.plane.specs.Runs.Gaps.{Gap}
-use Rattle.half_edges.specs.HalfEdges.{HalfEdges, size, next_of, prev_of}
 use Rattle.line_sweep.specs.declared.kinds.Cell.{Cell}
 use Rattle.line_sweep.specs.Kinds.{gap_of, gaps_of}
 use Rattle.line_sweep.proofs.CellGaps.{has_gap, no_cell}
-use Rattle.faces.specs.Joined.{AreKnown, over_of}
-use Rattle.faces.specs.Ranking.{Leads, step, there}
+use Rattle.faces.specs.Joined.{AreKnown}
 use Rattle.faces.proofs.PairCounts.{by_lt}
 use Rattle.faces.proofs.PlaneLaws.{has_at}
 

@@ -2,7 +2,7 @@
 use Rattle.std.specs.Prelude.{◌≡◌, ◌⊎◌, ◌↔◌, ℕ, suc, ◌<◌, max, List, [], ◌∷◌, length, take, slice_index}
 use Rattle.plane.specs.Lists.{Has}
 use Rattle.plane.specs.Runs.Gaps.{Gap}
-use Rattle.half_edges.specs.HalfEdges.{HalfEdges, size, next_of}
+use Rattle.half_edges.specs.HalfEdges.{HalfEdges, size}
 use Rattle.faces.specs.Joined.{AtBorder, Joined}
 
 -- The greatest of the numbers, 0 where there is none.

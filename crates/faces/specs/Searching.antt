@@ -1,5 +1,5 @@
 -- How far a search for faces has come.
-use Rattle.std.specs.Prelude.{◌≡◌, ◌⊎◌, ℕ, suc, ◌+◌, ◌-◌, ◌^◌, ◌<◌, ◌≤◌, List, [], ◌∷◌, ◌++◌, length, take, slice_index, slice_set, vec_capacity}
+use Rattle.std.specs.Prelude.{◌≡◌, ◌⊎◌, ℕ, suc, ◌-◌, ◌^◌, ◌<◌, ◌≤◌, List, [], ◌∷◌, ◌++◌, length, take, slice_index, slice_set, vec_capacity}
 use Rattle.plane.specs.Lists.{Has, Once}
 use Rattle.plane.specs.Runs.Gaps.{Gap}
 use Rattle.half_edges.specs.HalfEdges.{HalfEdges, size, next_of, prev_of}

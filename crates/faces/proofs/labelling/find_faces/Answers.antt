@@ -1,4 +1,4 @@
-use Rattle.std.proofs.Common.{◌≡◌, ℕ, List, length, ap, sym, ◌∙◌, subst}
+use Rattle.std.proofs.Common.{ℕ, List, ap, sym, ◌∙◌, subst}
 use Rattle.half_edges.specs.HalfEdges.{HalfEdges, size}
 use Rattle.half_edges.specs.Meshes.{AgreesAlong}
 use Rattle.line_sweep.specs.declared.kinds.Cell.{Cell}

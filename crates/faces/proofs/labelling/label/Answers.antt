@@ -1,4 +1,4 @@
-use Rattle.std.proofs.Common.{◌≡◌, List, sym, subst, ℕ}
+use Rattle.std.proofs.Common.{List, sym, subst, ℕ}
 use Rattle.half_edges.specs.HalfEdges.{size}
 use Rattle.line_sweep.specs.declared.kinds.Cell.{Cell}
 use Rattle.line_sweep.specs.Kinds.{gaps_of}

@@ -1,4 +1,4 @@
-use Rattle.std.proofs.Common.{◌≡◌, ℕ, ◌+◌, ◌<◌, inl, inr, length, get_or, arith, ap, sym, ◌∙◌, subst, rules, vec_len}
+use Rattle.std.proofs.Common.{◌≡◌, ◌<◌, length, get_or, arith, sym, ◌∙◌, rules, vec_len}
 use Rattle.std.proofs.lemmas.List.{get_or_read}
 use Rattle.line_sweep.specs.Kinds.{gaps_of}
 use Rattle.faces.specs.Searching.{IsSet, unset}

@@ -1,5 +1,5 @@
-use Rattle.std.proofs.Common.{◌≡◌, ◌+◌, ◌<◌, length, get_or, arith, ap, sym, ◌∙◌}
-use Rattle.line_sweep.specs.Kinds.{gap_of, gaps_of}
+use Rattle.std.proofs.Common.{get_or, arith}
+use Rattle.line_sweep.specs.Kinds.{gap_of}
 use Rattle.line_sweep.proofs.CellGaps.{no_cell}
 use Rattle.faces.proofs.Borders.{border_cell, border_next}
 use Rattle.faces.proofs.PlaneLaws.{has_at, has_map}

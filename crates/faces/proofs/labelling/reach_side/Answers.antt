@@ -1,4 +1,4 @@
-use Rattle.std.proofs.Common.{◌≡◌, ℕ, ◌<◌, inl, inr, length, get_or, arith, ap, sym, ◌∙◌, subst, rules, vec_len, refl}
+use Rattle.std.proofs.Common.{◌≡◌, ℕ, inl, inr, length, get_or, arith, sym, ◌∙◌, subst, rules, vec_len}
 use Rattle.line_sweep.specs.Kinds.{gap_of, gaps_of}
 use Rattle.faces.specs.Joined.{AtBorder, highest, lowest}
 use Rattle.faces.proofs.Borders.{highest_is, lowest_is, side_face, side_kept, side_room, side_searched, side_waiting, side_within}

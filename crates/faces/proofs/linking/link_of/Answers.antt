@@ -1,4 +1,4 @@
-use Rattle.std.proofs.Common.{◌≡◌, ℕ, get_or, ap, sym, ◌∙◌}
+use Rattle.std.proofs.Common.{ℕ, get_or, ap, ◌∙◌}
 use Rattle.line_sweep.specs.Kinds.{gaps_of}
 use Rattle.faces.proofs.LinkSteps.{across_link, row_within}
 use Rattle.faces.proofs.linking.link_of.Goals as goal

@@ -1,4 +1,4 @@
-use Rattle.std.proofs.Common.{◌≡◌, ℕ, ◌+◌, ◌^◌, ◌<◌, ◌≤◌, List, inl, inr, length, get_or, arith, ap, sym, ◌∙◌, subst, refl, rules, vec_len, vec_capacity}
+use Rattle.std.proofs.Common.{◌≡◌, ℕ, ◌+◌, ◌<◌, inl, inr, length, get_or, arith, ap, sym, ◌∙◌, subst, refl, rules, vec_len}
 use Rattle.std.proofs.lemmas.List.{get_or_read}
 use Rattle.half_edges.specs.HalfEdges.{next_of, prev_of, size}
 use Rattle.line_sweep.specs.Kinds.{gaps_of}

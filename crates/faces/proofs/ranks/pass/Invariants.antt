@@ -1,4 +1,4 @@
-use Rattle.std.proofs.Common.{◌≡◌, ℕ, ◌+◌, ◌<◌, ◌≤◌, get_or}
+use Rattle.std.proofs.Common.{◌≡◌, ℕ, ◌+◌, ◌<◌, get_or}
 use Rattle.half_edges.specs.HalfEdges.{next_of, prev_of}
 use Rattle.line_sweep.specs.Kinds.{gaps_of}
 use Rattle.faces.specs.Searching.{IsKept}

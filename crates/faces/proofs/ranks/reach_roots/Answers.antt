@@ -5,7 +5,7 @@ use Rattle.half_edges.specs.HalfEdges.{size}
 use Rattle.line_sweep.specs.Kinds.{gaps_of}
 use Rattle.faces.proofs.PairRows.{place_of}
 use Rattle.faces.proofs.PlaneLaws.{has_at}
-use Rattle.faces.proofs.RootRanks.{root_all, root_rank, root_ranked, root_room, roots_next, zero_next}
+use Rattle.faces.proofs.RootRanks.{root_all, root_ranked, root_room, roots_next, zero_next}
 use Rattle.faces.proofs.ranks.reach_roots.Goals as goal
 
 pub reach-requires-clause-within : goal.reach-requires-clause-within

@@ -1,4 +1,4 @@
-use Rattle.std.proofs.Common.{◌≡◌, ℕ, ◌<◌, get_or, length, take}
+use Rattle.std.proofs.Common.{◌≡◌, ℕ, ◌<◌, get_or}
 use Rattle.plane.specs.Lists.{Has}
 use Rattle.half_edges.specs.HalfEdges.{size}
 use Rattle.line_sweep.specs.Kinds.{gaps_of}

@@ -1,4 +1,4 @@
-use Rattle.std.proofs.Common.{ℕ, subst, sym, arith}
+use Rattle.std.proofs.Common.{arith}
 use Rattle.line_sweep.specs.Kinds.{gaps_of}
 use Rattle.faces.proofs.CellPairs.{known_more}
 use Rattle.faces.proofs.graph.Graph.new.Goals as goal
