@@ -1,0 +1,14 @@
+pub mod PlaneLaws
+pub mod AnswerLaws
+pub mod RunFaces
+pub mod Proving
+pub mod Small
+pub mod PointCells
+pub mod FaultLaws
+pub mod Naming
+pub mod MeshedRuns
+pub mod OwnedFaces
+pub mod Roots
+pub mod CertifiedNotes
+pub mod Composing
+pub mod CertifyCalls

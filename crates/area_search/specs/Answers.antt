@@ -1,0 +1,81 @@
+-- The answer to a drawing of straights: the first line that fits counts.
+use Rattle.std.specs.Prelude.{◌≡◌, ℕ, ◌<◌, Bool, true, false, []}
+use Rattle.plane.specs.Rule.BadPairs.{IsBadPair}
+use Rattle.plane.specs.Rule.Plans.{Plan}
+use Rattle.certificate.specs.declared.notes.Certificate.{Certificate}
+use Rattle.certificate_checker.specs.Subjects.{claims}
+use Rattle.certificate_checker.specs.Verdicts.{Proves}
+use Rattle.area_search.specs.declared.kinds.AreaFinding.{AreaFinding}
+use Rattle.area_search.specs.declared.kinds.AreaFinding.TheVariants.{Meeting, On, Outside, Two, Empty}
+use Rattle.area_search.specs.declared.kinds.AreaAnswer.{AreaAnswer}
+use Rattle.area_search.specs.declared.kinds.AreaAnswer.TheVariants.{Proved, Fault}
+use Rattle.area_search.specs.Faults.{LiesOn, LiesOutside, AreTwo, IsEmptySide}
+
+-- ---- none of a kind
+abbrev pub HasNoBadPair : Plan → Type 0
+HasNoBadPair d = (i j : ℕ) → IsBadPair d i j → ⊥
+
+-- no bad pair, and no object's point on a curve
+pub record AreClear (d : Plan) : Type 0 where
+  pub pairs : HasNoBadPair d
+  pub points : (j i : ℕ) → LiesOn d j i → ⊥
+
+-- and no object's point outside
+pub record AreInside (d : Plan) : Type 0 where
+  pub clear : AreClear d
+  pub none : (j : ℕ) → LiesOutside d j → ⊥
+
+-- and no two of them joined
+pub record AreAlone (d : Plan) : Type 0 where
+  pub inside : AreInside d
+  pub none : (i j : ℕ) → AreTwo d i j → ⊥
+
+-- ---- the least of a kind
+-- the least point that lies on a curve, and the least curve on which it lies
+pub record IsLeastOn (d : Plan) (j i : ℕ) : Type 0 where
+  pub on : LiesOn d j i
+  pub no_point : (k l : ℕ) → k < j → LiesOn d k l → ⊥
+  pub no_curve : (l : ℕ) → l < i → LiesOn d j l → ⊥
+
+pub record IsLeastOutside (d : Plan) (j : ℕ) : Type 0 where
+  pub outside : LiesOutside d j
+  pub none : (k : ℕ) → k < j → LiesOutside d k → ⊥
+
+-- the least first point, and the least second one with it
+pub record AreLeastTwo (d : Plan) (i j : ℕ) : Type 0 where
+  pub two : AreTwo d i j
+  pub no_first : (k l : ℕ) → k < i → AreTwo d k l → ⊥
+  pub no_second : (l : ℕ) → l < j → AreTwo d i l → ⊥
+
+-- the least curve with an empty side, and its left side before its right one
+pub record IsLeastEmpty (d : Plan) (i : ℕ) (left : Bool) : Type 0 where
+  pub empty : IsEmptySide d i left
+  pub no_curve : (k : ℕ) (side : Bool) → k < i → IsEmptySide d k side → ⊥
+  pub no_left : left ≡ false → IsEmptySide d i true → ⊥
+
+-- the certificate has no names
+pub record IsNameless (c : Certificate) : Type 0 where
+  pub topic : c.topic ≡ []
+  pub table : c.table ≡ []
+  pub attribute : c.attribute ≡ []
+
+-- The answer to the drawing, one line for each kind.
+pub data IsAnswer (d : Plan) : AreaAnswer → Type 0 where
+  -- a pair that is bad; which of several is free
+  meeting : (i j : ℕ) → IsBadPair d i j → IsAnswer d (Fault (Meeting i j))
+  -- else the least point on a curve, and its least curve
+  on : (j i : ℕ) → HasNoBadPair d → IsLeastOn d j i → IsAnswer d (Fault (On j i))
+  -- else the least point outside
+  outside : (j : ℕ) → AreClear d → IsLeastOutside d j → IsAnswer d (Fault (Outside j))
+  -- else the least two points that are joined
+  two : (i j : ℕ) → AreInside d → AreLeastTwo d i j → IsAnswer d (Fault (Two i j))
+  -- else the least empty side
+  empty : (i : ℕ) (left : Bool) → AreAlone d → IsLeastEmpty d i left → IsAnswer d (Fault (Empty i left))
+  -- else a certificate that proves the drawing, at the level of straights
+  proved : (c : Certificate) → Proves d (claims c) → c.level ≡ 0 → IsNameless c → IsAnswer d (Proved c)
+
+-- Two answers agree where they are equal but for the pair of a meeting, and for what a certificate says at its level.
+pub data Agree : AreaAnswer → AreaAnswer → Type 0 where
+  meetings : (i j k l : ℕ) → Agree (Fault (Meeting i j)) (Fault (Meeting k l))
+  faults : (f : AreaFinding) → Agree (Fault f) (Fault f)
+  certificates : (c e : Certificate) → c.level ≡ e.level → Agree (Proved c) (Proved e)

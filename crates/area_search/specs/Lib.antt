@@ -1,0 +1,9 @@
+pub mod Faults
+pub mod Answers
+pub mod Certifying
+pub mod Owners
+pub mod Sides
+pub mod PointFaces
+pub mod Judging
+pub mod Writing
+pub mod Meshing

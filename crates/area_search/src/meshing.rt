@@ -1,0 +1,131 @@
+// The mesh of a sweep's run: the events are replayed once, and then turned one after another.
+ghost use Rattle.std.specs.Prelude.{◌≡◌, ℕ, ◌+◌, ◌^◌, ◌<◌, ◌≤◌, [], length};
+ghost use Rattle.std.specs.Prelude.{IfOk, OnOk};
+ghost use Rattle.event_mesh.specs.Turned.{IsTurned, ending_at};
+ghost use Rattle.line_sweep.specs.Kinds.{move_of, moves_of};
+ghost use Rattle.plane.specs.Lists.{Has};
+ghost use Rattle.plane.specs.Runs.Moves.{Fit, step_of, steps_from};
+ghost use Rattle.plane.specs.Runs.Steps.{Run, after};
+ghost use Rattle.straight_predicates.specs.EdgeEvents.{IsNoted};
+ghost use Rattle.straight_predicates.specs.EdgeLists.{edge_of};
+ghost use Rattle.straight_predicates.specs.Rows.{room_of, values_of};
+ghost use Rattle.area_search.specs.Meshing.{HasNoted, IsWidest, NotesStep};
+
+use event_mesh::{mesh_of, turn_event};
+use half_edges::{HalfEdgeId, Mesh};
+use line_sweep::{Event, Swept};
+use plane::Edge;
+use ports::Memory;
+use std::alloc::Global;
+use straight_predicates::Row;
+
+/// What a replay notes: by the edges' numbers the events at their low and at their high ends, and
+/// the edges that end, event by event, from below.
+#[derive(Drop)]
+struct Noted {
+    low: Vec<u32>,
+    high: Vec<u32>,
+    ended: Vec<u32>,
+}
+
+/// The mesh of the run that the events of a sweep over these edges make, with all events turned.
+/// The only error is want of memory. It takes time linear in the edges and in what the live list
+/// moves, as the sweep does, and at most 48 bytes an edge, of which 32 stay.
+pub(crate) fn mesh_of_run(alloc: Global, edges: &[Edge], swept: &Swept) -> Result<Mesh, Memory>
+    requires few { length edges.now < 2 ^ 31 }
+    requires run { Run (length edges.now) (edge_of edges.now) (steps_from []
+        (moves_of swept.now.events.items)) }
+    requires fit { Fit [] (moves_of swept.now.events.items) }
+    ensures turned { IfOk result (λ mesh. IsTurned (length edges.now) (edge_of edges.now)
+        (steps_from [] (moves_of swept.now.events.items)) mesh (length (steps_from []
+        (moves_of swept.now.events.items)))) }
+{
+    let noted = note_events(alloc, edges, &swept.events)?;
+    let events = swept.events.len() as u32;
+    let mut mesh = mesh_of(alloc, events, &noted.low, &noted.high)?;
+    let mut fan = vec![in alloc; HalfEdgeId(0); widest(&swept.events)]?;
+    let mut from = 0;
+    for event in &swept.events {
+        let upto = from + event.ending as usize;
+        turn_event(
+            &mut mesh,
+            &event.starting,
+            &noted.ended[from..upto],
+            &mut fan,
+        );
+        from = upto;
+    }
+    Ok(mesh)
+}
+
+/// The most edges that start or end at one event, and 0 where there is no event.
+fn widest(events: &[Event]) -> usize
+    ensures { IsWidest (moves_of events.now) (length events.now) result }
+{
+    let mut most = 0;
+    for event in events {
+        most = most.max(event.starting.len() + event.ending as usize);
+    }
+    most
+}
+
+/// Replays all events and notes them.
+fn note_events(alloc: Global, edges: &[Edge], events: &[Event]) -> Result<Noted, Memory>
+    requires few { length events.now < 2 ^ 32 }
+    requires run { Run (length edges.now) (edge_of edges.now) (steps_from []
+        (moves_of events.now)) }
+    requires fit { Fit [] (moves_of events.now) }
+    ensures { IfOk result (λ noted. HasNoted (length edges.now) (steps_from []
+        (moves_of events.now)) (length events.now) noted) }
+{
+    let low = vec![in alloc; 0u32; edges.len()]?;
+    let high = vec![in alloc; 0u32; edges.len()]?;
+    let ended = Vec::with_capacity(alloc, edges.len())?;
+    let mut live = Row::new(alloc, edges.len())?;
+    let mut noted = Noted { low, high, ended };
+    for (number, event) in events.iter().enumerate() {
+        note_event(number as u32, event, &mut live, &mut noted)?;
+    }
+    Ok(noted)
+}
+
+/// Notes the event of that number, and puts the edges that start there in the place of those that
+/// end.
+fn note_event(
+    number: u32,
+    event: &Event,
+    live: &mut Row<u32>,
+    noted: &mut Noted,
+) -> Result<(), Memory>
+    requires block { event.now.position + event.now.ending ≤ length (values_of live.old) }
+    requires room { length (values_of live.old) + length event.now.starting.items
+        ≤ room_of live.old + event.now.ending }
+    requires starting { (e : ℕ) → Has e event.now.starting.items
+        → e < length noted.old.low.items }
+    requires ending { (e : ℕ) → Has e (ending_at (values_of live.old) (move_of event.now))
+        → e < length noted.old.high.items }
+    ensures noted { OnOk result (NotesStep number (step_of (values_of live.old)
+        (move_of event.now)) noted.old noted.new) }
+    ensures values { OnOk result (values_of live.new
+        ≡ after (step_of (values_of live.old) (move_of event.now))) }
+    ensures room { OnOk result (room_of live.new ≡ room_of live.old) }
+{
+    let from = event.position as usize;
+    let count = event.ending as usize;
+    let block = &live.values()[from..from + count];
+    note(&mut noted.low, &event.starting, number);
+    note(&mut noted.high, block, number);
+    noted.ended.extend_from_slice(block)?;
+    live.replace(from, count, &event.starting);
+    Ok(())
+}
+
+/// Writes the event to the entry of each of these edges.
+fn note(events: &mut [u32], edges: &[u32], event: u32)
+    requires { (e : ℕ) → Has e edges.now → e < length events.old }
+    ensures { IsNoted edges.now event events.old events.new }
+{
+    for e in edges {
+        events[*e as usize] = event;
+    }
+}
