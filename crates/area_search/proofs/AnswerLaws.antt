@@ -1,18 +1,18 @@
 -- Answers to one drawing.
-use Rattle.std.proofs.Common.{◌≡◌, ℕ, zero, suc, ◌+◌, ◌<◌, ◌≤◌, Bool, true, false, [], List, length, refl, sym, ap, subst, ◌∙◌, inl, inr, arith}
+use Rattle.std.proofs.Common.{◌≡◌, ℕ, zero, suc, ◌<◌, Bool, true, false, refl, sym, ap, subst, ◌∙◌, inl, inr, arith}
 use Rattle.plane.specs.declared.kinds.Curve.{Curve}
-use Rattle.plane.specs.Rule.BadPairs.{AreBad, IsBadPair}
+use Rattle.plane.specs.Rule.BadPairs.{AreBad}
 use Rattle.plane.specs.Rule.Partition.{IsPartition}
 use Rattle.plane.specs.Rule.Plans.{Plan}
 use Rattle.plane.specs.Rule.Triangles.{Apart}
 use Rattle.certificate.specs.declared.notes.Certificate.{Certificate}
 use Rattle.certificate_checker.specs.Subjects.{Claims, claims}
 use Rattle.certificate_checker.specs.Verdicts.{Proves}
-use Rattle.area_search.specs.declared.kinds.AreaFinding.TheVariants.{Meeting, On, Outside, Two, Empty}
+use Rattle.area_search.specs.declared.kinds.AreaFinding.TheVariants.{On, Outside, Two, Empty}
 use Rattle.area_search.specs.declared.kinds.AreaAnswer.{AreaAnswer}
-use Rattle.area_search.specs.declared.kinds.AreaAnswer.TheVariants.{Proved, Fault, Undecided}
-use Rattle.area_search.specs.Faults.{LiesOn, LiesOutside, AreTwo, IsEmptySide, end_on}
-use Rattle.area_search.specs.Answers.{HasNoBadPair, AreClear, AreInside, AreAlone, IsLeastOn, IsLeastOutside, AreLeastTwo, IsLeastEmpty, IsAnswer, meeting, on, outside, two, empty, proved, Agree, meetings, faults, certificates}
+use Rattle.area_search.specs.declared.kinds.AreaAnswer.TheVariants.{Proved, Fault}
+use Rattle.area_search.specs.Faults.{LiesOn, LiesOutside, AreTwo, IsEmptySide}
+use Rattle.area_search.specs.Answers.{HasNoBadPair, IsLeastOn, IsLeastOutside, AreLeastTwo, IsLeastEmpty, IsAnswer, meeting, on, outside, two, empty, proved, Agree, meetings, faults, certificates}
 
 -- ---- a partition has no fault
 

@@ -1,12 +1,11 @@
 -- The notes of the faces, under the names of their owners, certify the drawing.
-use Rattle.std.proofs.Common.{◌≡◌, ◌⊎◌, inl, inr, ℕ, zero, suc, ◌+◌, ◌*◌, ◌<◌, ◌≤◌, Bool, true, false, nat_lt, List, [], ◌∷◌, map, length, get_or, slice_index, slice_index_or, refl, sym, ap, subst, ◌∙◌, arith, pos}
+use Rattle.std.proofs.Common.{◌≡◌, inl, inr, ℕ, zero, suc, ◌<◌, ◌≤◌, Bool, true, false, nat_lt, List, [], ◌∷◌, map, length, get_or, slice_index, slice_index_or, refl, sym, ap, subst, ◌∙◌, arith, pos}
 use Rattle.std.proofs.lemmas.Bool.Decides.{nat_tests}
 use Rattle.std.proofs.lemmas.List.{get_or_past, length-map}
 use Rattle.half_edges.specs.HalfEdges.{HalfEdges, next_of, prev_of, size}
 use Rattle.plane.specs.declared.kinds.Edge.{Edge}
 use Rattle.plane.specs.Faces.Certified.{Certified, FoundLead, IsComplete, IsRoot}
 use Rattle.plane.specs.Faces.Classes.{Across, AreLeads, IsFaces, IsLead, Lead, Next, numbers, across, next, previous, root}
-use Rattle.plane.specs.Faces.DrawnRuns.{drawn}
 use Rattle.plane.specs.Faces.Halves.{At, Half, IsMatched, edge_of, half_of, mark, number, over, twin, under}
 use Rattle.plane.specs.Faces.Cells.{label_of, position}
 use Rattle.plane.specs.Faces.PlacedPoints.{IsPlaced}
@@ -15,20 +14,18 @@ use Rattle.plane.specs.Rule.Plans.{Plan, object}
 use Rattle.plane.specs.Runs.Gaps.{Gap, closed_gaps}
 use Rattle.plane.specs.Runs.Moves.{Fit, Move, steps_from}
 use Rattle.plane.specs.Runs.Steps.{Run}
-use Rattle.plane.specs.Runs.Timetables.{IsTimetable, Timed, moves_at}
+use Rattle.plane.specs.Runs.Timetables.{IsTimetable}
 use Rattle.certificate.specs.declared.notes.HalfNote.{HalfNote}
 use Rattle.certificate.specs.declared.notes.Link.{Link}
 use Rattle.certificate.specs.declared.notes.Link.TheVariants as link
-use Rattle.certificate.specs.declared.notes.PointPlace.{PointPlace}
 use Rattle.certificate.specs.declared.notes.PointPlace.TheVariants as point_place
-use Rattle.certificate_checker.specs.Subjects.{Claims, Subject, edge, labels, moves, note_at, place_at, rank, replay_of}
-use Rattle.certificate_checker.specs.Rules.{HasCounts, HasLowLabels}
+use Rattle.certificate_checker.specs.Subjects.{Claims, Subject, labels, moves, note_at, place_at, rank, replay_of}
+use Rattle.certificate_checker.specs.Rules.{HasCounts}
 use Rattle.certificate_checker.specs.Verdicts.{subject_of}
-use Rattle.faces.specs.Joined.{Across as IsAcross, AreKnown, IsBetween, over_of, under_of}
+use Rattle.faces.specs.Joined.{Across as IsAcross}
 use Rattle.faces.specs.Ranking.{AreNotes, IsLink, no_note}
 use Rattle.line_sweep.specs.Sweeping.{HasTimetable}
 use Rattle.point_location.specs.declared.places.Place.{Place}
-use Rattle.point_location.specs.declared.places.Place.TheVariants as place
 use Rattle.point_location.specs.Places.{no_place}
 use Rattle.straight_predicates.specs.EdgeLists.{edge_of as edge_in}
 use Rattle.tubes.specs.DrawnEdges.{edges_of}
@@ -36,11 +33,11 @@ use Rattle.tubes.proofs.EdgeLemmas.{edge_count}
 use Rattle.area_search.specs.Certifying.{Certifies, Says, says_across, says_next, says_previous, says_root}
 use Rattle.area_search.specs.Judging.{AreOwned, HasFaces, IsDrawnMesh, IsPlacedIn, IsSwept}
 use Rattle.area_search.specs.Writing.{all_roots, named, positions_of, written_place}
-use Rattle.area_search.proofs.FaultLaws.{by_test, edges_size, fs_size, own_cell, points_size}
+use Rattle.area_search.proofs.FaultLaws.{by_test, own_cell, points_size}
 use Rattle.area_search.proofs.OwnedFaces.{complete, is_before, name_in, names_are_faces, zero_name}
 use Rattle.area_search.proofs.PlaneLaws.{across_gap, half_number, next_has, number_half, run_complete, run_leaves_none, run_next_face}
 use Rattle.area_search.proofs.PointCells.{label_before, over_or}
-use Rattle.area_search.proofs.Roots.{F, Root, index_at, listed_root, m, names, r, roots, strip_at}
+use Rattle.area_search.proofs.Roots.{F, Root, index_at, listed_root, r, strip_at}
 use Rattle.area_search.proofs.RunFaces.{either_across, face_in, gap_within, number_within, to_next, within}
 use Rattle.area_search.proofs.Small.{funext}
 

@@ -1,5 +1,5 @@
 -- What the writing of a certificate asks of its parts, and what it gives.
-use Rattle.std.proofs.Common.{◌≡◌, ◌⊎◌, inl, inr, ℕ, zero, suc, ◌+◌, ◌*◌, ◌^◌, ◌<◌, ◌≤◌, Option, Some, None, List, [], ◌∷◌, ◌++◌, map, length, take, get_or, slice_index_or, refl, sym, ap, subst, ◌∙◌, arith}
+use Rattle.std.proofs.Common.{◌≡◌, ◌⊎◌, inl, inr, ℕ, ◌^◌, ◌<◌, ◌≤◌, Option, Some, None, List, [], map, length, take, slice_index_or, refl, sym, subst, ◌∙◌, arith}
 use Rattle.std.specs.List.{flat_map}
 use Rattle.std.proofs.lemmas.List.{get_or_default}
 use Rattle.half_edges.specs.HalfEdges.{HalfEdges, size}
@@ -7,29 +7,24 @@ use Rattle.plane.specs.declared.kinds.Edge.{Edge}
 use Rattle.plane.specs.Lists.{Has}
 use Rattle.plane.specs.Rule.Plans.{Plan}
 use Rattle.plane.specs.Runs.Gaps.{Gap, closed_gaps, edge_at, edge_before}
-use Rattle.plane.specs.Runs.Moves.{Move, live_from, steps_from}
+use Rattle.plane.specs.Runs.Moves.{Move, live_from}
 use Rattle.certificate.specs.declared.notes.HalfNote.{HalfNote}
 use Rattle.certificate.specs.declared.notes.PointPlace.{PointPlace}
-use Rattle.certificate_checker.specs.Subjects.{Claims}
 use Rattle.certificate_checker.specs.Verdicts.{Proves}
-use Rattle.faces.specs.Joined.{AreKnown, over_of, under_of}
-use Rattle.faces.specs.Ranking.{AreNotes}
+use Rattle.faces.specs.Joined.{AreKnown}
 use Rattle.line_sweep.specs.declared.kinds.Cell.{Cell}
 use Rattle.line_sweep.specs.Kinds.{gap_of, gaps_of}
-use Rattle.line_sweep.specs.Sweeping.{HasTimetable}
 use Rattle.line_sweep.proofs.CellGaps.{gap_has}
 use Rattle.point_location.specs.declared.places.Place.{Place}
 use Rattle.point_location.specs.declared.places.Place.TheVariants as place
 use Rattle.point_location.specs.Places.{no_place}
 use Rattle.straight_predicates.specs.EdgeLists.{edge_of}
-use Rattle.tubes.specs.DrawnEdges.{AreStraights, edges_of}
-use Rattle.area_search.specs.Judging.{AreOwned, HasFaces, IsDrawnMesh, IsPlacedIn, IsSwept}
+use Rattle.tubes.specs.DrawnEdges.{edges_of}
+use Rattle.area_search.specs.Judging.{IsDrawnMesh, IsPlacedIn, IsSwept}
 use Rattle.area_search.specs.Writing.{IsSmall, IsSmallCell, IsSmallPlace, all_roots, border_roots, cell_roots, named, over_some, place_roots, positions_of, under_some, written_place}
-use Rattle.area_search.proofs.CertifiedNotes.{certifies, written}
+use Rattle.area_search.proofs.CertifiedNotes.{written}
 use Rattle.area_search.proofs.FaultLaws.{at_has, before_has, own_cell, points_size}
-use Rattle.area_search.proofs.PlaneLaws.{has_append, has_at, run_known}
-use Rattle.area_search.proofs.PointCells.{CellOf}
-use Rattle.area_search.proofs.Proving.{certifies_proves}
+use Rattle.area_search.proofs.PlaneLaws.{has_append, run_known}
 use Rattle.area_search.proofs.Roots.{flat_has, has_index}
 
 small_side : (n : ℕ) (gs : List Gap) → AreKnown n gs → n < 2 ^ 32 → (g : Gap) → Has g gs → (o : Option ℕ) → (g.lower ≡ o) ⊎ (g.upper ≡ o) → IsSmall o

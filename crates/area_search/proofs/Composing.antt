@@ -1,32 +1,27 @@
 -- From the contracts of the layers to what is judged.
-use Rattle.std.proofs.Common.{◌≡◌, ◌⊎◌, inl, inr, ℕ, zero, suc, ◌+◌, ◌*◌, ◌<◌, ◌≤◌, Option, Some, None, List, [], ◌∷◌, map, length, slice_index, slice_index_or, refl, sym, ap, subst, ◌∙◌, arith, pos}
+use Rattle.std.proofs.Common.{◌≡◌, ℕ, zero, suc, ◌*◌, ◌<◌, Some, None, List, [], ◌∷◌, map, length, slice_index, slice_index_or, refl, sym, ap, subst, ◌∙◌, arith, pos}
 use Rattle.std.proofs.lemmas.List.{length-map}
 use Rattle.event_mesh.specs.Turned.{IsTurned}
 use Rattle.half_edges.specs.HalfEdges.{HalfEdges, size}
 use Rattle.half_edges.specs.Meshes.{IsMesh, with_faces}
 use Rattle.plane.specs.declared.kinds.Edge.{Edge}
 use Rattle.plane.specs.declared.kinds.Placed.{Placed}
-use Rattle.plane.specs.Faces.Classes.{IsFaces}
-use Rattle.plane.specs.Faces.DrawnRuns.{IsRunOf, drawn}
-use Rattle.plane.specs.Faces.Halves.{number}
 use Rattle.plane.specs.Forms.Meets.{Bad}
 use Rattle.plane.specs.Forms.Segments.{IsEdgeOf}
 use Rattle.plane.specs.Lists.{Has}
-use Rattle.plane.specs.Rule.BadPairs.{IsBadPair}
 use Rattle.plane.specs.Rule.Plans.{Plan, curve, object}
 use Rattle.plane.specs.Runs.Gaps.{Gap, closed_gaps}
-use Rattle.plane.specs.Runs.Moves.{Fit, Move, live_from, steps_from}
-use Rattle.plane.specs.Runs.Steps.{Run, Step}
+use Rattle.plane.specs.Runs.Moves.{Fit, Move, steps_from}
+use Rattle.plane.specs.Runs.Steps.{Run}
 use Rattle.straight_predicates.specs.EdgeLists.{AreSorted, IsCloseToAll, edge_of, no_point}
 use Rattle.line_sweep.specs.Kinds.{AreBad}
 use Rattle.meetings.specs.StraightEdges.{AreEdgesTo}
 use Rattle.meetings.proofs.BadCurves.{bad_back, none_is_bad, pair_is_bad}
 use Rattle.point_location.specs.declared.places.Place.{Place}
-use Rattle.point_location.specs.declared.places.Place.TheVariants as place
-use Rattle.point_location.specs.Places.{ArePlaces, no_place}
+use Rattle.point_location.specs.Places.{ArePlaces}
 use Rattle.tubes.specs.DrawnEdges.{AreStraights, edges_of}
 use Rattle.tubes.proofs.EdgeLemmas.{drawn_edges, edge_count}
-use Rattle.faces.specs.Joined.{AreKnown, over_of}
+use Rattle.faces.specs.Joined.{AreKnown}
 use Rattle.faces.specs.Labels.{AreFaces, greatest}
 use Rattle.area_search.specs.declared.kinds.AreaAnswer.TheVariants.{Fault}
 use Rattle.area_search.specs.declared.kinds.AreaFinding.TheVariants.{Meeting, On}
@@ -35,8 +30,8 @@ use Rattle.area_search.specs.Answers.{IsAnswer, meeting, on}
 use Rattle.area_search.specs.Faults.{LiesOn}
 use Rattle.area_search.specs.Judging.{HasFaces, IsDrawnMesh, IsPlacedIn, IsSwept}
 use Rattle.area_search.specs.PointFaces.{AreInCells, IsFirstOn}
-use Rattle.area_search.proofs.PlaneLaws.{closed_edges, run_known, run_leaves_none}
-use Rattle.area_search.proofs.PointCells.{CellOf, cell_of, count, edge_at_point, lies_on, nth_point, off_curves, on_edge}
+use Rattle.area_search.proofs.PlaneLaws.{closed_edges, run_known}
+use Rattle.area_search.proofs.PointCells.{cell_of, count, edge_at_point, lies_on, nth_point, off_curves, on_edge}
 use Rattle.area_search.proofs.RunFaces.{are_faces}
 
 by_order : (i j : ℕ) → (i < j → ⊥) → (i ≡ j → ⊥) → j < i

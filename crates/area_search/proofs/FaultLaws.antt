@@ -1,24 +1,22 @@
 -- What the places of points and the faces of half-edges tell of a drawing.
-use Rattle.std.proofs.Common.{◌≡◌, ◌⊎◌, ◌↔◌, inl, inr, ℕ, zero, suc, ◌+◌, ◌*◌, ◌<◌, ◌≤◌, Bool, true, false, not, cond, nat_lt, Option, Some, None, List, [], ◌∷◌, map, length, take, get_or, slice_index, slice_index_or, refl, sym, ap, subst, ◌∙◌, arith, pos}
+use Rattle.std.proofs.Common.{◌≡◌, ◌⊎◌, ◌↔◌, inl, inr, ℕ, zero, suc, ◌+◌, ◌*◌, ◌<◌, Bool, true, false, nat_lt, Option, Some, None, List, [], ◌∷◌, length, take, slice_index, slice_index_or, refl, sym, ap, subst, ◌∙◌, arith, pos}
 use Rattle.std.proofs.lemmas.Bool.Decides.{nat_tests}
 use Rattle.std.proofs.lemmas.List.{length-map}
 use Rattle.half_edges.specs.HalfEdges.{HalfEdges, size}
-use Rattle.plane.specs.declared.kinds.Curve.{Curve}
 use Rattle.plane.specs.declared.kinds.Edge.{Edge}
 use Rattle.plane.specs.Faces.Cells.{position}
 use Rattle.plane.specs.Faces.Certified.{AreLocated}
-use Rattle.plane.specs.Faces.Classes.{IsFaces, face_of}
+use Rattle.plane.specs.Faces.Classes.{face_of}
 use Rattle.plane.specs.Faces.DrawnRuns.{drawn}
 use Rattle.plane.specs.Faces.PlacedPoints.{IsLocated}
-use Rattle.plane.specs.Faces.Halves.{Half, number, over, under}
+use Rattle.plane.specs.Faces.Halves.{number, over, under}
 use Rattle.plane.specs.Faces.Replays.{Replay}
 use Rattle.plane.specs.Forms.Segments.{IsEdgeOf}
 use Rattle.plane.specs.Lists.{Has}
-use Rattle.plane.specs.Rule.CrossedCurves.{CrossesCurve, IsEmptyAbove, IsEmptyBelow, IsLost, IsUnnamed}
-use Rattle.plane.specs.Rule.CurveCrossings.{Crosses}
+use Rattle.plane.specs.Rule.CrossedCurves.{IsEmptyAbove, IsEmptyBelow, IsUnnamed}
 use Rattle.plane.specs.Forms.Vectors.{Before}
 use Rattle.plane.specs.Rule.Partition.{IsOuter, Joined}
-use Rattle.plane.specs.Rule.Places.{Vector, point}
+use Rattle.plane.specs.Rule.Places.{point}
 use Rattle.plane.specs.Rule.Plans.{Plan, curve, object}
 use Rattle.plane.specs.Runs.Gaps.{edge_at, edge_before}
 use Rattle.plane.specs.Runs.Moves.{Move, live_from, steps_from}
@@ -26,20 +24,20 @@ use Rattle.straight_predicates.specs.EdgeLists.{edge_of}
 use Rattle.point_location.specs.declared.places.Place.{Place}
 use Rattle.point_location.specs.declared.places.Place.TheVariants as place
 use Rattle.point_location.specs.Places.{no_place}
-use Rattle.tubes.specs.DrawnEdges.{edges_of, nth_curve}
+use Rattle.tubes.specs.DrawnEdges.{edges_of}
 use Rattle.tubes.proofs.EdgeLemmas.{edge_count}
 use Rattle.area_search.specs.declared.kinds.AreaAnswer.TheVariants.{Fault}
-use Rattle.area_search.specs.declared.kinds.AreaFinding.TheVariants.{Meeting, On, Outside, Two, Empty}
+use Rattle.area_search.specs.declared.kinds.AreaFinding.TheVariants.{Outside, Two, Empty}
 use Rattle.area_search.specs.declared.owners.Shared.{Shared}
 use Rattle.area_search.specs.declared.sides.Side.{Side}
-use Rattle.area_search.specs.Faults.{AreTwo, IsEmptySide, LiesOn, LiesOutside, end_on}
-use Rattle.area_search.specs.Answers.{AreAlone, AreClear, AreInside, IsAnswer, empty, on, outside, two}
+use Rattle.area_search.specs.Faults.{AreTwo, IsEmptySide}
+use Rattle.area_search.specs.Answers.{AreAlone, AreClear, AreInside, IsAnswer, empty, outside, two}
 use Rattle.area_search.specs.Judging.{HasFaces, IsPlacedIn, IsSwept, faces_of}
 use Rattle.area_search.specs.Owners.{AreOwners, AreShared, IsLeastShare, Share}
-use Rattle.area_search.specs.PointFaces.{AreInCells, IsFirstOn, IsFirstOutside, IsInCell, IsOver, IsPlaceIn, face_at, face_over}
-use Rattle.area_search.specs.Sides.{AreUnowned, HasNoUnowned, IsLeastUnowned, IsOnSide, IsUnowned, IsUnownedSide, back, forth, half_over}
+use Rattle.area_search.specs.PointFaces.{IsFirstOutside, IsOver, IsPlaceIn, face_at, face_over}
+use Rattle.area_search.specs.Sides.{IsLeastUnowned, IsOnSide, IsUnowned, IsUnownedSide, back, forth, half_over}
 use Rattle.area_search.proofs.PlaneLaws.{crosses_back, crosses_same, empty_above, empty_below, never, run_known}
-use Rattle.area_search.proofs.PointCells.{CellOf, cell, cell_of, count, edge_at_point, joined_is, lies_on, located, nth_face, off_curves, on_edge, outer_is, own_face}
+use Rattle.area_search.proofs.PointCells.{CellOf, cell, count, joined_is, located, nth_face, off_curves, outer_is, own_face}
 use Rattle.area_search.proofs.RunFaces.{face_in}
 
 pub at_has : (es : List ℕ) (i e : ℕ) → edge_at es i ≡ Some e → Has e es

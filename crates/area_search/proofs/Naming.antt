@@ -1,5 +1,5 @@
 -- Notes under the names of their faces, one by one.
-use Rattle.std.proofs.Common.{◌≡◌, ℕ, zero, suc, ◌+◌, ◌<◌, List, [], ◌∷◌, ◌++◌, length, map, take, drop, slice_index_or, slice_set, refl, sym, ap, subst, ◌∙◌, arith, add-one}
+use Rattle.std.proofs.Common.{◌≡◌, ℕ, zero, suc, ◌+◌, ◌<◌, List, [], ◌∷◌, ◌++◌, length, map, take, drop, slice_index_or, slice_set, refl, sym, ap, subst, arith, add-one}
 use Rattle.certificate.specs.declared.notes.HalfNote.{HalfNote}
 use Rattle.faces.specs.Ranking.{no_note}
 

@@ -1,30 +1,26 @@
 -- Faces with one point each are complete: their owners are the labels of a certificate.
-use Rattle.std.proofs.Common.{◌≡◌, ◌⊎◌, ◌↔◌, inl, inr, ℕ, zero, suc, ◌+◌, ◌*◌, ◌<◌, ◌≤◌, Bool, true, false, not, Option, Some, None, List, [], ◌∷◌, map, length, take, slice_index, slice_index_or, refl, sym, ap, subst, ◌∙◌, arith, pos}
-use Rattle.std.proofs.lemmas.List.{length-map}
-use Rattle.half_edges.specs.HalfEdges.{HalfEdges, size}
+use Rattle.std.proofs.Common.{◌≡◌, ◌⊎◌, inl, inr, ℕ, zero, suc, ◌+◌, ◌*◌, ◌<◌, ◌≤◌, Bool, true, false, Option, Some, None, List, [], ◌∷◌, length, take, slice_index, refl, sym, ap, subst, ◌∙◌, arith}
+use Rattle.half_edges.specs.HalfEdges.{HalfEdges}
 use Rattle.plane.specs.declared.kinds.Edge.{Edge}
-use Rattle.plane.specs.Faces.Cells.{IsSector, Sector, label_of, position}
-use Rattle.plane.specs.Faces.Certified.{IsComplete, IsRoot}
-use Rattle.plane.specs.Faces.Classes.{Across, Crossing, IsFaces, Touches, cross, face_of, numbers, same}
-use Rattle.plane.specs.Faces.Halves.{At, AtBefore, Beside, Half, edge_of, half_of, mark, number, over, under}
-use Rattle.plane.specs.Faces.Labels.{Labels, label_at}
-use Rattle.plane.specs.Faces.PlacedPoints.{IsLocated, IsPlaced}
+use Rattle.plane.specs.Faces.Cells.{position}
+use Rattle.plane.specs.Faces.Certified.{IsComplete}
+use Rattle.plane.specs.Faces.Classes.{IsFaces, Touches, face_of, numbers}
+use Rattle.plane.specs.Faces.Halves.{At, AtBefore, Half, edge_of, number, over, under}
+use Rattle.plane.specs.Faces.PlacedPoints.{IsPlaced}
 use Rattle.plane.specs.Faces.Replays.{Replay}
-use Rattle.plane.specs.Lists.{Has}
 use Rattle.plane.specs.Rule.Plans.{Plan, curve, object}
 use Rattle.plane.specs.Runs.Gaps.{edge_at, edge_before}
-use Rattle.plane.specs.Runs.Moves.{Move, live_from, steps_from}
+use Rattle.plane.specs.Runs.Moves.{Move, live_from}
 use Rattle.point_location.specs.declared.places.Place.{Place}
 use Rattle.straight_predicates.specs.EdgeLists.{edge_of as edge_in}
 use Rattle.tubes.specs.DrawnEdges.{edges_of}
-use Rattle.area_search.specs.Judging.{AreOwned, HasFaces, IsDrawnMesh, IsPlacedIn, IsSwept, faces_of}
-use Rattle.area_search.specs.Owners.{IsFirstOf, IsFree, Share}
+use Rattle.area_search.specs.Judging.{AreOwned, HasFaces, IsPlacedIn, IsSwept, faces_of}
 use Rattle.area_search.specs.PointFaces.{face_at, face_over}
-use Rattle.area_search.specs.Sides.{IsOnSide, IsUnowned, back, forth, half_over}
-use Rattle.area_search.proofs.FaultLaws.{Rr, E, by_test, drawn_ends, edges_size, face_known, fs_size, index, own_cell, points_size, strip}
-use Rattle.area_search.proofs.PlaneLaws.{half_number, list_is, renamed_faces, run_known}
+use Rattle.area_search.specs.Sides.{IsOnSide, IsUnowned, back, forth}
+use Rattle.area_search.proofs.FaultLaws.{Rr, by_test, drawn_ends, face_known, fs_size, index, own_cell, points_size, strip}
+use Rattle.area_search.proofs.PlaneLaws.{list_is, renamed_faces}
 use Rattle.area_search.proofs.PointCells.{CellOf, label_before, located, nth_face, over_or}
-use Rattle.area_search.proofs.RunFaces.{border_within, face_in, gap_within, number_within}
+use Rattle.area_search.proofs.RunFaces.{face_in}
 
 pub at_is : (es : List ℕ) (i e : ℕ) → edge_at es i ≡ Some e → At es i e
 at_is [] i e h = absurd (cc)

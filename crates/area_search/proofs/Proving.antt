@@ -1,11 +1,11 @@
 -- What a search finds proves the drawing: a run with certified labels and links meets all rules of a certificate.
-use Rattle.std.proofs.Common.{◌≡◌, ◌⊎◌, inl, inr, ℕ, zero, suc, ◌+◌, ◌*◌, ◌<◌, ◌≤◌, pos, ◌<ℤ◌, Bool, true, false, cond, List, [], ◌∷◌, length, take, drop, get_or, refl, sym, ap, subst, ◌∙◌, arith}
+use Rattle.std.proofs.Common.{◌≡◌, inl, inr, ℕ, zero, suc, ◌+◌, ◌*◌, ◌<◌, ◌≤◌, pos, ◌<ℤ◌, List, [], ◌∷◌, length, take, get_or, refl, sym, ap, subst, ◌∙◌, arith}
 use Rattle.std.proofs.lemmas.Int.{ints}
 use Rattle.std.proofs.lemmas.List.{drop-drop}
 use Rattle.plane.specs.declared.kinds.Point.{Point}
 use Rattle.plane.specs.Faces.Certified.{Certified, IsRoot}
-use Rattle.plane.specs.Faces.Classes.{IsLead, Lead, across, next, previous, root}
-use Rattle.plane.specs.Faces.Halves.{Half, IsMatched, edge_of, half_of, mark, number}
+use Rattle.plane.specs.Faces.Classes.{IsLead, Lead}
+use Rattle.plane.specs.Faces.Halves.{Half, IsMatched, edge_of, half_of, mark}
 use Rattle.plane.specs.Faces.Labels.{MatchesAt}
 use Rattle.plane.specs.Faces.PlacedPoints.{IsPlaced}
 use Rattle.plane.specs.Faces.Replays.{no_step}
@@ -13,16 +13,13 @@ use Rattle.plane.specs.Lists.{First, Last}
 use Rattle.plane.specs.Forms.Vectors.{Before, point, side}
 use Rattle.plane.specs.Rule.Plans.{Plan, object}
 use Rattle.plane.specs.Runs.Moves.{Fit, Move, live_from, no_move, step_of, steps_from}
-use Rattle.plane.specs.Runs.Positions.{turn_at}
 use Rattle.plane.specs.Runs.Steps.{GoodStep, Run, Turns, after}
 use Rattle.plane.specs.Runs.Timetables.{IsTimetable, Timed, move_at, no_event}
-use Rattle.certificate.specs.declared.notes.HalfNote.{HalfNote}
-use Rattle.certificate.specs.declared.notes.Link.TheVariants as link
 use Rattle.certificate.specs.declared.notes.PointPlace.TheVariants as place
 use Rattle.tubes.proofs.EdgeLemmas.{first_is, later_is}
-use Rattle.tubes.specs.DrawnEdges.{AreStraights, comes_first}
-use Rattle.certificate_checker.specs.Subjects.{Claims, Subject, edge, event, events_before, index_of, labels, live_list, moves, note_at, place_at, point_at, position_at, rank, replay_of, strip_of, under_place}
-use Rattle.certificate_checker.specs.Rules.{BetweenAt, BlockAt, HasCounts, HasLowLabels, IsLinked, IsPointPlaced, IsRootOf, LabelsAt, LeadsBy, PassesEvent, SlopesAt}
+use Rattle.tubes.specs.DrawnEdges.{AreStraights}
+use Rattle.certificate_checker.specs.Subjects.{Claims, Subject, edge, event, events_before, index_of, labels, live_list, moves, note_at, place_at, position_at, rank, replay_of, strip_of, under_place}
+use Rattle.certificate_checker.specs.Rules.{BetweenAt, BlockAt, HasCounts, HasLowLabels, IsPointPlaced, IsRootOf, LeadsBy, PassesEvent, SlopesAt}
 use Rattle.certificate_checker.specs.Verdicts.{AllRules, Proves, subject_of}
 use Rattle.certificate_checker.proofs.Runs.{move_is, moves_size, step_at_event}
 use Rattle.area_search.specs.Certifying.{Certifies, Says, says_across, says_next, says_previous, says_root}

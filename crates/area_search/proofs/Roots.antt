@@ -1,11 +1,10 @@
 -- The half-edges from which links begin are the roots of the drawing, and each half-edge leads to one.
-use Rattle.std.proofs.Common.{◌≡◌, ◌⊎◌, inl, inr, ℕ, zero, suc, ◌+◌, ◌*◌, ◌<◌, ◌≤◌, Option, Some, None, List, [], ◌∷◌, ◌++◌, map, length, slice_index, slice_index_or, refl, sym, ap, subst, ◌∙◌, arith, pos}
+use Rattle.std.proofs.Common.{◌≡◌, inl, inr, ℕ, suc, ◌<◌, Option, Some, None, List, [], ◌∷◌, ◌++◌, length, slice_index, slice_index_or, refl, sym, ap, subst, ◌∙◌, arith, pos}
 use Rattle.std.specs.List.{flat_map}
 use Rattle.std.proofs.lemmas.List.Concat.{flat_map-cons}
-use Rattle.half_edges.specs.HalfEdges.{HalfEdges, next_of, prev_of, size}
-use Rattle.half_edges.specs.Meshes.{IsMesh}
+use Rattle.half_edges.specs.HalfEdges.{HalfEdges}
 use Rattle.plane.specs.declared.kinds.Edge.{Edge}
-use Rattle.plane.specs.Faces.Cells.{IsSector, Sector, position}
+use Rattle.plane.specs.Faces.Cells.{Sector, position}
 use Rattle.plane.specs.Faces.Certified.{IsRoot}
 use Rattle.plane.specs.Faces.Classes.{Across, Crossing, Touches, cross, numbers, same}
 use Rattle.plane.specs.Faces.Halves.{At, AtBefore, Beside, Half, edge_of, half_of, mark, number, over, under}
@@ -15,17 +14,16 @@ use Rattle.plane.specs.Rule.Plans.{Plan, object}
 use Rattle.plane.specs.Runs.Gaps.{Gap, closed_gaps, edge_at, edge_before}
 use Rattle.plane.specs.Runs.Moves.{Move, steps_from}
 use Rattle.point_location.specs.declared.places.Place.{Place}
-use Rattle.point_location.specs.declared.places.Place.TheVariants as place
 use Rattle.point_location.specs.Places.{no_place}
-use Rattle.faces.specs.Joined.{Across as IsAcross, AtBorder, highest, lowest, over_of, under_of}
+use Rattle.faces.specs.Joined.{AtBorder, highest, lowest}
 use Rattle.faces.specs.Ranking.{AreRooted, Leads, step, there}
 use Rattle.area_search.specs.Judging.{AreOwned, HasFaces, IsDrawnMesh, IsPlacedIn, IsSwept}
 use Rattle.area_search.specs.Writing.{all_roots, border_roots, cell_roots, over_some, place_roots, under_some}
-use Rattle.area_search.proofs.FaultLaws.{E, Rr, by_test, index, own_cell, points_size, strip}
+use Rattle.area_search.proofs.FaultLaws.{E, Rr, by_test, index, points_size, strip}
 use Rattle.area_search.proofs.OwnedFaces.{at_is, before_is, complete, c, is_at, is_before, list_now, lower_some, name_in, names_are_faces, now, over_name, upper_some, zero_name}
-use Rattle.area_search.proofs.PlaneLaws.{across_gap, has_append, has_at, has_back, has_front, half_number, number_half, number_one, run_leaves_none, run_rooted, some_same}
+use Rattle.area_search.proofs.PlaneLaws.{across_gap, has_append, has_at, has_back, has_front, half_number, number_half, number_one, run_leaves_none, run_rooted}
 use Rattle.area_search.proofs.PointCells.{CellOf, located}
-use Rattle.area_search.proofs.RunFaces.{border_within, from_gap, from_touches, gap_within, number_within, to_touches, within}
+use Rattle.area_search.proofs.RunFaces.{from_gap, from_touches, gap_within, to_touches, within}
 
 has_flat : {X : Type 0} (f : X → List ℕ) (xs : List X) (y : X) (x : ℕ) → Has y xs → Has x (f y) → Has x (flat_map f xs)
 has_flat f [] y x h k = absurd h

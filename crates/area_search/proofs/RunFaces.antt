@@ -1,11 +1,10 @@
 -- The face numbers of a mesh of a run are its face numbers in the plane.
-use Rattle.std.proofs.Common.{◌≡◌, ◌⊎◌, ◌↔◌, inl, inr, ℕ, suc, ◌+◌, ◌*◌, ◌<◌, ◌≤◌, ℤ, Option, Some, None, List, [], length, slice_index, refl, sym, ap, subst, ◌∙◌, arith}
+use Rattle.std.proofs.Common.{◌≡◌, inl, inr, ℕ, ◌*◌, ◌<◌, ℤ, List, [], length, slice_index, refl, sym, ap, subst, ◌∙◌, arith}
 use Rattle.plane.specs.declared.kinds.Edge.{Edge}
 use Rattle.plane.specs.Faces.Classes.{Across, Connected, IsFaces, Next, Touches, same, cross, go, return, outside}
 use Rattle.plane.specs.Faces.Halves.{Half, edge_of, half_of, number, over, twin, under}
 use Rattle.plane.specs.Faces.Replays.{Replay, replay}
-use Rattle.plane.specs.Lists.{Has}
-use Rattle.plane.specs.Runs.Gaps.{AtBorder as IsAtBorder, Closes, Gap, GapBetween, closed_gaps}
+use Rattle.plane.specs.Runs.Gaps.{AtBorder as IsAtBorder, Gap, GapBetween, closed_gaps}
 use Rattle.plane.specs.Runs.Moves.{Fit, Move, live_from, steps_from}
 use Rattle.plane.specs.Runs.Steps.{Run}
 use Rattle.half_edges.specs.HalfEdges.{HalfEdges, next_of, size}

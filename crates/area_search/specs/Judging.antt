@@ -1,5 +1,5 @@
 -- What is judged: a drawing, the run of its edges, the places of its points and the faces of its half-edges.
-use Rattle.std.specs.Prelude.{◌≡◌, ℕ, suc, ◌*◌, ◌<◌, pos, None, List, [], length, map, slice_index}
+use Rattle.std.specs.Prelude.{◌≡◌, ℕ, ◌*◌, ◌<◌, pos, None, List, [], length, map, slice_index}
 use Rattle.event_mesh.specs.Turned.{IsTurned}
 use Rattle.half_edges.specs.HalfEdges.{HalfEdges, size}
 use Rattle.half_edges.specs.Meshes.{IsMesh}
@@ -15,7 +15,6 @@ use Rattle.point_location.specs.declared.places.Place.{Place}
 use Rattle.point_location.specs.Places.{ArePlaces}
 use Rattle.straight_predicates.specs.EdgeLists.{edge_of}
 use Rattle.tubes.specs.DrawnEdges.{AreStraights, edges_of}
-use Rattle.faces.specs.Labels.{greatest}
 use Rattle.area_search.specs.declared.judging.Judged.{Judged}
 use Rattle.area_search.specs.declared.judging.Judged.TheVariants as judged
 use Rattle.area_search.specs.declared.kinds.AreaAnswer.TheVariants.{Fault}

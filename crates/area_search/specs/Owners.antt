@@ -1,5 +1,5 @@
 -- Points by their faces: which point is the first of a face, and which two share one.
-use Rattle.std.specs.Prelude.{◌≡◌, ◌⊎◌, ℕ, suc, ◌<◌, ◌≤◌, Option, Some, None, List, length, slice_index}
+use Rattle.std.specs.Prelude.{◌≡◌, ◌⊎◌, ℕ, suc, ◌<◌, Option, Some, None, List, length, slice_index}
 use Rattle.area_search.specs.declared.owners.Shared.{Shared}
 
 -- Of the first k points, i is the first in its face.

@@ -1,5 +1,5 @@
 -- The sides of curves, as seen from `from` to `to`, and the faces on them.
-use Rattle.std.specs.Prelude.{◌≡◌, ◌⊎◌, ℕ, ◌+◌, ◌*◌, ◌<◌, Bool, true, false, not, Option, Some, None, List, length, slice_index}
+use Rattle.std.specs.Prelude.{◌≡◌, ℕ, ◌+◌, ◌*◌, ◌<◌, Bool, true, false, not, Option, Some, None, List, length, slice_index}
 use Rattle.plane.specs.declared.kinds.Curve.{Curve}
 use Rattle.plane.specs.declared.kinds.Edge.{Edge}
 use Rattle.straight_predicates.specs.EdgeLists.{edge_of}

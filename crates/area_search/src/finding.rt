@@ -32,7 +32,7 @@ pub fn find_area(alloc: Global, drawing: &Drawing) -> Result<AreaAnswer, Memory>
 {
     match edge_list(alloc, drawing, 0)? {
         Some(list) => answer_edges(alloc, drawing, &list.edges),
-        None => Err(Memory),
+        None => unreachable!(),
     }
 }
 

@@ -1,9 +1,8 @@
-use Rattle.std.proofs.Common.{◌≡◌, ℕ, ◌<◌, List, map, length, slice_index_or, refl, sym, ap, subst, ◌∙◌}
+use Rattle.std.proofs.Common.{ℕ, ◌<◌, List, length, slice_index_or, sym, ap, subst, ◌∙◌}
 use Rattle.half_edges.specs.HalfEdges.{size}
 use Rattle.plane.specs.Lists.{Has}
 use Rattle.plane.specs.Rule.Plans.{plan}
 use Rattle.plane.specs.Runs.Gaps.{Gap, closed_gaps}
-use Rattle.certificate.specs.declared.notes.HalfNote.{HalfNote}
 use Rattle.faces.specs.Joined.{AreKnown}
 use Rattle.faces.specs.Ranking.{AreNotes, AreRooted}
 use Rattle.line_sweep.specs.declared.kinds.Cell.{Cell}
@@ -11,7 +10,7 @@ use Rattle.line_sweep.specs.declared.kinds.Event.{Event}
 use Rattle.line_sweep.specs.Kinds.{gaps_of, moves_of}
 use Rattle.certificate_checker.specs.Verdicts.{Proves}
 use Rattle.area_search.specs.Answers.{proved}
-use Rattle.area_search.specs.Writing.{IsSmallCell, all_roots, named, positions_of}
+use Rattle.area_search.specs.Writing.{IsSmallCell, all_roots, positions_of}
 use Rattle.area_search.proofs.CertifiedNotes.{certifies}
 use Rattle.area_search.proofs.CertifyCalls.{proves_written, roots_within, small_cells, small_places}
 use Rattle.area_search.proofs.Proving.{certifies_proves}

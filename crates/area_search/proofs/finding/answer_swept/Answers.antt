@@ -1,4 +1,4 @@
-use Rattle.std.proofs.Common.{◌≡◌, ℕ, ◌<◌, Option, Some, None, List, map, length, slice_index_or, sym, ap, subst, ◌∙◌}
+use Rattle.std.proofs.Common.{ℕ, ◌<◌, Some, List, map, length, slice_index_or, sym, ap, subst, ◌∙◌}
 use Rattle.plane.specs.declared.kinds.Placed.{Placed}
 use Rattle.plane.specs.declared.kinds.Point.{Point}
 use Rattle.plane.specs.Rule.Plans.{plan}
@@ -7,7 +7,7 @@ use Rattle.point_location.specs.declared.places.Place.{Place}
 use Rattle.point_location.specs.Places.{ArePlaces}
 use Rattle.straight_predicates.specs.EdgeLists.{IsCloseToAll, no_point}
 use Rattle.area_search.specs.PointFaces.{IsFirstOn}
-use Rattle.area_search.proofs.Composing.{close_points, is_placed, on_answer}
+use Rattle.area_search.proofs.Composing.{close_points, on_answer}
 use Rattle.area_search.proofs.finding.answer_swept.Goals as goal
 
 pub locate-requires-clause-close : goal.locate-requires-clause-close

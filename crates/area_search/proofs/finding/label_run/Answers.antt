@@ -1,5 +1,5 @@
-use Rattle.std.proofs.Common.{◌≡◌, ℕ, ◌*◌, length, arith, sym, ap, subst, ◌∙◌}
-use Rattle.half_edges.specs.HalfEdges.{HalfEdges, size}
+use Rattle.std.proofs.Common.{sym, subst}
+use Rattle.half_edges.specs.HalfEdges.{HalfEdges}
 use Rattle.half_edges.specs.Meshes.{IsMesh}
 use Rattle.plane.specs.Rule.Plans.{plan}
 use Rattle.line_sweep.specs.Kinds.{gaps_of, moves_of}

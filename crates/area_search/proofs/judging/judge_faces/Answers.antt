@@ -1,4 +1,4 @@
-use Rattle.std.proofs.Common.{◌≡◌, ℕ, Option, Some, None, List, ◌<◌, slice_index, ap, sym, subst, ◌∙◌, length, refl}
+use Rattle.std.proofs.Common.{◌≡◌, ℕ, Option, Some, None, List, ◌<◌, slice_index, ap, sym, subst, ◌∙◌, length}
 use Rattle.plane.specs.Rule.Plans.{plan}
 use Rattle.std.proofs.lemmas.List.{length-map}
 use Rattle.plane.specs.declared.kinds.Curve.{Curve}

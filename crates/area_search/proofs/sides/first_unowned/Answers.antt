@@ -1,4 +1,4 @@
-use Rattle.std.proofs.Common.{◌≡◌, ℕ, ◌<◌, length, arith, subst}
+use Rattle.std.proofs.Common.{ℕ, arith, subst}
 use Rattle.area_search.specs.Sides.{IsUnownedSide}
 use Rattle.area_search.proofs.Small.{less_or}
 use Rattle.area_search.proofs.sides.first_unowned.Goals as goal
