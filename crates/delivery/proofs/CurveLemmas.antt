@@ -9,7 +9,7 @@ use Rattle.field_values.specs.Places.{Place, is_same, are_collinear, place_view}
 use Rattle.itf_reader.specs.Forms.{Vertex}
 use Rattle.itf_reader.specs.RowReadings.{vertex_view}
 use Rattle.itf_reader.specs.StrokeFindings.{Seen, seen, place_of}
-use Rattle.itf_reader.specs.declared.row_values.ReadVertex.{ReadVertex}
+use Rattle.itf_reader.specs.declared.rows.values.ReadVertex.{ReadVertex}
 use Rattle.itf_reader.specs.Views.{vertex_of, vertices_of, strokes_of, rows_of}
 use Rattle.itf_reader.specs.declared.transfer.Vertex as code
 use Rattle.itf_reader.specs.declared.transfer.Row as row

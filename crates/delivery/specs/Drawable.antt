@@ -14,7 +14,7 @@ use Rattle.field_values.specs.Places.{Place, place_view}
 use Rattle.itf_reader.specs.Forms.{Row}
 use Rattle.itf_reader.specs.RowReadings.{vertex_view}
 use Rattle.itf_reader.specs.StrokeFindings.{Seen}
-use Rattle.itf_reader.specs.declared.row_values.ReadVertex.{ReadVertex}
+use Rattle.itf_reader.specs.declared.rows.values.ReadVertex.{ReadVertex}
 use Rattle.domain_rules.specs.CleanPlaces.{AreSoundVertices}
 use Rattle.plane.specs.Rule.Windows.{IsInside}
 use Rattle.plane.specs.declared.kinds.Curve.{Curve}
