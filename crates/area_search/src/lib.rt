@@ -5,13 +5,13 @@
 //!   first point outside of all lines, else the first two points in one region, else the first side
 //!   of a line that bounds a region without a point. A fault is named by the least numbers, but for
 //!   the two lines that meet badly, of which any pair may be named.
-//! - **The rule that it serves.** The lines of an area part the plane, and each bounded region holds
-//!   exactly one object's point. A certificate is answered exactly where that is so, and each fault
-//!   contradicts it (`laws::answers_are_right`).
-//! - **How.** One sweep of the edges, which finds a bad pair or a complete run; one replay of the run
-//!   for the places of the points, and one for the mesh of its half-edges; the faces of the mesh by
-//!   what its cells join; and links from each half-edge to the border or to a point. What the
-//!   certificate says is what the run, the places, the faces and the links are
+//! - **The rule that it serves.** The lines of an area part the plane, and each bounded region
+//!   holds exactly one object's point. A certificate is answered exactly where that is so, and each
+//!   fault contradicts it (`laws::answers_are_right`).
+//! - **How.** One sweep of the edges, which finds a bad pair or a complete run; one replay of the
+//!   run for the places of the points, and one for the mesh of its half-edges; the faces of the
+//!   mesh by what its cells join; and links from each half-edge to the border or to a point. What
+//!   the certificate says is what the run, the places, the faces and the links are
 //!   (`laws::certified_runs_prove`); `certificate_checker` judges it without any of them.
 //! - **Not here yet:** half arcs. A drawing of straights is asked for, and `Undecided` never comes.
 //! - **Degenerate cases.** No line, no point, several rings, holes, lines that end inside a region,

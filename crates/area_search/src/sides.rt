@@ -1,5 +1,6 @@
 // The sides of curves that bound a region without a point.
-ghost use Rattle.std.specs.Prelude.{◌≡◌, ℕ, ◌+◌, ◌*◌, ◌^◌, ◌<◌, Bool, false, true, length, slice_index, IsTrue};
+ghost use Rattle.std.specs.Prelude.{◌≡◌, ℕ, ◌+◌, ◌*◌, ◌^◌, ◌<◌, Bool, false, true, length};
+ghost use Rattle.std.specs.Prelude.{slice_index, IsTrue};
 ghost use Rattle.half_edges.specs.HalfEdges.{size};
 ghost use Rattle.plane.specs.Forms.Segments.{IsEdgeOf};
 ghost use Rattle.straight_predicates.specs.EdgeLists.{edge_of};

@@ -1,10 +1,12 @@
 // The parts of a certificate.
-ghost use Rattle.std.specs.Prelude.{All, ◌≡◌, ℕ, ◌++◌, ◌^◌, ◌<◌, IfOk, OnOk, length, map, slice_index_or};
+ghost use Rattle.std.specs.Prelude.{All, ◌≡◌, ℕ, ◌++◌, ◌^◌, ◌<◌, IfOk, OnOk, length, map};
+ghost use Rattle.std.specs.Prelude.{slice_index_or};
 ghost use Rattle.std.specs.List.{flat_map};
 ghost use Rattle.faces.specs.Joined.{over_of, under_of};
 ghost use Rattle.faces.specs.Ranking.{no_note};
 ghost use Rattle.line_sweep.specs.Kinds.{gap_of, gaps_of, moves_of};
-ghost use Rattle.area_search.specs.Writing.{all_roots, cell_roots, named, place_roots, positions_of};
+ghost use Rattle.area_search.specs.Writing.{all_roots, cell_roots, named, place_roots};
+ghost use Rattle.area_search.specs.Writing.{positions_of};
 ghost use Rattle.area_search.specs.Writing.{IsSmallCell, IsSmallPlace, written_place};
 
 use certificate::{HalfNote, PointPlace};

@@ -1,5 +1,6 @@
 // A certificate's text, read line by line.
-ghost use Rattle.std.specs.Prelude.{◌≡◌, ◌<◌, ◌≤◌, ◌^◌, ◌+◌, length, IfSome, IfOk, IfErr, Ok, List, ℕ};
+ghost use Rattle.std.specs.Prelude.{◌≡◌, ◌<◌, ◌≤◌, ◌^◌, ◌+◌, length, IfSome, IfOk, IfErr, Ok, List};
+ghost use Rattle.std.specs.Prelude.{ℕ};
 ghost use Rattle.std.specs.Option.{option_map};
 ghost use Rattle.std.specs.List.{AllByRecursion};
 ghost use Rattle.certificate.specs.Spelling.{Plain, AreSpelt, ArePaired, pairs, view, views, spelling};
@@ -166,8 +167,8 @@ pub fn read(alloc: Global, bytes: &[u8]) -> Result<Vec<Certificate>, CertFault>
     // What is spelt so is read, unless memory runs out.
     ensures only { (list : List Plain) → AreSpelt list
         → bytes.now ≡ spelling list → Gives (λ list. views list.items) result (Ok list) }
-    // The line of a fault is the first bad one: the lines before it begin the spelling of some list,
-    // and those up to it begin none.
+    // The line of a fault is the first bad one: the lines before it begin the spelling of some
+    // list, and those up to it begin none.
     ensures first_bad { IfErr result (IsFault bytes.now) }
     // Which fault it is, by the form of each line.
     ensures exact { Gives (λ list. views list.items) result (list_of bytes.now) }

@@ -20,7 +20,8 @@
 //! - **Not here.** Half arcs have no tubes yet, so a drawing with one breaks rule 2. The names in a
 //!   certificate are not read. This crate stands on no sweep, face or search.
 //! - **Degenerate cases.** No curve, no point, upright and equal straights, many in one point,
-//!   points at corners and on lines, links to half-edges that are not there, and counts that do not fit.
+//!   points at corners and on lines, links to half-edges that are not there, and counts that do not
+//!   fit.
 //!
 //! Cost: O((m + p) log (m + p)) for m straights and p points, and what the live list moves: at most
 //! its length at each event that changes it. All memory is taken at the start, about 130 bytes a

@@ -2,7 +2,8 @@
 ghost use Rattle.std.specs.Prelude.{◌≡◌, ◌<◌, IfOk, length};
 ghost use Rattle.std.specs.List.{list_any};
 ghost use Rattle.plane.specs.Rule.Plans.{plan};
-ghost use Rattle.delivery.specs.AreaAnswers.{IsAnswer, AreAnswers, is_fault, has_fault, is_half_arc, meeting_of, plans};
+ghost use Rattle.delivery.specs.AreaAnswers.{IsAnswer, AreAnswers, is_fault, has_fault};
+ghost use Rattle.delivery.specs.AreaAnswers.{is_half_arc, meeting_of, plans};
 
 use crate::report::AreaAnswer;
 use meetings::{BadPair, bad_meeting};

@@ -283,10 +283,13 @@ fn continuation_and_the_end_keep_their_codes(rt: HostRuntime) {
 }
 
 const CONTINUED: &str =
-    "TOPI U\nTABL A\nOBJE 9 \\\nCONT x\nETAB\nETOP\nTOPI T\nTABL L\nOBJE 1\nSTPT 0 0\nARCP 2 2\nLIPT 3 3\nELIN\nOBJE 2\nELIN\nELIN\nETAB\nTABL A\nETAB\nETOP\nEMOD\nENDE\n";
+    "TOPI U\nTABL A\nOBJE 9 \\\nCONT x\nETAB\nETOP\nTOPI T\nTABL L\nOBJE 1\nSTPT 0 0\n\
+        ARCP 2 2\nLIPT 3 3\nELIN\nOBJE 2\nELIN\nELIN\nETAB\nTABL A\nETAB\nETOP\nEMOD\nENDE\n";
 
 const DRAWN: &str =
-    "TOPI T\nTABL L\nOBJE 1\nSTPT 100.000 100.000\nLIPT 200.000 100.000\nLIPT 200.000 200.000\nLIPT 100.000 200.000\nLIPT 100.000 100.000\nELIN\nETAB\nTABL A\nOBJE 1 77 150.000 150.000\nETAB\nETOP\nEMOD\nENDE\n";
+    "TOPI T\nTABL L\nOBJE 1\nSTPT 100.000 100.000\nLIPT 200.000 100.000\nLIPT 200.000 200.000\n\
+        LIPT 100.000 200.000\nLIPT 100.000 100.000\nELIN\nETAB\nTABL A\n\
+        OBJE 1 77 150.000 150.000\nETAB\nETOP\nEMOD\nENDE\n";
 
 fn lines_of(rt: &impl Abort, alloc: Global, text: &str) -> Lines {
     let mut whole = String::new(alloc);

@@ -1,5 +1,6 @@
 // A transfer whose lines come in pieces.
-ghost use Rattle.std.specs.Prelude.{◌≡◌, ◌<◌, ◌≤◌, ◌++◌, [], List, true, false, length, OnOk, OnErr, IfOk, IsOk, Err};
+ghost use Rattle.std.specs.Prelude.{◌≡◌, ◌<◌, ◌≤◌, ◌++◌, [], List, true, false, length, OnOk};
+ghost use Rattle.std.specs.Prelude.{OnErr, IfOk, IsOk, Err};
 ghost use Rattle.table_layout.specs.Valid.{IsValid};
 ghost use Rattle.table_layout.specs.Values.{layout_view};
 ghost use Rattle.itf_lines.specs.declared.logical.LineEnd.{LineEnd};
@@ -102,7 +103,8 @@ impl TransferFeed {
         requires valid { self.old.failed ≡ false → IsValid (layout_view layout.now) }
         // Whatever follows these lines: the answer is that from here on.
         ensures lines { OnOk result ((more : List LogicalLine) (end : LineEnd)
-            → read_from (form_of (layout_view layout.now)) self.old (lines_seen lines.items ++ more) end
+            → read_from (form_of (layout_view layout.now)) self.old
+                (lines_seen lines.items ++ more) end
             ≡ read_from (form_of (layout_view layout.now)) self.new more end) }
         // The only error is out of memory, after which each call has it.
         ensures sound { OnOk result ((self.old.failed ≡ false) × (self.new.failed ≡ false)) }

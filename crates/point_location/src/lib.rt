@@ -6,8 +6,8 @@
 //! - **How.** The points are sorted by x, then y, and the events of a sweep are replayed once.
 //!   Before each point all events that come before it are applied. At the place of an event the
 //!   edges through the point are those that end or start there; at any other place a search of the
-//!   live list finds the edge through the point, of which there is one at most, or the place between
-//!   two edges.
+//!   live list finds the edge through the point, of which there is one at most, or the place
+//!   between two edges.
 //! - **What it asks for.** The events of a complete run over the edges, as a sweep answers them,
 //!   and points less than 2^41 from the edges' ends in each coordinate.
 //! - **Degenerate cases.** Points at vertices, on edges, on upright edges, equal points, points

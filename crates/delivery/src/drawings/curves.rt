@@ -1,5 +1,6 @@
 // The curves of lines, vertex by vertex.
-ghost use Rattle.std.specs.Prelude.{◌≡◌, ◌≤◌, ◌<◌, ◌+◌, ◌++◌, ◌∷◌, ◌^◌, [], false, List, length, vec_len, None, OnOk, IfOk, slice_index_or};
+ghost use Rattle.std.specs.Prelude.{◌≡◌, ◌≤◌, ◌<◌, ◌+◌, ◌++◌, ◌∷◌, ◌^◌, [], false, List, length};
+ghost use Rattle.std.specs.Prelude.{vec_len, None, OnOk, IfOk, slice_index_or};
 ghost use Rattle.std.specs.List.{All, flat_map};
 ghost use Rattle.resolver.specs.Values.{line_of};
 ghost use Rattle.field_values.specs.Places.{are_collinear, place_view};
@@ -8,7 +9,8 @@ ghost use Rattle.itf_reader.specs.StrokeFindings.{Seen, seen, place_of, all_seen
 ghost use Rattle.itf_reader.specs.Views.{row_of, rows_of, strokes_of, vertex_of, vertices_of};
 ghost use Rattle.domain_rules.specs.CleanPlaces.{IsSoundVertex, AreSoundVertices};
 ghost use Rattle.delivery.specs.AreaLimits.{vertex_count, vertices_in};
-ghost use Rattle.delivery.specs.Drawings.{point_at, straight_between, half_arcs, arc_over, curves_after, line_curves, row_curves, IsWindowOf};
+ghost use Rattle.delivery.specs.Drawings.{point_at, straight_between, half_arcs, arc_over};
+ghost use Rattle.delivery.specs.Drawings.{curves_after, line_curves, row_curves, IsWindowOf};
 ghost use Rattle.delivery.specs.Drawable.{IsIn, HasSoundLine, IsPenIn, rest_curves, waiting};
 
 use field_values::{Place, is_same_place, read_vertex};

@@ -2,7 +2,8 @@
 ghost use Rattle.std.specs.Prelude.{◌≡◌, ◌∷◌, [], slice_get};
 ghost use Rattle.resolver.specs.Sound.{IsNarrow};
 ghost use Rattle.resolver.specs.Values.{line_of, window_of};
-ghost use Rattle.table_layout.specs.Values.{area_view, columns_view, layout_view, lines_view, tables_view};
+ghost use Rattle.table_layout.specs.Values.{area_view, columns_view, layout_view, lines_view};
+ghost use Rattle.table_layout.specs.Values.{tables_view};
 ghost use Rattle.delivery.specs.Drawings.{lines_in, columns_in, IsWindowOf};
 ghost use Rattle.delivery.specs.Drawable.{HasForms};
 

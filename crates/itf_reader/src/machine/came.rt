@@ -1,5 +1,6 @@
 // The numbers of what came.
-ghost use Rattle.std.specs.Prelude.{◌≡◌, ◌<◌, ℕ, List, [], ◌∷◌, ◌++◌, OnOk, length, get_or, true, false};
+ghost use Rattle.std.specs.Prelude.{◌≡◌, ◌<◌, ℕ, List, [], ◌∷◌, ◌++◌, OnOk, length, get_or, true};
+ghost use Rattle.std.specs.Prelude.{false};
 ghost use Rattle.itf_reader.specs.Numbers.{has_number, AreFlags};
 
 use ports::Memory;

@@ -4,7 +4,8 @@ ghost use Rattle.std.specs.List.{position_from};
 ghost use Rattle.ports.specs.SortedKeys.{IsSortedKeys, is_key};
 ghost use Rattle.table_layout.specs.Values.{layout_view, tables_view};
 ghost use Rattle.itf_reader.specs.Forms.{names, topic_named, table_named};
-ghost use Rattle.itf_reader.specs.TableKeys.{lines_found, entry_at, name_keys, table_key, table_keys, AreSmall};
+ghost use Rattle.itf_reader.specs.TableKeys.{lines_found, entry_at, name_keys, table_key};
+ghost use Rattle.itf_reader.specs.TableKeys.{table_keys, AreSmall};
 ghost use Rattle.itf_reader.specs.Layouts.{form_of};
 
 use itf_lines::Field;

@@ -2,7 +2,8 @@
 ghost use Rattle.std.specs.Prelude.{◌≡◌, OnOk};
 ghost use Rattle.itf_lines.specs.Views.{line_seen};
 ghost use Rattle.itf_reader.specs.Forms.{topic_named, table_named};
-ghost use Rattle.itf_reader.specs.Machine.{topics, tables, named_topic, named_table, closed_table, closed_topic};
+ghost use Rattle.itf_reader.specs.Machine.{topics, tables, named_topic, named_table, closed_table};
+ghost use Rattle.itf_reader.specs.Machine.{closed_topic};
 ghost use Rattle.itf_reader.specs.Names.{form_in};
 ghost use Rattle.itf_reader.specs.RowFeeds.{standing, taken, moved, without_tables};
 ghost use Rattle.itf_reader.specs.MachineViews.{at_of, topics_alone, in_topic, in_table};

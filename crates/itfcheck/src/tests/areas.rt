@@ -29,63 +29,74 @@ const LATER: &str = "AREA Cover Parcel Form LATER\nVERDICT UNDECIDED\n";
 const CASES: [Case; 10] = [
     Case {
         name: "two lines cross",
-        lines: "OBJE 1\nSTPT 100.000 100.000\nLIPT 200.000 200.000\nELIN\nOBJE 2\nSTPT 100.000 200.000\nLIPT 200.000 101.000\nELIN\n",
+        lines: "OBJE 1\nSTPT 100.000 100.000\nLIPT 200.000 200.000\nELIN\nOBJE 2\n\
+            STPT 100.000 200.000\nLIPT 200.000 101.000\nELIN\n",
         parcels: "",
         report: "AREA Cover Parcel Form MEETING 9 13\nVERDICT REJECTED\n",
         status: Status::Rejected,
     },
     Case {
         name: "a line comes twice, the second time backward",
-        lines: "OBJE 1\nSTPT 100.000 100.000\nLIPT 200.000 200.000\nELIN\nOBJE 2\nSTPT 200.000 200.000\nLIPT 100.000 100.000\nELIN\n",
+        lines: "OBJE 1\nSTPT 100.000 100.000\nLIPT 200.000 200.000\nELIN\nOBJE 2\n\
+            STPT 200.000 200.000\nLIPT 100.000 100.000\nELIN\n",
         parcels: "",
         report: "AREA Cover Parcel Form MEETING 9 13\nVERDICT REJECTED\n",
         status: Status::Rejected,
     },
     Case {
         name: "a line begins on another, which has no vertex there",
-        lines: "OBJE 1\nSTPT 100.000 100.000\nLIPT 100.000 200.000\nELIN\nOBJE 2\nSTPT 100.000 150.000\nLIPT 200.000 150.000\nELIN\n",
+        lines: "OBJE 1\nSTPT 100.000 100.000\nLIPT 100.000 200.000\nELIN\nOBJE 2\n\
+            STPT 100.000 150.000\nLIPT 200.000 150.000\nELIN\n",
         parcels: "",
         report: "AREA Cover Parcel Form MEETING 9 13\nVERDICT REJECTED\n",
         status: Status::Rejected,
     },
     Case {
         name: "a circle of two arcs is left for later",
-        lines: "OBJE 1\nSTPT 510.000 500.000\nARCP 500.000 510.000\nLIPT 490.000 500.000\nARCP 500.000 490.000\nLIPT 510.000 500.000\nELIN\n",
+        lines: "OBJE 1\nSTPT 510.000 500.000\nARCP 500.000 510.000\nLIPT 490.000 500.000\n\
+            ARCP 500.000 490.000\nLIPT 510.000 500.000\nELIN\n",
         parcels: "OBJE 1 77 500.000 500.000\n",
         report: LATER,
         status: Status::Undecided,
     },
     Case {
         name: "two lines cross beside an arc, which leaves the area for later",
-        lines: "OBJE 1\nSTPT 100.000 100.000\nLIPT 200.000 200.000\nELIN\nOBJE 2\nSTPT 100.000 200.000\nLIPT 200.000 101.000\nELIN\nOBJE 3\nSTPT 510.000 500.000\nARCP 500.000 510.000\nLIPT 490.000 500.000\nELIN\n",
+        lines: "OBJE 1\nSTPT 100.000 100.000\nLIPT 200.000 200.000\nELIN\nOBJE 2\n\
+            STPT 100.000 200.000\nLIPT 200.000 101.000\nELIN\nOBJE 3\nSTPT 510.000 500.000\n\
+            ARCP 500.000 510.000\nLIPT 490.000 500.000\nELIN\n",
         parcels: "",
         report: LATER,
         status: Status::Undecided,
     },
     Case {
         name: "an arc over three places of one straight is two straights: the first is met",
-        lines: "OBJE 1\nSTPT 100.000 100.000\nARCP 150.000 100.000\nLIPT 200.000 100.000\nELIN\nOBJE 2\nSTPT 120.000 50.000\nLIPT 120.000 150.000\nELIN\n",
+        lines: "OBJE 1\nSTPT 100.000 100.000\nARCP 150.000 100.000\nLIPT 200.000 100.000\n\
+            ELIN\nOBJE 2\nSTPT 120.000 50.000\nLIPT 120.000 150.000\nELIN\n",
         parcels: "",
         report: "AREA Cover Parcel Form MEETING 9 14\nVERDICT REJECTED\n",
         status: Status::Rejected,
     },
     Case {
         name: "the same, and the second is met",
-        lines: "OBJE 1\nSTPT 100.000 100.000\nARCP 150.000 100.000\nLIPT 200.000 100.000\nELIN\nOBJE 2\nSTPT 170.000 50.000\nLIPT 170.000 150.000\nELIN\n",
+        lines: "OBJE 1\nSTPT 100.000 100.000\nARCP 150.000 100.000\nLIPT 200.000 100.000\n\
+            ELIN\nOBJE 2\nSTPT 170.000 50.000\nLIPT 170.000 150.000\nELIN\n",
         parcels: "",
         report: "AREA Cover Parcel Form MEETING 10 14\nVERDICT REJECTED\n",
         status: Status::Rejected,
     },
     Case {
         name: "a vertex that comes twice is one, and a line ends in a vertex of another",
-        lines: "OBJE 1\nSTPT 100.000 100.000\nLIPT 150.000 100.000\nLIPT 150.0 100.000\nLIPT 200.000 100.000\nELIN\nOBJE 2\nSTPT 150.000 50.000\nARCP 150.000 50.0\nLIPT 150.000 100.000\nELIN\n",
+        lines: "OBJE 1\nSTPT 100.000 100.000\nLIPT 150.000 100.000\nLIPT 150.0 100.000\n\
+            LIPT 200.000 100.000\nELIN\nOBJE 2\nSTPT 150.000 50.000\nARCP 150.000 50.0\n\
+            LIPT 150.000 100.000\nELIN\n",
         parcels: "",
         report: LATER,
         status: Status::Undecided,
     },
     Case {
         name: "a line crosses itself",
-        lines: "OBJE 1\nSTPT 100.000 100.000\nLIPT 200.000 100.000\nLIPT 200.000 200.000\nLIPT 150.000 50.000\nELIN\n",
+        lines: "OBJE 1\nSTPT 100.000 100.000\nLIPT 200.000 100.000\nLIPT 200.000 200.000\n\
+            LIPT 150.000 50.000\nELIN\n",
         parcels: "",
         report: "AREA Cover Parcel Form MEETING 9 11\nVERDICT REJECTED\n",
         status: Status::Rejected,
@@ -136,10 +147,18 @@ fn lines_of_areas_are_drawn_and_meet_or_are_left(rt: HostRuntime) -> Result<(), 
 
 // Two areas of one table: a fault in one rejects the transfer, and the other is told too.
 const TWO_AREAS: &str =
-    "TRANSFER Rows;\nDOMAIN\n  Koord = COORD2 0.000 0.000 1000.000 1000.000;\nMODEL Land\n  TOPIC Cover =\n    TABLE Parcel =\n      Form: AREA WITH (STRAIGHTS) VERTEX Koord WITHOUT OVERLAPS > 0.050;\n      Zone: OPTIONAL AREA WITH (STRAIGHTS) VERTEX Koord WITHOUT OVERLAPS > 0.050;\n    NO IDENT\n    END Parcel;\n  END Cover.\nEND Land.\nFORMAT FREE;\nCODE BLANK = DEFAULT, UNDEFINED = DEFAULT, CONTINUE = DEFAULT; TID = ANY; END.\n";
+    "TRANSFER Rows;\nDOMAIN\n  Koord = COORD2 0.000 0.000 1000.000 1000.000;\nMODEL Land\n\
+          TOPIC Cover =\n    TABLE Parcel =\n\
+              Form: AREA WITH (STRAIGHTS) VERTEX Koord WITHOUT OVERLAPS > 0.050;\n\
+              Zone: OPTIONAL AREA WITH (STRAIGHTS) VERTEX Koord WITHOUT OVERLAPS > 0.050;\n\
+            NO IDENT\n    END Parcel;\n  END Cover.\nEND Land.\nFORMAT FREE;\n\
+        CODE BLANK = DEFAULT, UNDEFINED = DEFAULT, CONTINUE = DEFAULT; TID = ANY; END.\n";
 
 const TWO_DRAWINGS: &str =
-    "SCNT\n////\nMTID Rows\nMODL Land\nTOPI Cover\nTABL Parcel_Form\nOBJE 1\nSTPT 100 100\nLIPT 200 200\nELIN\nETAB\nTABL Parcel_Zone\nOBJE 1\nSTPT 100 100\nLIPT 200 200\nELIN\nOBJE 2\nSTPT 100 200\nLIPT 200 100\nELIN\nETAB\nTABL Parcel\nOBJE 1 150 150 @ @\nETAB\nETOP\nEMOD\nENDE\n";
+    "SCNT\n////\nMTID Rows\nMODL Land\nTOPI Cover\nTABL Parcel_Form\nOBJE 1\nSTPT 100 100\n\
+        LIPT 200 200\nELIN\nETAB\nTABL Parcel_Zone\nOBJE 1\nSTPT 100 100\nLIPT 200 200\nELIN\n\
+        OBJE 2\nSTPT 100 200\nLIPT 200 100\nELIN\nETAB\nTABL Parcel\nOBJE 1 150 150 @ @\nETAB\n\
+        ETOP\nEMOD\nENDE\n";
 
 const TWO_ANSWERS: &str =
     "AREA Cover Parcel Form LATER\nAREA Cover Parcel Zone MEETING 15 19\nVERDICT REJECTED\n";
