@@ -21,7 +21,8 @@ use Rattle.delivery.specs.AreaAnswers.{meeting_of, IsAnswer, arc_later, meeting,
 use Rattle.delivery.specs.Drawings.{IsDrawing}
 use Rattle.delivery.specs.Lines as lines
 use Rattle.delivery.specs.Lines.{Line}
-use Rattle.delivery.specs.Outcomes.{Outcome, reported, area_line, area_lines, areas_told, topic_at, name_at}
+use Rattle.delivery.specs.Outcomes.{Outcome, reported, area_line, area_lines, areas_told}
+use Rattle.delivery.specs.AreaNames.{topic_at, name_at}
 use Rattle.delivery.specs.declared.report.lines.AreaAnswer.{AreaAnswer}
 use Rattle.delivery.specs.declared.report.lines.AreaAnswer.TheVariants.{Later, Meeting}
 use Rattle.delivery.specs.declared.report.lines.Verdict.TheVariants as verdict

@@ -1,6 +1,8 @@
 pub mod Answers
 pub mod AreaAnswers
+pub mod AreaCertificates
 pub mod AreaLimits
+pub mod AreaNames
 pub mod Codes
 pub mod Commands
 pub mod CommandViews

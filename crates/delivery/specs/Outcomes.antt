@@ -6,6 +6,7 @@ use Rattle.itf_reader.specs.Findings.{Finding}
 use Rattle.itf_reader.specs.Readings.{Structure}
 use Rattle.table_layout.specs.Layouts.{Table, AreaOf, Layout}
 use Rattle.delivery.specs.AreaAnswers.{has_fault}
+use Rattle.delivery.specs.AreaNames.{topic_name, table_name}
 use Rattle.delivery.specs.Lines as lines
 use Rattle.delivery.specs.Lines.{TableLine, AreaLine, Line, line_text}
 use Rattle.delivery.specs.ModelTexts.{Refusal}
@@ -71,18 +72,9 @@ misbuilt n code = reported status.Rejected (lines.structure n code ∷ lines.ver
 abbrev pub rejected : List Finding → Outcome
 rejected found = reported status.Rejected (map lines.finding found ++ (lines.verdict verdict.Rejected ∷ []))
 
--- the names of a topic and a table, empty where there is no such table
-abbrev pub topic_at : Layout → Option Table → List ℕ
-topic_at l (Some t) = slice_index_or l.topics t.topic []
-topic_at l None = []
-
-abbrev pub name_at : Option Table → List ℕ
-name_at (Some t) = t.name
-name_at None = []
-
 -- an area of the layout, and the answer to it
 abbrev pub area_line : Layout → AreaOf → AreaAnswer → Line
-area_line l a x = lines.area (record { topic = topic_at l (slice_get l.tables a.main); table = name_at (slice_get l.tables a.main); attribute = a.name; answer = x })
+area_line l a x = lines.area (record { topic = topic_name l a; table = table_name l a; attribute = a.name; answer = x })
 
 abbrev pub area_lines : Layout → List AreaOf → List AreaAnswer → List Line
 area_lines l [] xs = []

@@ -1,0 +1,18 @@
+-- What an area is called: the names of its topic, of its main table and of its attribute.
+use Rattle.std.specs.Prelude.{ℕ, List, [], Option, Some, None, slice_get, slice_index_or}
+use Rattle.table_layout.specs.Layouts.{Table, AreaOf, Layout}
+
+-- the names of a table's topic and of the table, empty where there is no such table
+abbrev pub topic_at : Layout → Option Table → List ℕ
+topic_at l (Some t) = slice_index_or l.topics t.topic []
+topic_at l None = []
+
+abbrev pub name_at : Option Table → List ℕ
+name_at (Some t) = t.name
+name_at None = []
+
+abbrev pub topic_name : Layout → AreaOf → List ℕ
+topic_name l a = topic_at l (slice_get l.tables a.main)
+
+abbrev pub table_name : Layout → AreaOf → List ℕ
+table_name l a = name_at (slice_get l.tables a.main)
