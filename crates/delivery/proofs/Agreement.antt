@@ -10,18 +10,25 @@ use Rattle.table_layout.specs.Layouts.{AreaOf, Layout}
 use Rattle.delivery.specs.declared.files.File.{File}
 use Rattle.delivery.specs.declared.status.Status.{Status}
 use Rattle.delivery.specs.declared.status.Status.TheVariants.{ReadFault, WriteFault}
-use Rattle.delivery.specs.Answers.{same, AgreeLines, AgreeFilings, Agree, Answers, IsStopped, IsAnswer}
+use Rattle.delivery.specs.Answers.{same, AgreeLines, AgreeFilings, Agree, AgreeUnlessUnread, Answers, IsStopped, IsAnswer}
+use Rattle.delivery.specs.AreaAnswers.{AreAnswers}
+use Rattle.delivery.specs.Verifying.{IsVerification}
+use Rattle.plane.specs.Rule.Plans.{Plan}
+use Rattle.delivery.proofs.Windows.{same_drawings}
 use Rattle.delivery.specs.AreaLimits.{has_too_large}
-use Rattle.delivery.specs.Commands.{Command, Source, compile, check, limit_of, model_of, further_files}
+use Rattle.delivery.specs.Commands.{Command, Source, compile, check, verify, limit_of, model_of, further_files}
 use Rattle.delivery.specs.Deciding.{Decides, formless, formed}
+use Rattle.delivery.specs.FiledTexts as filed_texts
+use Rattle.delivery.specs.FiledTexts.{AreVerified, IsRowsVerified, IsVerified}
 use Rattle.delivery.specs.Gathering as gathering
 use Rattle.delivery.specs.Gathering.{Gathered, Reads, ReadsAll, Compiles, Gathers}
-use Rattle.delivery.specs.Judging.{lines_of, AreJudged, IsRowsChecked, faulty, oversized, drawn, clean, IsChecked, at_fault, well_formed, Amounts}
+use Rattle.delivery.specs.Amounting.{Amounts}
+use Rattle.delivery.specs.Judging.{lines_of, objects, AreJudged, IsRowsChecked, faulty, oversized, judged, IsChecked, at_fault, well_formed}
 use Rattle.delivery.specs.Lines.{Line}
 use Rattle.delivery.specs.ModelTexts.{Refusal, IsRefused, HasLayout}
-use Rattle.delivery.specs.Outcomes.{Filing, Outcome, misbuilt, areas_told, report_of}
+use Rattle.delivery.specs.Outcomes.{Filing, Outcome, misbuilt, areas_told, arcs_left, verified, report_of}
 use Rattle.delivery.specs.Reading.{IsWhole, IsLonger}
-use Rattle.delivery.proofs.AreaLemmas.{areas_agree}
+use Rattle.delivery.proofs.AreaLemmas.{AreaLaws, areas_agree}
 use Rattle.delivery.proofs.Causes.{by_write}
 use Rattle.delivery.proofs.CommandLemmas.{one_command}
 use Rattle.delivery.proofs.ModelTextLemmas.{one_layout, one_refusal, not_refused}
@@ -125,56 +132,8 @@ module _ (files : Files) (far near : List ℕ → Type 0) where
 differ : true ≡ false → ⊥
 differ e = cc
 
--- without an area none is too large
-none_too_large : (rows : List (List Row)) (as_ : List AreaOf) → as_ ≡ [] → has_too_large rows as_ ≡ true → ⊥
-none_too_large rows [] e h = differ (sym h)
-none_too_large rows (a ∷ as_) e h = let k : a ∷ as_ ≡ [] = e in cc
-
 agree_both : (o p q : Outcome) → o ≡ q → p ≡ q → Agree o p
 agree_both o p q e f = agree_same o p (e ∙ sym f)
-
-agree_areas : (l : Layout) (rows : List (List Row)) (o p : Outcome) → AreJudged l rows o → AreJudged l rows p → Agree o p
-agree_areas l rows o p j k =
-    subst (λ (x : Outcome). Agree x p) (sym j.told)
-    (subst (Agree (areas_told l j.answers)) (sym k.told)
-    (areas_agree l rows j.drawings k.drawings j.answers k.answers j.drawn j.answered k.drawn k.answered))
-
-agree_rows : (name : List ℕ) (l : Layout) (rows : List (List Row)) (o p : Outcome) → IsRowsChecked name l rows o → IsRowsChecked name l rows p → Agree o p
-agree_rows name l rows o p (faulty n e) (faulty m f) = agree_both o p _ e f
-agree_rows name l rows o p (faulty n e) (oversized k b f) = absurd (n k)
-agree_rows name l rows o p (faulty n e) (drawn k b a j) = absurd (n k)
-agree_rows name l rows o p (faulty n e) (clean k a f) = absurd (n k)
-agree_rows name l rows o p (oversized k b e) (faulty m f) = absurd (m k)
-agree_rows name l rows o p (oversized k b e) (oversized m d f) = agree_both o p _ e f
-agree_rows name l rows o p (oversized k b e) (drawn m d a j) = absurd (differ (sym b ∙ d))
-agree_rows name l rows o p (oversized k b e) (clean m a f) = absurd (none_too_large rows l.areas a b)
-agree_rows name l rows o p (drawn k b a i) (faulty m f) = absurd (m k)
-agree_rows name l rows o p (drawn k b a i) (oversized m d f) = absurd (differ (sym d ∙ b))
-agree_rows name l rows o p (drawn k b a i) (drawn m d c j) = agree_areas l rows o p i j
-agree_rows name l rows o p (drawn k b a i) (clean m c f) = absurd (a c)
-agree_rows name l rows o p (clean k a e) (faulty m f) = absurd (m k)
-agree_rows name l rows o p (clean k a e) (oversized m d f) = absurd (none_too_large rows l.areas a d)
-agree_rows name l rows o p (clean k a e) (drawn m d b j) = absurd (b a)
-agree_rows name l rows o p (clean k a e) (clean m b f) = agree_both o p _ e f
-
-agree_text : (name : List ℕ) (l : Layout) (text : List ℕ) (o p : Outcome) → IsChecked name l text o → IsChecked name l text p → Agree o p
-agree_text name l text o p (at_fault n c h e) (at_fault m d k f) =
-    let q = one_fault (form_of l) (lines_of l text) n m c d h k in
-    agree_same o p (e ∙ ap (λ (x : ℕ). misbuilt x c) q.0 ∙ ap (misbuilt m) q.1 ∙ sym f)
-agree_text name l text o p (at_fault n c h e) (well_formed t k f) = absurd (never_both (form_of l) (lines_of l text) t n c k h)
-agree_text name l text o p (well_formed t h e) (at_fault m d k f) = absurd (never_both (form_of l) (lines_of l text) t m d h k)
-agree_text name l text o p (well_formed t h e) (well_formed u k f) =
-    let q = one_transfer (form_of l) (lines_of l text).lines t u h.1 k.1 in
-    agree_rows name l u o p (subst (λ (x : List (List Row)). IsRowsChecked name l x o) q e) f
-
-agree_amount : (c : Command) (g : Gathered) (o p : Outcome) → Amounts c g o → Amounts c g p → Agree o p
-agree_amount c (gathering.unread f) o p h k = agree_both o p _ h k
-agree_amount c (gathering.too_long f) o p h k = agree_both o p _ h k
-agree_amount c (gathering.refused r) o p h k = agree_both o p _ h k
-agree_amount (compile m) (gathering.texts l ts) o p h k = agree_both o p _ h k
-agree_amount (check c) (gathering.texts l []) o p h k = absurd h
-agree_amount (check c) (gathering.texts l (text ∷ [])) o p h k = agree_text c.certificate l text o p h k
-agree_amount (check c) (gathering.texts l (t ∷ u ∷ ts)) o p h k = absurd h
 
 unread_status : (c : Command) (g : Gathered) (o : Outcome) → IsUnread g → Amounts c g o → o.status ≡ ReadFault
 unread_status c (gathering.unread f) o u e = ap (λ (x : Outcome). x.status) e
@@ -182,36 +141,113 @@ unread_status c (gathering.too_long f) o u e = absurd u
 unread_status c (gathering.refused r) o u e = absurd u
 unread_status c (gathering.texts l ts) o u e = absurd u
 
--- either of two outcomes is that a file could not be read, or they agree
-abbrev AgreeUnlessUnread : Outcome → Outcome → Type 0
-AgreeUnlessUnread o p = (o.status ≡ ReadFault) ⊎ ((p.status ≡ ReadFault) ⊎ Agree o p)
+module _ (laws : AreaLaws) where
+  agree_areas : (name : List ℕ) (l : Layout) (rows : List (List Row)) (o p : Outcome) → AreJudged name l rows o → AreJudged name l rows p → Agree o p
+  agree_areas name l rows o p j k =
+      subst (λ (x : Outcome). Agree x p) (sym j.told)
+      (subst (Agree (areas_told l (objects rows) name j.answers j.certificates)) (sym k.told)
+      (areas_agree laws l (objects rows) name k.drawings j.answers k.answers j.certificates k.certificates
+      (subst (λ (ds : List Plan). AreAnswers l l.areas ds j.answers j.certificates) (same_drawings l rows l.areas j.drawings k.drawings j.drawn k.drawn) j.answered) k.answered))
 
-files_agree : (c : Command) (g h : Gathered) (o p : Outcome) → Same g h → Amounts c g o → Amounts c h p → AgreeUnlessUnread o p
-files_agree c g h o p s a b = elim s as (λ z. AgreeUnlessUnread o p) [
-  | inl u ↦ inl (unread_status c g o u a)
-  | inr n ↦ elim n as (λ z. AgreeUnlessUnread o p) [
-    | inl u ↦ inr (inl (unread_status c h p u b))
-    | inr e ↦ inr (inr (agree_amount c h o p (subst (λ (x : Gathered). Amounts c x o) e a) b))
+  agree_rows : (name : List ℕ) (l : Layout) (rows : List (List Row)) (o p : Outcome) → IsRowsChecked name l rows o → IsRowsChecked name l rows p → Agree o p
+  agree_rows name l rows o p (faulty n e) (faulty m f) = agree_both o p _ e f
+  agree_rows name l rows o p (faulty n e) (oversized k b f) = absurd (n k)
+  agree_rows name l rows o p (faulty n e) (judged k b j) = absurd (n k)
+  agree_rows name l rows o p (oversized k b e) (faulty m f) = absurd (m k)
+  agree_rows name l rows o p (oversized k b e) (oversized m d f) = agree_both o p _ e f
+  agree_rows name l rows o p (oversized k b e) (judged m d j) = absurd (differ (sym b ∙ d))
+  agree_rows name l rows o p (judged k b i) (faulty m f) = absurd (m k)
+  agree_rows name l rows o p (judged k b i) (oversized m d f) = absurd (differ (sym d ∙ b))
+  agree_rows name l rows o p (judged k b i) (judged m d j) = agree_areas name l rows o p i j
+
+  agree_text : (name : List ℕ) (l : Layout) (text : List ℕ) (o p : Outcome) → IsChecked name l text o → IsChecked name l text p → Agree o p
+  agree_text name l text o p (at_fault n c h e) (at_fault m d k f) =
+      let q = one_fault (form_of l) (lines_of l text) n m c d h k in
+      agree_same o p (e ∙ ap (λ (x : ℕ). misbuilt x c) q.0 ∙ ap (misbuilt m) q.1 ∙ sym f)
+  agree_text name l text o p (at_fault n c h e) (well_formed t k f) = absurd (never_both (form_of l) (lines_of l text) t n c k h)
+  agree_text name l text o p (well_formed t h e) (at_fault m d k f) = absurd (never_both (form_of l) (lines_of l text) t m d h k)
+  agree_text name l text o p (well_formed t h e) (well_formed u k f) =
+      let q = one_transfer (form_of l) (lines_of l text).lines t u h.1 k.1 in
+      agree_rows name l u o p (subst (λ (x : List (List Row)). IsRowsChecked name l x o) q e) f
+
+  agree_verified : (l : Layout) (rows : List (List Row)) (filed : List ℕ) (o p : Outcome) → AreVerified l rows filed o → AreVerified l rows filed p → Agree o p
+  agree_verified l rows filed o p j k =
+      agree_same o p
+      (j.told ∙ ap (λ (ds : List Plan). verified l (objects rows) ds j.verification) (same_drawings l rows l.areas j.drawings k.drawings j.drawn k.drawn)
+      ∙ ap (verified l (objects rows) k.drawings)
+      (laws.verifications l k.drawings filed j.verification k.verification
+      (subst (λ (ds : List Plan). IsVerification l ds filed j.verification) (same_drawings l rows l.areas j.drawings k.drawings j.drawn k.drawn) j.judged) k.judged)
+      ∙ sym k.told)
+
+  agree_filed_rows : (l : Layout) (rows : List (List Row)) (filed : List ℕ) (o p : Outcome) → IsRowsVerified l rows filed o → IsRowsVerified l rows filed p → Agree o p
+  agree_filed_rows l rows filed o p (filed_texts.faulty n e) (filed_texts.faulty m f) = agree_both o p _ e f
+  agree_filed_rows l rows filed o p (filed_texts.faulty n e) (filed_texts.oversized k b f) = absurd (n k)
+  agree_filed_rows l rows filed o p (filed_texts.faulty n e) (filed_texts.arcs k b h) = absurd (n k)
+  agree_filed_rows l rows filed o p (filed_texts.faulty n e) (filed_texts.verified k b j) = absurd (n k)
+  agree_filed_rows l rows filed o p (filed_texts.oversized k b e) (filed_texts.faulty m f) = absurd (m k)
+  agree_filed_rows l rows filed o p (filed_texts.oversized k b e) (filed_texts.oversized m d f) = agree_both o p _ e f
+  agree_filed_rows l rows filed o p (filed_texts.oversized k b e) (filed_texts.arcs m d h) = absurd (differ (sym b ∙ d))
+  agree_filed_rows l rows filed o p (filed_texts.oversized k b e) (filed_texts.verified m d j) = absurd (differ (sym b ∙ d))
+  agree_filed_rows l rows filed o p (filed_texts.arcs k b h) (filed_texts.faulty m f) = absurd (m k)
+  agree_filed_rows l rows filed o p (filed_texts.arcs k b h) (filed_texts.oversized m d f) = absurd (differ (sym d ∙ b))
+  agree_filed_rows l rows filed o p (filed_texts.arcs k b h) (filed_texts.arcs m d i) =
+      agree_same o p (h.told ∙ ap (arcs_left l) (same_drawings l rows l.areas h.drawings i.drawings h.drawn i.drawn) ∙ sym i.told)
+  agree_filed_rows l rows filed o p (filed_texts.arcs k b h) (filed_texts.verified m d j) = absurd (j.straights h.arcs)
+  agree_filed_rows l rows filed o p (filed_texts.verified k b i) (filed_texts.faulty m f) = absurd (m k)
+  agree_filed_rows l rows filed o p (filed_texts.verified k b i) (filed_texts.oversized m d f) = absurd (differ (sym d ∙ b))
+  agree_filed_rows l rows filed o p (filed_texts.verified k b i) (filed_texts.arcs m d h) = absurd (i.straights h.arcs)
+  agree_filed_rows l rows filed o p (filed_texts.verified k b i) (filed_texts.verified m d j) = agree_verified l rows filed o p i j
+
+  agree_filed : (l : Layout) (text filed : List ℕ) (o p : Outcome) → IsVerified l text filed o → IsVerified l text filed p → Agree o p
+  agree_filed l text filed o p (filed_texts.at_fault n c h e) (filed_texts.at_fault m d k f) =
+      let q = one_fault (form_of l) (lines_of l text) n m c d h k in
+      agree_same o p (e ∙ ap (λ (x : ℕ). misbuilt x c) q.0 ∙ ap (misbuilt m) q.1 ∙ sym f)
+  agree_filed l text filed o p (filed_texts.at_fault n c h e) (filed_texts.well_formed t k f) = absurd (never_both (form_of l) (lines_of l text) t n c k h)
+  agree_filed l text filed o p (filed_texts.well_formed t h e) (filed_texts.at_fault m d k f) = absurd (never_both (form_of l) (lines_of l text) t m d h k)
+  agree_filed l text filed o p (filed_texts.well_formed t h e) (filed_texts.well_formed u k f) =
+      let q = one_transfer (form_of l) (lines_of l text).lines t u h.1 k.1 in
+      agree_filed_rows l u filed o p (subst (λ (x : List (List Row)). IsRowsVerified l x filed o) q e) f
+
+  agree_amount : (c : Command) (g : Gathered) (o p : Outcome) → Amounts c g o → Amounts c g p → Agree o p
+  agree_amount c (gathering.unread f) o p h k = agree_both o p _ h k
+  agree_amount c (gathering.too_long f) o p h k = agree_both o p _ h k
+  agree_amount c (gathering.refused r) o p h k = agree_both o p _ h k
+  agree_amount (compile m) (gathering.texts l ts) o p h k = agree_both o p _ h k
+  agree_amount (check c) (gathering.texts l []) o p h k = absurd h
+  agree_amount (check c) (gathering.texts l (text ∷ [])) o p h k = agree_text c.certificate l text o p h k
+  agree_amount (check c) (gathering.texts l (t ∷ u ∷ ts)) o p h k = absurd h
+  agree_amount (verify c) (gathering.texts l []) o p h k = absurd h
+  agree_amount (verify c) (gathering.texts l (text ∷ [])) o p h k = absurd h
+  agree_amount (verify c) (gathering.texts l (text ∷ filed ∷ [])) o p h k = agree_filed l text filed o p h k
+  agree_amount (verify c) (gathering.texts l (t ∷ u ∷ v ∷ ts)) o p h k = absurd h
+
+  files_agree : (c : Command) (g h : Gathered) (o p : Outcome) → Same g h → Amounts c g o → Amounts c h p → AgreeUnlessUnread o p
+  files_agree c g h o p s a b = elim s as (λ z. AgreeUnlessUnread o p) [
+    | inl u ↦ inl (unread_status c g o u a)
+    | inr n ↦ elim n as (λ z. AgreeUnlessUnread o p) [
+      | inl u ↦ inr (inl (unread_status c h p u b))
+      | inr e ↦ inr (inr (agree_amount c h o p (subst (λ (x : Gathered). Amounts c x o) e a) b))
+    ]
   ]
-]
 
-pub outcomes_agree : (files : Files) (far near : List ℕ → Type 0) (words : List (List ℕ)) (o p : Outcome) → Decides (Some files) far words o → Decides (Some files) near words p → AgreeUnlessUnread o p
-outcomes_agree files far near words o p (formless u a) (formless v b) = inr (inr (agree_same o p (a ∙ sym b)))
-outcomes_agree files far near words o p (formless u a) (formed d h j y b) = absurd (u d j)
-outcomes_agree files far near words o p (formed c g i x a) (formless v b) = absurd (v c i)
-outcomes_agree files far near words o p (formed c g i x a) (formed d h j y b) =
-    let e = one_command words c d i j in
-    files_agree d g h o p
-    (same_gathered files far near d g h (subst (λ (z : Command). Gathers (Some files) far z g) e x) y)
-    (subst (λ (z : Command). Amounts z g o) e a) b
+  pub outcomes_agree : (files : Files) (far near : List ℕ → Type 0) (words : List (List ℕ)) (o p : Outcome) → Decides (Some files) far words o → Decides (Some files) near words p → AgreeUnlessUnread o p
+  outcomes_agree files far near words o p (formless u a) (formless v b) = inr (inr (agree_same o p (a ∙ sym b)))
+  outcomes_agree files far near words o p (formless u a) (formed d h j y b) = absurd (u d j)
+  outcomes_agree files far near words o p (formed c g i x a) (formless v b) = absurd (v c i)
+  outcomes_agree files far near words o p (formed c g i x a) (formed d h j y b) =
+      let e = one_command words c d i j in
+      files_agree d g h o p
+      (same_gathered files far near d g h (subst (λ (z : Command). Gathers (Some files) far z g) e x) y)
+      (subst (λ (z : Command). Amounts z g o) e a) b
 
 -- an answer that is that of an outcome unless a write failed is that of each outcome, as far as they agree
-pub exactly : (told : Option Files) (far near : List ℕ → Type 0) (words : List (List ℕ)) (p : Outcome) (s : Status) (before after : Option (List ℕ)) → Decides told near words p
+pub exactly : (told : Option Files) (far near : List ℕ → Type 0) (words : List (List ℕ)) (p : Outcome) (s : Status) (before after : Option (List ℕ))
+    → ((files : Files) (x y : Outcome) → Decides (Some files) far words x → Decides (Some files) near words y → AgreeUnlessUnread x y) → Decides told near words p
     → (s ≢ WriteFault → s ≡ p.status) → (s ≢ WriteFault → Adds before (report_of p) after)
     → (files : Files) → told ≡ Some files → (o : Outcome) → Decides (Some files) far words o → IsAnswer o s before after
-exactly told far near words p s before after k e r files t o h read =
+exactly told far near words p s before after agree k e r files t o h read =
     by_write (Answers o s before after ⊎ IsStopped s) s (λ w. inr (inr (inl w)))
-    (λ n. elim (outcomes_agree files far near words o p h (subst (λ (x : Option Files). Decides x near words p) t k)) as (λ z. Answers o s before after ⊎ IsStopped s) [
+    (λ n. elim (agree files o p h (subst (λ (x : Option Files). Decides x near words p) t k)) as (λ z. Answers o s before after ⊎ IsStopped s) [
       | inl u ↦ absurd (read u)
       | inr m ↦ elim m as (λ z. Answers o s before after ⊎ IsStopped s) [
         | inl u ↦ inr (inl (e n ∙ u))

@@ -1,64 +1,77 @@
 -- Answers to areas: what they say of the areas, and that two of one area agree.
-use Rattle.std.proofs.Common.{◌≡◌, ◌⊎◌, inl, inr, ℕ, zero, suc, ◌+◌, ◌<◌, Bool, true, false, ◌||◌, List, [], ◌∷◌, ◌++◌, length, map, take, get_or, Option, Some, IfSome, refl, sym, ap, ◌∙◌, subst, arith}
+use Rattle.std.proofs.Common.{◌≡◌, ◌⊎◌, inl, inr, ℕ, zero, suc, ◌+◌, ◌<◌, Bool, true, false, ◌||◌, List, [], ◌∷◌, ◌++◌, length, map, get_or, refl, sym, ap, ◌∙◌, subst, arith}
 use Rattle.std.specs.List.{All, AllZip, Any, list_any}
-use Rattle.std.proofs.lemmas.List.{length-map, get_or-map, map-append}
-use Rattle.std.proofs.lemmas.List.Elements.{All-nil, All-cons}
+use Rattle.std.specs.Prelude.{if◌then◌else◌}
+use Rattle.std.proofs.lemmas.List.Elements.{All-nil, All-cons, All-head, All-tail}
+use Rattle.certificate.specs.Spelling.{Plain}
+use Rattle.certificate.specs.declared.notes.Certificate.{Certificate}
+use Rattle.certificate_checker.specs.Subjects.{Claims}
+use Rattle.certificate_checker.specs.Verdicts.{Proves}
 use Rattle.itf_reader.specs.Forms.{Row}
 use Rattle.table_layout.specs.Layouts.{AreaOf, Layout}
-use Rattle.table_layout.specs.Values.{area_view, areas_view}
-use Rattle.table_layout.specs.declared.layouts.AreaOf as area
-use Rattle.plane.specs.Rule.BadPairs.{AreBad, IsBadPair}
-use Rattle.plane.specs.Rule.Plans.{Plan, plan, curve, IsHalfArc}
-use Rattle.plane.specs.declared.drawing.Drawing.{Drawing}
+use Rattle.plane.specs.Rule.Partition.{IsPartition}
+use Rattle.plane.specs.Rule.Plans.{Plan, curve, IsHalfArc}
 use Rattle.plane.specs.declared.kinds.Curve.{Curve}
 use Rattle.plane.specs.declared.kinds.CurveKind.{CurveKind}
 use Rattle.plane.specs.declared.kinds.CurveKind.TheVariants.{Straight, HalfArc}
-use Rattle.plane.proofs.Covers.NotApart.{bad_not_apart}
-use Rattle.meetings.specs.StraightEdges.{AreStraights, curve_of}
-use Rattle.meetings.specs.declared.pairs.BadPair.{BadPair}
+use Rattle.tubes.specs.DrawnEdges.{AreAllStraight, AreStraights, nth_curve}
+use Rattle.area_search.specs.Answers as search
+use Rattle.area_search.specs.declared.kinds.AreaAnswer.{AreaAnswer as Found}
+use Rattle.area_search.specs.declared.kinds.AreaAnswer.TheVariants as found
+use Rattle.area_search.specs.declared.kinds.AreaFinding.{AreaFinding}
+use Rattle.area_search.specs.declared.kinds.AreaFinding.TheVariants as fault
 use Rattle.delivery.specs.Answers.{Matches, same, meetings, AgreeLines, Agree}
-use Rattle.delivery.specs.AreaAnswers.{meeting_of, IsAnswer, arc_later, meeting, rest_later, is_half, is_half_arc, plans, AreDrawings, AreAnswers, is_fault, has_fault, IsFaultyPlan, IsLeftPlan, IsFaultyArea, IsLeftArea}
-use Rattle.delivery.specs.Drawings.{IsDrawing}
+use Rattle.delivery.specs.AreaAnswers.{IsAnswer, later, faulty, proved, fault_told, proof_told, curve_line, is_half, is_half_arc, has_half_arc, has_arc, HasHalfArc, IsDrawn, AreAnswers, is_fault, is_left, has_fault, has_left, IsFaultyPlan, IsDecidedPlan, HasFaultyArea, ArePartedAreas, HasArcArea, AreLeftAreas}
+use Rattle.delivery.specs.AreaNames.{topic_name, table_name}
+use Rattle.delivery.specs.Drawings.{IsDrawing, AreDrawings}
 use Rattle.delivery.specs.Lines as lines
 use Rattle.delivery.specs.Lines.{Line}
-use Rattle.delivery.specs.Outcomes.{Outcome, reported, area_line, area_lines, areas_told}
-use Rattle.delivery.specs.AreaNames.{topic_at, name_at}
+use Rattle.delivery.specs.Outcomes.{Outcome, reported, accepted, with_verdict, area_line, area_lines, areas_told}
+use Rattle.delivery.specs.Verifying as verifying
+use Rattle.delivery.specs.Verifying.{Verification, IsVerification}
 use Rattle.delivery.specs.declared.report.lines.AreaAnswer.{AreaAnswer}
-use Rattle.delivery.specs.declared.report.lines.AreaAnswer.TheVariants.{Later, Meeting}
+use Rattle.delivery.specs.declared.report.lines.AreaAnswer.TheVariants.{Later, Meeting, On, Outside, Two, Empty, Proved}
 use Rattle.delivery.specs.declared.report.lines.Verdict.TheVariants as verdict
 use Rattle.delivery.specs.declared.status.Status.TheVariants as status
-use Rattle.std.specs.Prelude.{slice_get, if◌then◌else◌}
 
-differ : {P : Type 0} (b : Bool) → b ≡ true → b ≡ false → P
+-- ---- the laws of the layers below
+-- two answers to one drawing agree
+abbrev pub AnswersAgree : Type 0
+AnswersAgree = (d : Plan) (a b : Found) → search.IsAnswer d a → search.IsAnswer d b → search.Agree a b
+
+-- a partition is proved
+abbrev pub PartitionsAreProved : Type 0
+PartitionsAreProved = (d : Plan) (a : Found) → IsPartition d → search.IsAnswer d a → (c : Certificate) × (a ≡ found.Proved c)
+
+-- what is proved is a partition
+abbrev pub ProofsHold : Type 0
+ProofsHold = (d : Plan) (c : Claims) → Proves d c → IsPartition d
+
+-- two verifications of one text agree
+abbrev pub VerificationsAgree : Type 0
+VerificationsAgree = (l : Layout) (ds : List Plan) (text : List ℕ) (v w : Verification) → IsVerification l ds text v → IsVerification l ds text w → v ≡ w
+
+-- what a text proves is a partition
+abbrev pub VerifiedPartitions : Type 0
+VerifiedPartitions = (l : Layout) (ds : List Plan) (text levels : List ℕ) → IsVerification l ds text (verifying.proved levels) → All IsPartition ds
+
+pub record AreaLaws : Type 0 where
+  pub agree : AnswersAgree
+  pub partitions : PartitionsAreProved
+  pub proofs : ProofsHold
+  pub verifications : VerificationsAgree
+  pub verified : VerifiedPartitions
+
+pub differ : {P : Type 0} (b : Bool) → b ≡ true → b ≡ false → P
 differ b h k = absurd (let e = sym h ∙ k in cc)
 
 either : (b c : Bool) → (b || c) ≡ true → (b ≡ true) ⊎ (c ≡ true)
 either true c h = inl refl
 either false c h = inr h
 
-neither : (b c : Bool) → (b || c) ≡ false → (b ≡ false) × (c ≡ false)
+pub neither : (b c : Bool) → (b || c) ≡ false → (b ≡ false) × (c ≡ false)
 neither true c h = absurd (cc)
 neither false c h = (refl, h)
-
--- ---- lists of pairs
-zip_more : {A B : Type 0} (R : A → B → Type 0) (xs : List A) (ys : List B) (i : ℕ) (x : A) (y : B) → i < length xs → x ≡ get_or xs i x → AllZip R (take i xs) ys → R x y → AllZip R (take (suc i) xs) (ys ++ y ∷ [])
-zip_more R [] ys i x y l e h r = absurd (omega (arith, l))
-zip_more R (a ∷ xs) [] zero x y l e h r = (subst (λ z. R z y) e r, tt)
-zip_more R (a ∷ xs) (b ∷ ys) zero x y l e h r = absurd h
-zip_more R (a ∷ xs) [] (suc i) x y l e h r = absurd h
-zip_more R (a ∷ xs) (b ∷ ys) (suc i) x y l e h r = (h.0, zip_more R xs ys i x y (omega (arith, l)) e h.1 r)
-
-module _ {X Y B : Type 0} (f : X → Y) (R : Y → B → Type 0) (xs : List X) (i : ℕ) (x : X) (l : i < length xs) (e : x ≡ get_or xs i x) where
-  pub seen_more : (old new : List B) (y : B) → new ≡ old ++ y ∷ [] → AllZip R (take i (map f xs)) old → R (f x) y → AllZip R (take (i + 1) (map f xs)) new
-  seen_more old new y n h r =
-      let one : suc i ≡ i + 1 = omega arith in
-      let m = length-map xs f in
-      subst (AllZip R (take (i + 1) (map f xs))) (sym n)
-      (subst (λ (k : ℕ). AllZip R (take k (map f xs)) (old ++ y ∷ [])) one
-      (zip_more R (map f xs) old i (f x) y (omega (arith, l, m)) (ap f e ∙ sym (get_or-map f xs i x (f x) l)) h r))
-
-pub drawn_more : (R : AreaOf → Plan → Type 0) (xs : List area.AreaOf) (i : ℕ) (x : area.AreaOf) (old new : List Drawing) (d : Drawing) → i < length xs → x ≡ get_or xs i x → new ≡ old ++ d ∷ [] → AllZip R (take i (areas_view xs)) (plans old) → R (area_view x) (plan d) → AllZip R (take (i + 1) (areas_view xs)) (plans new)
-drawn_more R xs i x old new d l e n h r = seen_more area_view R xs i x l e (plans old) (plans new) (plan d) (ap plans n ∙ map-append plan old (d ∷ [])) h r
 
 -- ---- straights and half arcs
 kind_half : (k : CurveKind) → is_half k ≡ true → k ≡ HalfArc
@@ -70,7 +83,7 @@ kind_straight Straight h = refl
 kind_straight HalfArc h = absurd (cc)
 
 abbrev HalfArcIn : List Curve → Type 0
-HalfArcIn cs = (i : ℕ) × (i < length cs) × ((curve_of cs i).kind ≡ HalfArc)
+HalfArcIn cs = (i : ℕ) × (i < length cs) × ((nth_curve cs i).kind ≡ HalfArc)
 
 half_arc_in : (cs : List Curve) → list_any is_half_arc cs ≡ true → HalfArcIn cs
 half_arc_in [] h = absurd (cc)
@@ -79,55 +92,63 @@ half_arc_in (c ∷ cs) h = elim (either (is_half_arc c) (list_any is_half_arc cs
   | inr e ↦ (let r = half_arc_in cs e in (suc r.0, (let n = r.1 in omega (arith, n)), r.2))
 ]
 
-straights_in : (cs : List Curve) → list_any is_half_arc cs ≡ false → AreStraights cs
+straights_in : (cs : List Curve) → list_any is_half_arc cs ≡ false → AreAllStraight cs
 straights_in [] h i l = absurd (omega (arith, l))
 straights_in (c ∷ cs) h zero l = kind_straight c.kind (neither (is_half_arc c) (list_any is_half_arc cs) h).0
 straights_in (c ∷ cs) h (suc i) l = straights_in cs (neither (is_half_arc c) (list_any is_half_arc cs) h).1 i (omega (arith, l))
 
 -- a drawing has a half arc, or straights alone
-module _ (d : Drawing) (cs : List Curve) (b : Bool) (e : b ≡ list_any is_half_arc cs) (q : cs ≡ d.curves.items) where
-  pub answer_arc : b ≡ true → IsAnswer (plan d) Later
-  answer_arc t =
-      let r = half_arc_in d.curves.items (ap (list_any is_half_arc) (sym q) ∙ sym e ∙ t) in
-      arc_later r.0 (record { there = r.1; kind = r.2 }) refl
+pub some_half_arc : (d : Plan) (b : Bool) → b ≡ list_any is_half_arc d.curves → b ≡ true → HasHalfArc d
+some_half_arc d b e t = let r = half_arc_in d.curves (sym e ∙ t) in (r.0, record { there = r.1; kind = r.2 })
 
-  pub all_straights : b ≡ false → AreStraights d.curves.items
-  all_straights f = straights_in d.curves.items (ap (list_any is_half_arc) (sym q) ∙ sym e ∙ f)
+pub all_straights : (d : Plan) (b : Bool) → b ≡ list_any is_half_arc d.curves → b ≡ false → AreStraights d
+all_straights d b e f = straights_in d.curves (sym e ∙ f)
 
-pub answer_meeting : (d : Drawing) (r : Option BadPair) (p : BadPair) (cs : List Curve) (x : AreaAnswer) → AreStraights d.curves.items → r ≡ Some p → IfSome r (λ (t : BadPair). IsBadPair (plan d) t.first t.second) → cs ≡ d.curves.items → x ≡ meeting_of cs p.first p.second → IsAnswer (plan d) x
-answer_meeting d r p cs x s e h q f =
-    meeting p.first p.second s (subst (λ (o : Option BadPair). IfSome o (λ (t : BadPair). IsBadPair (plan d) t.first t.second)) e h) (f ∙ ap (λ (ks : List Curve). meeting_of ks p.first p.second) q)
-
--- ---- an area and its answer, by some drawing of it
-abbrev pub IsAnswered : Layout → List (List Row) → AreaOf → AreaAnswer → Type 0
-IsAnswered l rows a x = (d : Plan) × IsDrawing l rows a d × IsAnswer d x
-
-joined : (l : Layout) (rows : List (List Row)) (as_ : List AreaOf) (ds : List Plan) (xs : List AreaAnswer) → AllZip (IsDrawing l rows) as_ ds → AllZip IsAnswer ds xs → AllZip (IsAnswered l rows) as_ xs
-joined l rows [] [] [] p q = tt
-joined l rows [] [] (x ∷ xs) p q = absurd q
-joined l rows [] (d ∷ ds) xs p q = absurd p
-joined l rows (a ∷ as_) [] xs p q = absurd p
-joined l rows (a ∷ as_) (d ∷ ds) [] p q = absurd q
-joined l rows (a ∷ as_) (d ∷ ds) (x ∷ xs) p q = ((d, p.0, q.0), joined l rows as_ ds xs p.1 q.1)
+-- a drawing of straights has no half arc
+no_half_arc : (d : Plan) (i : ℕ) → AreStraights d → IsHalfArc d i → ⊥
+no_half_arc d i s h = kinds (curve d i) (s i h.there) h.kind
+  where
+    kinds : (c : Curve) → c.kind ≡ Straight → c.kind ≡ HalfArc → ⊥
+    kinds c a b = let e = sym a ∙ b in cc
 
 -- ---- what an answer says of its drawing
-faulty_plan : (d : Plan) (x : AreaAnswer) → is_fault x ≡ true → IsAnswer d x → IsFaultyPlan d
-faulty_plan d x f (arc_later i h e) = differ (is_fault x) f (ap is_fault e)
-faulty_plan d x f (rest_later s h e) = differ (is_fault x) f (ap is_fault e)
-faulty_plan d x f (meeting i j s b e) = record {
-  first = i;
-  second = j;
-  bad = b;
-  no_partition = λ p.
-      let o = b.order in
-      let t = b.there in
-      bad_not_apart (curve d i) (curve d j) b.bad (p.apart i j (omega (arith, o, t)) t (λ q. omega (arith, o, q)));
-}
+pub fault_is_fault : (d : Plan) (f : AreaFinding) → is_fault (fault_told d f) ≡ true
+fault_is_fault d (fault.Meeting i j) = refl
+fault_is_fault d (fault.On j i) = refl
+fault_is_fault d (fault.Outside j) = refl
+fault_is_fault d (fault.Two i j) = refl
+fault_is_fault d (fault.Empty i left) = refl
 
-left_plan : (d : Plan) (x : AreaAnswer) → is_fault x ≡ false → IsAnswer d x → IsLeftPlan d
-left_plan d x f (arc_later i h e) = inl (i, h)
-left_plan d x f (rest_later s h e) = inr (s, h)
-left_plan d x f (meeting i j s b e) = differ (is_fault x) (ap is_fault e) f
+fault_not_left : (d : Plan) (f : AreaFinding) → is_left (fault_told d f) ≡ false
+fault_not_left d (fault.Meeting i j) = refl
+fault_not_left d (fault.On j i) = refl
+fault_not_left d (fault.Outside j) = refl
+fault_not_left d (fault.Two i j) = refl
+fault_not_left d (fault.Empty i left) = refl
+
+not_proved : (f : AreaFinding) → (c : Certificate) × (found.Fault f ≡ found.Proved c) → ⊥
+not_proved f r = let e = r.1 in cc
+
+module _ (laws : AreaLaws) (l : Layout) (a : AreaOf) (d : Plan) (x : AreaAnswer) (cs : List Plain) where
+  faulty_plan : is_fault x ≡ true → IsAnswer l a d x cs → IsFaultyPlan d
+  faulty_plan t (later i h e z) = differ (is_fault x) t (ap is_fault e)
+  faulty_plan t (faulty f s h e z) = record { finding = f; first = h; no_partition = λ p. not_proved f (laws.partitions d (found.Fault f) p h) }
+  faulty_plan t (proved c s h v e z) = differ (is_fault x) t (ap is_fault e)
+
+  left_plan : is_left x ≡ true → IsAnswer l a d x cs → HasHalfArc d
+  left_plan t (later i h e z) = (i, h)
+  left_plan t (faulty f s h e z) = differ (is_left x) t (ap is_left e ∙ fault_not_left d f)
+  left_plan t (proved c s h v e z) = differ (is_left x) t (ap is_left e)
+
+  decided_plan : is_fault x ≡ false → IsAnswer l a d x cs → HasHalfArc d ⊎ IsPartition d
+  decided_plan t (later i h e z) = inl (i, h)
+  decided_plan t (faulty f s h e z) = differ (is_fault x) (ap is_fault e ∙ fault_is_fault d f) t
+  decided_plan t (proved c s h v e z) = inr (laws.proofs d _ h.proves)
+
+  parted_plan : is_fault x ≡ false → is_left x ≡ false → IsAnswer l a d x cs → IsPartition d
+  parted_plan t n (later i h e z) = differ (is_left x) (ap is_left e) n
+  parted_plan t n (faulty f s h e z) = differ (is_fault x) (ap is_fault e ∙ fault_is_fault d f) t
+  parted_plan t n (proved c s h v e z) = laws.proofs d _ h.proves
 
 any_here : (P : AreaOf → Type 0) (a : AreaOf) (as_ : List AreaOf) → P a → Any P (a ∷ as_)
 any_here P a as_ h = (0, a, omega arith, refl, h)
@@ -135,109 +156,190 @@ any_here P a as_ h = (0, a, omega arith, refl, h)
 any_there : (P : AreaOf → Type 0) (a : AreaOf) (as_ : List AreaOf) → Any P as_ → Any P (a ∷ as_)
 any_there P a as_ h = (suc h.0, h.1, (let n = h.2 in omega (arith, n)), h.3, h.4)
 
-module _ (l : Layout) (rows : List (List Row)) where
-  some_faulty : (as_ : List AreaOf) (xs : List AreaAnswer) → AllZip (IsAnswered l rows) as_ xs → has_fault xs ≡ true → Any (IsFaultyArea l rows) as_
-  some_faulty [] [] h f = absurd (cc)
-  some_faulty [] (x ∷ xs) h f = absurd h
-  some_faulty (a ∷ as_) [] h f = absurd h
-  some_faulty (a ∷ as_) (x ∷ xs) h f = elim (either (is_fault x) (has_fault xs) f) as (λ z. Any (IsFaultyArea l rows) (a ∷ as_)) [
-    | inl e ↦ any_here (IsFaultyArea l rows) a as_ (h.0.0, h.0.1, faulty_plan h.0.0 x e h.0.2)
-    | inr e ↦ any_there (IsFaultyArea l rows) a as_ (some_faulty as_ xs h.1 e)
+-- ---- what answers say of their areas
+module _ (laws : AreaLaws) (l : Layout) (rows : List (List Row)) where
+  some_faulty : (as_ : List AreaOf) (ds : List Plan) (xs : List AreaAnswer) (cs : List Plain) → AllZip (IsDrawing l rows) as_ ds → AreAnswers l as_ ds xs cs → has_fault xs ≡ true → Any (IsDrawn l rows IsFaultyPlan) as_
+  some_faulty [] [] [] cs w h f = absurd (cc)
+  some_faulty [] [] (x ∷ xs) cs w h f = absurd h
+  some_faulty [] (d ∷ ds) xs cs w h f = absurd h
+  some_faulty (a ∷ as_) [] xs cs w h f = absurd h
+  some_faulty (a ∷ as_) (d ∷ ds) [] cs w h f = absurd h
+  some_faulty (a ∷ as_) (d ∷ ds) (x ∷ xs) cs w h f = elim (either (is_fault x) (has_fault xs) f) as (λ z. Any (IsDrawn l rows IsFaultyPlan) (a ∷ as_)) [
+    | inl e ↦ any_here (IsDrawn l rows IsFaultyPlan) a as_ (d, w.0, faulty_plan laws l a d x h.0 e h.2)
+    | inr e ↦ any_there (IsDrawn l rows IsFaultyPlan) a as_ (some_faulty as_ ds xs h.1 w.1 h.3 e)
   ]
 
-  all_left : (as_ : List AreaOf) (xs : List AreaAnswer) → AllZip (IsAnswered l rows) as_ xs → has_fault xs ≡ false → All (IsLeftArea l rows) as_
-  all_left [] [] h f = All-nil (IsLeftArea l rows)
-  all_left [] (x ∷ xs) h f = absurd h
-  all_left (a ∷ as_) [] h f = absurd h
-  all_left (a ∷ as_) (x ∷ xs) h f =
+  some_left : (as_ : List AreaOf) (ds : List Plan) (xs : List AreaAnswer) (cs : List Plain) → AllZip (IsDrawing l rows) as_ ds → AreAnswers l as_ ds xs cs → has_left xs ≡ true → Any (IsDrawn l rows HasHalfArc) as_
+  some_left [] [] [] cs w h f = absurd (cc)
+  some_left [] [] (x ∷ xs) cs w h f = absurd h
+  some_left [] (d ∷ ds) xs cs w h f = absurd h
+  some_left (a ∷ as_) [] xs cs w h f = absurd h
+  some_left (a ∷ as_) (d ∷ ds) [] cs w h f = absurd h
+  some_left (a ∷ as_) (d ∷ ds) (x ∷ xs) cs w h f = elim (either (is_left x) (has_left xs) f) as (λ z. Any (IsDrawn l rows HasHalfArc) (a ∷ as_)) [
+    | inl e ↦ any_here (IsDrawn l rows HasHalfArc) a as_ (d, w.0, left_plan laws l a d x h.0 e h.2)
+    | inr e ↦ any_there (IsDrawn l rows HasHalfArc) a as_ (some_left as_ ds xs h.1 w.1 h.3 e)
+  ]
+
+  all_decided : (as_ : List AreaOf) (ds : List Plan) (xs : List AreaAnswer) (cs : List Plain) → AllZip (IsDrawing l rows) as_ ds → AreAnswers l as_ ds xs cs → has_fault xs ≡ false → All (IsDrawn l rows IsDecidedPlan) as_
+  all_decided [] [] [] cs w h f = All-nil (IsDrawn l rows IsDecidedPlan)
+  all_decided [] [] (x ∷ xs) cs w h f = absurd h
+  all_decided [] (d ∷ ds) xs cs w h f = absurd h
+  all_decided (a ∷ as_) [] xs cs w h f = absurd h
+  all_decided (a ∷ as_) (d ∷ ds) [] cs w h f = absurd h
+  all_decided (a ∷ as_) (d ∷ ds) (x ∷ xs) cs w h f =
       let n = neither (is_fault x) (has_fault xs) f in
-      All-cons (IsLeftArea l rows) a as_ (h.0.0, h.0.1, left_plan h.0.0 x n.0 h.0.2) (all_left as_ xs h.1 n.1)
+      All-cons (IsDrawn l rows IsDecidedPlan) a as_ (d, w.0, decided_plan laws l a d x h.0 n.0 h.2) (all_decided as_ ds xs h.1 w.1 h.3 n.1)
 
-  pub faulty_area : (ds : List Plan) (xs : List AreaAnswer) → AreDrawings l rows ds → AreAnswers ds xs → has_fault xs ≡ true → Any (IsFaultyArea l rows) l.areas
-  faulty_area ds xs p q = some_faulty l.areas xs (joined l rows l.areas ds xs p q)
+  all_parted : (as_ : List AreaOf) (ds : List Plan) (xs : List AreaAnswer) (cs : List Plain) → AllZip (IsDrawing l rows) as_ ds → AreAnswers l as_ ds xs cs → has_fault xs ≡ false → has_left xs ≡ false → All (IsDrawn l rows IsPartition) as_
+  all_parted [] [] [] cs w h f g = All-nil (IsDrawn l rows IsPartition)
+  all_parted [] [] (x ∷ xs) cs w h f g = absurd h
+  all_parted [] (d ∷ ds) xs cs w h f g = absurd h
+  all_parted (a ∷ as_) [] xs cs w h f g = absurd h
+  all_parted (a ∷ as_) (d ∷ ds) [] cs w h f g = absurd h
+  all_parted (a ∷ as_) (d ∷ ds) (x ∷ xs) cs w h f g =
+      let n = neither (is_fault x) (has_fault xs) f in
+      let m = neither (is_left x) (has_left xs) g in
+      All-cons (IsDrawn l rows IsPartition) a as_ (d, w.0, parted_plan laws l a d x h.0 n.0 m.0 h.2) (all_parted as_ ds xs h.1 w.1 h.3 n.1 m.1)
 
-  pub left_areas : (ds : List Plan) (xs : List AreaAnswer) → AreDrawings l rows ds → AreAnswers ds xs → has_fault xs ≡ false → All (IsLeftArea l rows) l.areas
-  left_areas ds xs p q = all_left l.areas xs (joined l rows l.areas ds xs p q)
+  module _ (ds : List Plan) (xs : List AreaAnswer) (cs : List Plain) (w : AreDrawings l rows ds) (h : AreAnswers l l.areas ds xs cs) where
+    pub faulty_area : has_fault xs ≡ true → HasFaultyArea l rows
+    faulty_area = some_faulty l.areas ds xs cs w h
+
+    pub left_areas : has_fault xs ≡ false → has_left xs ≡ true → AreLeftAreas l rows
+    left_areas f g = (some_left l.areas ds xs cs w h g, all_decided l.areas ds xs cs w h f)
+
+    pub parted_areas : has_fault xs ≡ false → has_left xs ≡ false → ArePartedAreas l rows
+    parted_areas = all_parted l.areas ds xs cs w h
+
+-- ---- drawings by themselves
+module _ (l : Layout) (rows : List (List Row)) where
+  -- they are partitions
+  parted_from : (as_ : List AreaOf) (ds : List Plan) → AllZip (IsDrawing l rows) as_ ds → All IsPartition ds → All (IsDrawn l rows IsPartition) as_
+  parted_from [] [] w h = All-nil (IsDrawn l rows IsPartition)
+  parted_from [] (d ∷ ds) w h = absurd w
+  parted_from (a ∷ as_) [] w h = absurd w
+  parted_from (a ∷ as_) (d ∷ ds) w h = All-cons (IsDrawn l rows IsPartition) a as_ (d, w.0, All-head IsPartition d ds h) (parted_from as_ ds w.1 (All-tail IsPartition d ds h))
+
+  pub parted_all : (ds : List Plan) → AreDrawings l rows ds → All IsPartition ds → ArePartedAreas l rows
+  parted_all = parted_from l.areas
+
+  -- some drawing has a half arc, or none has
+  arc_from : (as_ : List AreaOf) (ds : List Plan) → AllZip (IsDrawing l rows) as_ ds → has_arc ds ≡ true → Any (IsDrawn l rows HasHalfArc) as_
+  arc_from [] [] w h = absurd (cc)
+  arc_from [] (d ∷ ds) w h = absurd w
+  arc_from (a ∷ as_) [] w h = absurd w
+  arc_from (a ∷ as_) (d ∷ ds) w h = elim (either (has_half_arc d) (has_arc ds) h) as (λ z. Any (IsDrawn l rows HasHalfArc) (a ∷ as_)) [
+    | inl e ↦ any_here (IsDrawn l rows HasHalfArc) a as_ (d, w.0, some_half_arc d true (sym e) refl)
+    | inr e ↦ any_there (IsDrawn l rows HasHalfArc) a as_ (arc_from as_ ds w.1 e)
+  ]
+
+  pub some_arc : (ds : List Plan) (b : Bool) → AreDrawings l rows ds → b ≡ has_arc ds → b ≡ true → HasArcArea l rows
+  some_arc ds b w e t = arc_from l.areas ds w (sym e ∙ t)
+
+  arc_on : (d e : Plan) → d.curves ≡ e.curves → HasHalfArc d → HasHalfArc e
+  arc_on d e q h =
+      let r : HalfArcIn e.curves = subst HalfArcIn q (h.0, h.1.there, h.1.kind) in
+      (r.0, record { there = r.1; kind = r.2 })
+
+  no_arc_from : (as_ : List AreaOf) (ds : List Plan) → AllZip (IsDrawing l rows) as_ ds → has_arc ds ≡ false → (k : ℕ) (a : AreaOf) → k < length as_ → a ≡ get_or as_ k a → IsDrawn l rows HasHalfArc a → ⊥
+  no_arc_from [] [] w h k a n e s = absurd (omega (arith, n))
+  no_arc_from [] (d ∷ ds) w h k a n e s = absurd w
+  no_arc_from (b ∷ as_) [] w h k a n e s = absurd w
+  no_arc_from (b ∷ as_) (d ∷ ds) w h zero a n e s =
+      let f = (neither (has_half_arc d) (has_arc ds) h).0 in
+      let t = subst (IsDrawn l rows HasHalfArc) e s in
+      let c = arc_on t.0 d (t.1.curves ∙ sym w.0.curves) t.2 in
+      no_half_arc d c.0 (all_straights d false (sym f) refl) c.1
+  no_arc_from (b ∷ as_) (d ∷ ds) w h (suc k) a n e s = no_arc_from as_ ds w.1 (neither (has_half_arc d) (has_arc ds) h).1 k a (omega (arith, n)) e s
+
+  pub no_arc : (ds : List Plan) (b : Bool) → AreDrawings l rows ds → b ≡ has_arc ds → b ≡ false → HasArcArea l rows → ⊥
+  no_arc ds b w e t h = no_arc_from l.areas ds w (sym e ∙ t) h.0 h.1 h.2 (sym h.3) h.4
+
+-- what is told of answers, by whether one is a fault and whether one is left
+abbrev pub told_by : Layout → ℕ → List ℕ → List AreaAnswer → List Plain → Bool → Bool → Outcome
+told_by l objects name xs cs b c =
+    if b then reported status.Rejected (with_verdict (area_lines l l.areas xs) verdict.Rejected)
+    else if c then reported status.Undecided (with_verdict (area_lines l l.areas xs) verdict.Undecided)
+    else accepted (area_lines l l.areas xs) objects name cs
 
 -- ---- two answers to one area
 data AreAlike (x y : AreaAnswer) : Type 0 where
   equal : x ≡ y → AreAlike x y
   both_meet : (i j k m : ℕ) → x ≡ Meeting i j → y ≡ Meeting k m → AreAlike x y
 
-module _ (d e : Plan) (q : d.curves ≡ e.curves) where
-  straights_on : AreStraights d.curves → AreStraights e.curves
-  straights_on = subst AreStraights q
+told_alike : (d : Plan) (f g : AreaFinding) → search.Agree (found.Fault f) (found.Fault g) → AreAlike (fault_told d f) (fault_told d g)
+told_alike d _ _ (search.meetings i j k m) = both_meet (curve_line d i) (curve_line d j) (curve_line d k) (curve_line d m) refl refl
+told_alike d _ _ (search.faults f) = equal refl
 
-  straights_back : AreStraights e.curves → AreStraights d.curves
-  straights_back = subst AreStraights (sym q)
-
-  bad_on : (i j : ℕ) → IsBadPair d i j → IsBadPair e i j
-  bad_on i j h = record {
-    order = h.order;
-    there = subst (λ (cs : List Curve). j < length cs) q h.there;
-    bad = subst (λ (cs : List Curve). AreBad (curve_of cs i) (curve_of cs j)) q h.bad;
-  }
-
--- a drawing of straights has no half arc
-no_half_arc : (d : Plan) (i : ℕ) → AreStraights d.curves → IsHalfArc d i → ⊥
-no_half_arc d i s h = kinds (curve d i) (s i h.there) h.kind
-  where
-    kinds : (c : Curve) → c.kind ≡ Straight → c.kind ≡ HalfArc → ⊥
-    kinds c a b = let e = sym a ∙ b in cc
-
-alike : (d e : Plan) (x y : AreaAnswer) → d.curves ≡ e.curves → IsAnswer d x → IsAnswer e y → AreAlike x y
-alike d e x y q (arc_later i h f) (arc_later j k g) = equal (f ∙ sym g)
-alike d e x y q (arc_later i h f) (meeting j k s b g) = absurd (no_half_arc d i (straights_back d e q s) h)
-alike d e x y q (arc_later i h f) (rest_later s n g) = equal (f ∙ sym g)
-alike d e x y q (rest_later s n f) (arc_later j k g) = equal (f ∙ sym g)
-alike d e x y q (rest_later s n f) (meeting j k t b g) = absurd (n j k (bad_on e d (sym q) j k b))
-alike d e x y q (rest_later s n f) (rest_later t m g) = equal (f ∙ sym g)
-alike d e x y q (meeting i j s b f) (arc_later k h g) = absurd (no_half_arc e k (straights_on d e q s) h)
-alike d e x y q (meeting i j s b f) (rest_later t m g) = absurd (m i j (bad_on d e q i j b))
-alike d e x y q (meeting i j s b f) (meeting k m t c g) = both_meet _ _ _ _ f g
+alike_as : (x y v w : AreaAnswer) → x ≡ v → y ≡ w → AreAlike v w → AreAlike x y
+alike_as x y v w e f (equal h) = equal (e ∙ h ∙ sym f)
+alike_as x y v w e f (both_meet i j k m h n) = both_meet i j k m (e ∙ h) (f ∙ n)
 
 alike_faults : (x y : AreaAnswer) → AreAlike x y → is_fault x ≡ is_fault y
 alike_faults x y (equal e) = ap is_fault e
 alike_faults x y (both_meet i j k m e f) = ap is_fault e ∙ sym (ap is_fault f)
 
+alike_left : (x y : AreaAnswer) → AreAlike x y → is_left x ≡ is_left y
+alike_left x y (equal e) = ap is_left e
+alike_left x y (both_meet i j k m e f) = ap is_left e ∙ sym (ap is_left f)
+
 alike_lines : (l : Layout) (a : AreaOf) (x y : AreaAnswer) → AreAlike x y → Matches (area_line l a x) (area_line l a y)
 alike_lines l a x y (equal e) = same (ap (area_line l a) e)
 alike_lines l a x y (both_meet i j k m e f) =
-    meetings (topic_at l (slice_get l.tables a.main)) (name_at (slice_get l.tables a.main)) a.name i j k m (ap (area_line l a) e) (ap (area_line l a) f)
+    meetings (topic_name l a) (table_name l a) a.name i j k m (ap (area_line l a) e) (ap (area_line l a) f)
 
--- ---- two lists of answers
-module _ (l : Layout) (rows : List (List Row)) where
-  alike_area : (a : AreaOf) (x y : AreaAnswer) → IsAnswered l rows a x → IsAnswered l rows a y → AreAlike x y
-  alike_area a x y h k = alike h.0 k.0 x y (h.1.curves ∙ sym k.1.curves) h.2 k.2
+module _ (laws : AreaLaws) (l : Layout) where
+  alike : (a : AreaOf) (d : Plan) (x y : AreaAnswer) (cs es : List Plain) → IsAnswer l a d x cs → IsAnswer l a d y es → AreAlike x y
+  alike a d x y cs es (later i h e z) (later j k g w) = equal (e ∙ sym g)
+  alike a d x y cs es (later i h e z) (faulty f s k g w) = absurd (no_half_arc d i s h)
+  alike a d x y cs es (later i h e z) (proved c s k v g w) = absurd (no_half_arc d i s h)
+  alike a d x y cs es (faulty f s h e z) (later j k g w) = absurd (no_half_arc d j s k)
+  alike a d x y cs es (faulty f s h e z) (faulty n t k g w) = alike_as x y _ _ e g (told_alike d f n (laws.agree d (found.Fault f) (found.Fault n) h k))
+  alike a d x y cs es (faulty f s h e z) (proved c t k v g w) = absurd (not_proved f (laws.partitions d (found.Fault f) (laws.proofs d _ k.proves) h))
+  alike a d x y cs es (proved c s h v e z) (later j k g w) = absurd (no_half_arc d j s k)
+  alike a d x y cs es (proved c s h v e z) (faulty f t k g w) = absurd (not_proved f (laws.partitions d (found.Fault f) (laws.proofs d _ h.proves) k))
+  alike a d x y cs es (proved c s h v e z) (proved b t k u g w) = equal (e ∙ ap (proof_told d) (v ∙ sym u) ∙ sym g)
 
-  same_faults : (as_ : List AreaOf) (xs ys : List AreaAnswer) → AllZip (IsAnswered l rows) as_ xs → AllZip (IsAnswered l rows) as_ ys → has_fault xs ≡ has_fault ys
-  same_faults [] [] [] h k = refl
-  same_faults [] (x ∷ xs) ys h k = absurd h
-  same_faults [] [] (y ∷ ys) h k = absurd k
-  same_faults (a ∷ as_) [] ys h k = absurd h
-  same_faults (a ∷ as_) (x ∷ xs) [] h k = absurd k
-  same_faults (a ∷ as_) (x ∷ xs) (y ∷ ys) h k =
-      ap (λ (b : Bool). b || has_fault xs) (alike_faults x y (alike_area a x y h.0 k.0)) ∙ ap (λ (b : Bool). is_fault y || b) (same_faults as_ xs ys h.1 k.1)
+  same_faults : (as_ : List AreaOf) (ds : List Plan) (xs ys : List AreaAnswer) (cs es : List Plain) → AreAnswers l as_ ds xs cs → AreAnswers l as_ ds ys es → has_fault xs ≡ has_fault ys
+  same_faults [] [] [] [] cs es h k = refl
+  same_faults [] [] [] (y ∷ ys) cs es h k = absurd k
+  same_faults [] [] (x ∷ xs) ys cs es h k = absurd h
+  same_faults [] (d ∷ ds) xs ys cs es h k = absurd h
+  same_faults (a ∷ as_) [] xs ys cs es h k = absurd h
+  same_faults (a ∷ as_) (d ∷ ds) [] ys cs es h k = absurd h
+  same_faults (a ∷ as_) (d ∷ ds) (x ∷ xs) [] cs es h k = absurd k
+  same_faults (a ∷ as_) (d ∷ ds) (x ∷ xs) (y ∷ ys) cs es h k =
+      ap (λ (b : Bool). b || has_fault xs) (alike_faults x y (alike a d x y h.0 k.0 h.2 k.2)) ∙ ap (λ (b : Bool). is_fault y || b) (same_faults as_ ds xs ys h.1 k.1 h.3 k.3)
 
-  alike_all : (as_ : List AreaOf) (xs ys : List AreaAnswer) (v : Line) → AllZip (IsAnswered l rows) as_ xs → AllZip (IsAnswered l rows) as_ ys → AgreeLines (area_lines l as_ xs ++ (v ∷ [])) (area_lines l as_ ys ++ (v ∷ []))
-  alike_all [] [] [] v h k = (same refl, tt)
-  alike_all [] (x ∷ xs) ys v h k = absurd h
-  alike_all [] [] (y ∷ ys) v h k = absurd k
-  alike_all (a ∷ as_) [] ys v h k = absurd h
-  alike_all (a ∷ as_) (x ∷ xs) [] v h k = absurd k
-  alike_all (a ∷ as_) (x ∷ xs) (y ∷ ys) v h k = (alike_lines l a x y (alike_area a x y h.0 k.0), alike_all as_ xs ys v h.1 k.1)
+  same_left : (as_ : List AreaOf) (ds : List Plan) (xs ys : List AreaAnswer) (cs es : List Plain) → AreAnswers l as_ ds xs cs → AreAnswers l as_ ds ys es → has_left xs ≡ has_left ys
+  same_left [] [] [] [] cs es h k = refl
+  same_left [] [] [] (y ∷ ys) cs es h k = absurd k
+  same_left [] [] (x ∷ xs) ys cs es h k = absurd h
+  same_left [] (d ∷ ds) xs ys cs es h k = absurd h
+  same_left (a ∷ as_) [] xs ys cs es h k = absurd h
+  same_left (a ∷ as_) (d ∷ ds) [] ys cs es h k = absurd h
+  same_left (a ∷ as_) (d ∷ ds) (x ∷ xs) [] cs es h k = absurd k
+  same_left (a ∷ as_) (d ∷ ds) (x ∷ xs) (y ∷ ys) cs es h k =
+      ap (λ (b : Bool). b || has_left xs) (alike_left x y (alike a d x y h.0 k.0 h.2 k.2)) ∙ ap (λ (b : Bool). is_left y || b) (same_left as_ ds xs ys h.1 k.1 h.3 k.3)
 
-  abbrev told_by : List AreaAnswer → Bool → Outcome
-  told_by xs b =
-      if b then reported status.Rejected (area_lines l l.areas xs ++ (lines.verdict verdict.Rejected ∷ []))
-      else reported status.Undecided (area_lines l l.areas xs ++ (lines.verdict verdict.Undecided ∷ []))
+  alike_all : (as_ : List AreaOf) (ds : List Plan) (xs ys : List AreaAnswer) (cs es : List Plain) (v : Line) → AreAnswers l as_ ds xs cs → AreAnswers l as_ ds ys es → AgreeLines (area_lines l as_ xs ++ (v ∷ [])) (area_lines l as_ ys ++ (v ∷ []))
+  alike_all [] [] [] [] cs es v h k = (same refl, tt)
+  alike_all [] [] [] (y ∷ ys) cs es v h k = absurd k
+  alike_all [] [] (x ∷ xs) ys cs es v h k = absurd h
+  alike_all [] (d ∷ ds) xs ys cs es v h k = absurd h
+  alike_all (a ∷ as_) [] xs ys cs es v h k = absurd h
+  alike_all (a ∷ as_) (d ∷ ds) [] ys cs es v h k = absurd h
+  alike_all (a ∷ as_) (d ∷ ds) (x ∷ xs) [] cs es v h k = absurd k
+  alike_all (a ∷ as_) (d ∷ ds) (x ∷ xs) (y ∷ ys) cs es v h k = (alike_lines l a x y (alike a d x y h.0 k.0 h.2 k.2), alike_all as_ ds xs ys h.1 k.1 v h.3 k.3)
 
-  agree_by : (xs ys : List AreaAnswer) (b : Bool) → AllZip (IsAnswered l rows) l.areas xs → AllZip (IsAnswered l rows) l.areas ys → Agree (told_by xs b) (told_by ys b)
-  agree_by xs ys true h k = record { status = refl; lines = alike_all l.areas xs ys (lines.verdict verdict.Rejected) h k; filings = tt }
-  agree_by xs ys false h k = record { status = refl; lines = alike_all l.areas xs ys (lines.verdict verdict.Undecided) h k; filings = tt }
+  module _ (objects : ℕ) (name : List ℕ) where
+    agree_by : (ds : List Plan) (xs ys : List AreaAnswer) (cs es : List Plain) (b c : Bool) → AreAnswers l l.areas ds xs cs → AreAnswers l l.areas ds ys es → Agree (told_by l objects name xs cs b c) (told_by l objects name ys es b c)
+    agree_by ds xs ys cs es true c h k = record { status = refl; lines = alike_all l.areas ds xs ys cs es (lines.verdict verdict.Rejected) h k; filings = tt }
+    agree_by ds xs ys cs es false true h k = record { status = refl; lines = alike_all l.areas ds xs ys cs es (lines.verdict verdict.Undecided) h k; filings = tt }
+    agree_by ds xs ys cs es false false h k = record { status = refl; lines = alike_all l.areas ds xs ys cs es (lines.verdict (verdict.Accepted objects)) h k; filings = refl }
 
-  pub areas_agree : (ds es : List Plan) (xs ys : List AreaAnswer) → AreDrawings l rows ds → AreAnswers ds xs → AreDrawings l rows es → AreAnswers es ys → Agree (areas_told l xs) (areas_told l ys)
-  areas_agree ds es xs ys p q r s =
-      let h = joined l rows l.areas ds xs p q in
-      let k = joined l rows l.areas es ys r s in
-      subst (λ (b : Bool). Agree (told_by xs (has_fault xs)) (told_by ys b)) (same_faults l.areas xs ys h k) (agree_by xs ys (has_fault xs) h k)
+    pub areas_agree : (ds : List Plan) (xs ys : List AreaAnswer) (cs es : List Plain) → AreAnswers l l.areas ds xs cs → AreAnswers l l.areas ds ys es → Agree (areas_told l objects name xs cs) (areas_told l objects name ys es)
+    areas_agree ds xs ys cs es h k =
+        subst (λ (b : Bool). Agree (told_by l objects name xs cs (has_fault xs) (has_left xs)) (told_by l objects name ys es b (has_left ys))) (same_faults l.areas ds xs ys cs es h k)
+        (subst (λ (c : Bool). Agree (told_by l objects name xs cs (has_fault xs) (has_left xs)) (told_by l objects name ys es (has_fault xs) c)) (same_left l.areas ds xs ys cs es h k)
+        (agree_by ds xs ys cs es (has_fault xs) (has_left xs) h k))

@@ -1,12 +1,15 @@
 -- The lines of areas and their answers, one pair after the other.
-use Rattle.std.proofs.Common.{◌≡◌, ◌⊎◌, inl, inr, List, [], ◌∷◌, ◌++◌, refl, ◌∙◌, sym, ap, append-nil, append_assoc}
+use Rattle.std.proofs.Common.{◌≡◌, ◌⊎◌, inl, inr, List, [], ◌∷◌, ◌++◌, refl, ◌∙◌, sym, ap, append-nil, append_assoc, ℕ}
 use Rattle.std.proofs.lemmas.List.{map-append}
 use Rattle.table_layout.specs.Layouts.{Layout}
 use Rattle.table_layout.specs.Values.{area_view, areas_view}
 use Rattle.table_layout.specs.declared.layouts.AreaOf.{AreaOf}
 use Rattle.delivery.specs.LineViews.{line_of, lines_of}
 use Rattle.delivery.specs.Lines.{Line}
-use Rattle.delivery.specs.Outcomes.{area_line, area_lines}
+use Rattle.plane.specs.Rule.Plans.{plan}
+use Rattle.plane.specs.declared.drawing.Drawing.{Drawing}
+use Rattle.delivery.specs.AreaAnswers.{plans, proof_told}
+use Rattle.delivery.specs.Outcomes.{area_line, area_lines, arc_line, arc_lines, proofs_told}
 use Rattle.delivery.specs.declared.report.lines.AreaAnswer.{AreaAnswer}
 use Rattle.delivery.specs.declared.report.lines.Line as code
 
@@ -26,3 +29,32 @@ pub told_more : (l : Layout) (all : List AreaOf) (a : AreaOf) (as_ : List AreaOf
 told_more l all a as_ whole x xs old new line result e f g h k =
     let same : area_lines l (areas_view all) whole ≡ (line_of line ∷ []) ++ area_lines l (areas_view as_) xs = rw (e, f, h) refl in
     rw (g, map-append line_of old (line ∷ []), append_assoc, ← same) k
+
+-- ---- the lines of areas with a half arc
+pub arcs_end : (l : Layout) (as_ : List AreaOf) (ds : List Drawing) → (as_ ≡ []) ⊎ (ds ≡ []) → arc_lines l (areas_view as_) (plans ds) ≡ []
+arcs_end l [] ds h = refl
+arcs_end l (a ∷ as_) [] h = refl
+arcs_end l (a ∷ as_) (d ∷ ds) (inl h) = absurd (cc)
+arcs_end l (a ∷ as_) (d ∷ ds) (inr h) = absurd (cc)
+
+pub arcs_more : (l : Layout) (all : List AreaOf) (a : AreaOf) (as_ : List AreaOf) (whole : List Drawing) (d : Drawing) (ds : List Drawing) (old new result : List Line) → all ≡ a ∷ as_ → whole ≡ d ∷ ds
+    → new ≡ old ++ arc_line l (area_view a) (plan d) → old ++ arc_lines l (areas_view all) (plans whole) ≡ result → new ++ arc_lines l (areas_view as_) (plans ds) ≡ result
+arcs_more l all a as_ whole d ds old new result e f g k =
+    let same : arc_lines l (areas_view all) (plans whole) ≡ arc_line l (area_view a) (plan d) ++ arc_lines l (areas_view as_) (plans ds) = rw (e, f) refl in
+    rw (g, append_assoc, ← same) k
+
+-- ---- the answers to drawings that are proved
+pub proofs_all : (told rest all : List AreaAnswer) → rest ≡ [] → told ++ rest ≡ all → told ≡ all
+proofs_all told rest all e h = sym (append-nil told) ∙ ap (λ (s : List AreaAnswer). told ++ s) (sym e) ∙ h
+
+pub proofs_end : (ds : List Drawing) (levels : List ℕ) → (ds ≡ []) ⊎ (levels ≡ []) → proofs_told (plans ds) levels ≡ []
+proofs_end [] levels h = refl
+proofs_end (d ∷ ds) [] h = refl
+proofs_end (d ∷ ds) (n ∷ levels) (inl h) = absurd (cc)
+proofs_end (d ∷ ds) (n ∷ levels) (inr h) = absurd (cc)
+
+pub proofs_more : (all : List Drawing) (d : Drawing) (ds : List Drawing) (whole : List ℕ) (n : ℕ) (levels : List ℕ) (old new : List AreaAnswer) (x : AreaAnswer) (result : List AreaAnswer) → all ≡ d ∷ ds → whole ≡ n ∷ levels
+    → new ≡ old ++ x ∷ [] → x ≡ proof_told (plan d) n → old ++ proofs_told (plans all) whole ≡ result → new ++ proofs_told (plans ds) levels ≡ result
+proofs_more all d ds whole n levels old new x result e f g h k =
+    let same : proofs_told (plans all) whole ≡ (x ∷ []) ++ proofs_told (plans ds) levels = rw (e, f, h) refl in
+    rw (g, append_assoc, ← same) k

@@ -1,49 +1,71 @@
 -- What the outcome of the words and the files says of the answer.
 use Rattle.std.proofs.Common.{◌≡◌, ℕ, Bool, true, false, List, [], ◌∷◌, ◌++◌, Option, refl, sym, ◌∙◌, subst, inl, inr}
-use Rattle.std.specs.Prelude.{◌≢◌, ⊤, if◌then◌else◌}
+use Rattle.std.specs.Prelude.{◌≢◌, ⊤, codes}
 use Rattle.ports.specs.Files.{Files}
 use Rattle.itf_reader.specs.Forms.{Row}
 use Rattle.table_layout.specs.Layouts.{Layout}
 use Rattle.delivery.specs.declared.status.Status.{Status}
 use Rattle.delivery.specs.declared.status.Status.TheVariants.{Accepted, Rejected, Undecided, ModelRefused, Usage, ReadFault, WriteFault, OverLimit, Memory, NotProved}
 use Rattle.delivery.specs.Answers.{Means}
-use Rattle.delivery.specs.Commands.{Check, Command, compile, check, IsCheck, IsCommand}
+use Rattle.delivery.specs.Commands.{FileNames, Command, compile, check, verify, IsSpelled, IsCommand}
 use Rattle.delivery.specs.Deciding.{Decides, formless, formed}
 use Rattle.delivery.specs.Gathering as gathering
 use Rattle.delivery.specs.Gathering.{Gathered, Gathers}
-use Rattle.delivery.specs.Judging.{findings, objects, Tells, IsClean, AreJudged, IsRowsChecked, faulty, oversized, drawn, clean, IsChecked, at_fault, well_formed, Amounts}
-use Rattle.delivery.specs.AreaAnswers.{has_fault}
+use Rattle.delivery.specs.Amounting.{Amounts}
+use Rattle.delivery.specs.Judging.{findings, objects, Tells, IsClean, AreJudged, IsRowsChecked, faulty, oversized, judged, IsChecked, at_fault, well_formed}
+use Rattle.delivery.specs.AreaAnswers.{has_fault, has_left}
 use Rattle.delivery.specs.AreaLimits.{has_too_large}
-use Rattle.delivery.specs.Lines as lines
-use Rattle.delivery.specs.Outcomes.{Outcome, reported, usage, unread, too_long, area_too_large, refused, compiled, misbuilt, rejected, area_lines, areas_told, accepted}
-use Rattle.delivery.specs.declared.report.lines.Verdict.TheVariants as verdict
-use Rattle.delivery.proofs.AreaLemmas.{faulty_area, left_areas}
+use Rattle.delivery.specs.Outcomes.{Outcome, usage, unread, too_long, area_too_large, refused, compiled, misbuilt, rejected, areas_told, arcs_left, verified}
+use Rattle.delivery.specs.FiledTexts as filed_texts
+use Rattle.delivery.specs.FiledTexts.{AreVerified, IsRowsVerified, IsVerified}
+use Rattle.delivery.specs.Verifying as verifying
+use Rattle.delivery.specs.Verifying.{Verification, IsVerification}
+use Rattle.delivery.proofs.AreaLemmas.{AreaLaws, told_by, faulty_area, left_areas, parted_areas, parted_all}
 
 -- ---- the causes
-module _ (told : Option Files) (counted : List ℕ → Type 0) (words : List (List ℕ)) where
+module _ (laws : AreaLaws) (told : Option Files) (counted : List ℕ → Type 0) (words : List (List ℕ)) where
   -- what is said of an outcome is said of one that is equal
   moved : (o p : Outcome) → o ≡ p → Means told counted words p.status → Means told counted words o.status
   moved o p e h = subst (λ (x : Outcome). Means told counted words x.status) (sym e) h
 
-  module _ (c : Check) (i : IsCheck words c) (l : Layout) (text : List ℕ) (g : Gathers told counted (check c) (gathering.texts l (text ∷ []))) where
+  module _ (c : FileNames) (i : IsSpelled (codes "check") words c) (l : Layout) (text : List ℕ) (g_ : Gathers told counted (check c) (gathering.texts l (text ∷ []))) where
     -- the status of the answers to areas
-    areas_mean : (rows : List (List Row)) → Tells l text rows → IsClean l rows → has_too_large rows l.areas ≡ false → l.areas ≢ [] → (o : Outcome) → AreJudged l rows o → Means told counted words o.status
-    areas_mean rows t k b a o j = moved o (areas_told l j.answers) j.told (by (has_fault j.answers) refl)
+    areas_mean : (rows : List (List Row)) → Tells l text rows → IsClean l rows → has_too_large rows l.areas ≡ false → (o : Outcome) → AreJudged c.certificate l rows o → Means told counted words o.status
+    areas_mean rows t k b o j = moved o (areas_told l (objects rows) c.certificate j.answers j.certificates) j.told (by (has_fault j.answers) (has_left j.answers) refl refl)
       where
-        by : (f : Bool) → has_fault j.answers ≡ f
-            → Means told counted words (if f then reported Rejected (area_lines l l.areas j.answers ++ (lines.verdict verdict.Rejected ∷ [])) else reported Undecided (area_lines l l.areas j.answers ++ (lines.verdict verdict.Undecided ∷ []))).status
-        by true f = (check c, l, text ∷ [], i, g, inr (rows, t, inr (k, b, faulty_area l rows j.drawings j.answers j.drawn j.answered f)))
-        by false f = (check c, l, text ∷ [], i, g, (rows, t, (k, b, a, left_areas l rows j.drawings j.answers j.drawn j.answered f)))
+        by : (f g : Bool) → has_fault j.answers ≡ f → has_left j.answers ≡ g
+            → Means told counted words (told_by l (objects rows) c.certificate j.answers j.certificates f g).status
+        by true g f h = (check c, l, text ∷ [], i, g_, inr (rows, t, k, b, faulty_area laws l rows j.drawings j.answers j.certificates j.drawn j.answered f))
+        by false true f h = (check c, l, text ∷ [], i, g_, (rows, t, k, b, left_areas laws l rows j.drawings j.answers j.certificates j.drawn j.answered f h))
+        by false false f h = (check c, l, text ∷ [], i, g_, (rows, t, k, b, parted_areas laws l rows j.drawings j.answers j.certificates j.drawn j.answered f h))
 
     rows_mean : (rows : List (List Row)) → Tells l text rows → (o : Outcome) → IsRowsChecked c.certificate l rows o → Means told counted words o.status
-    rows_mean rows t o (faulty n e) = moved o (rejected (findings l rows)) e (check c, l, text ∷ [], i, g, inr (rows, t, inl n))
-    rows_mean rows t o (oversized k b e) = moved o area_too_large e (inr (check c, l, text ∷ [], i, g, (rows, t, k, b)))
-    rows_mean rows t o (drawn k b a j) = areas_mean rows t k b a o j
-    rows_mean rows t o (clean k a e) = moved o (accepted (objects rows) c.certificate []) e (check c, l, text ∷ [], i, g, (rows, t, k, a))
+    rows_mean rows t o (faulty n e) = moved o (rejected (findings l rows)) e (check c, l, text ∷ [], i, g_, inl (inr (rows, t, n)))
+    rows_mean rows t o (oversized k b e) = moved o area_too_large e (inr (check c, l, text ∷ [], i, g_, (rows, t, k, b)))
+    rows_mean rows t o (judged k b j) = areas_mean rows t k b o j
 
     check_means : (o : Outcome) → IsChecked c.certificate l text o → Means told counted words o.status
-    check_means o (at_fault n code h e) = moved o (misbuilt n code) e (check c, l, text ∷ [], i, g, inl (n, code, h))
+    check_means o (at_fault n code h e) = moved o (misbuilt n code) e (check c, l, text ∷ [], i, g_, inl (inl (n, code, h)))
     check_means o (well_formed rows t h) = rows_mean rows t o h
+
+  module _ (c : FileNames) (i : IsSpelled (codes "verify") words c) (l : Layout) (text filed : List ℕ) (g_ : Gathers told counted (verify c) (gathering.texts l (text ∷ filed ∷ []))) where
+    -- the status of what certificates prove
+    verified_means : (rows : List (List Row)) → Tells l text rows → IsClean l rows → has_too_large rows l.areas ≡ false → (o : Outcome) → AreVerified l rows filed o → Means told counted words o.status
+    verified_means rows t k b o j = moved o (verified l (objects rows) j.drawings j.verification) j.told (by j.verification j.judged)
+      where
+        by : (v : Verification) → IsVerification l j.drawings filed v → Means told counted words (verified l (objects rows) j.drawings v).status
+        by (verifying.proved levels) h = (verify c, l, text ∷ filed ∷ [], i, g_, (rows, t, k, b, ((j.drawings, j.drawn, levels, h), parted_all l rows j.drawings j.drawn (laws.verified l j.drawings filed levels h))))
+        by (verifying.not_proved a rule place) h = (verify c, l, text ∷ filed ∷ [], i, g_, (rows, t, k, b, (j.straights, (j.drawings, j.drawn, a, rule, place, h))))
+
+    filed_rows_mean : (rows : List (List Row)) → Tells l text rows → (o : Outcome) → IsRowsVerified l rows filed o → Means told counted words o.status
+    filed_rows_mean rows t o (filed_texts.faulty n e) = moved o (rejected (findings l rows)) e (verify c, l, text ∷ filed ∷ [], i, g_, inr (rows, t, n))
+    filed_rows_mean rows t o (filed_texts.oversized k b e) = moved o area_too_large e (inr (verify c, l, text ∷ filed ∷ [], i, g_, (rows, t, k, b)))
+    filed_rows_mean rows t o (filed_texts.arcs k b h) = moved o (arcs_left l h.drawings) h.told (verify c, l, text ∷ filed ∷ [], i, g_, (rows, t, k, b, h.arcs))
+    filed_rows_mean rows t o (filed_texts.verified k b j) = verified_means rows t k b o j
+
+    verify_means : (o : Outcome) → IsVerified l text filed o → Means told counted words o.status
+    verify_means o (filed_texts.at_fault n code h e) = moved o (misbuilt n code) e (verify c, l, text ∷ filed ∷ [], i, g_, inl (n, code, h))
+    verify_means o (filed_texts.well_formed rows t h) = filed_rows_mean rows t o h
 
   files_mean : (c : Command) (g : Gathered) → IsCommand words c → Gathers told counted c g → (o : Outcome) → Amounts c g o → Means told counted words o.status
   files_mean c (gathering.unread f) i h o e = moved o (unread f) e (f, (c, i, h))
@@ -53,6 +75,10 @@ module _ (told : Option Files) (counted : List ℕ → Type 0) (words : List (Li
   files_mean (check c) (gathering.texts l []) i h o k = absurd k
   files_mean (check c) (gathering.texts l (text ∷ [])) i h o k = check_means c i l text h o k
   files_mean (check c) (gathering.texts l (t ∷ u ∷ ts)) i h o k = absurd k
+  files_mean (verify c) (gathering.texts l []) i h o k = absurd k
+  files_mean (verify c) (gathering.texts l (text ∷ [])) i h o k = absurd k
+  files_mean (verify c) (gathering.texts l (text ∷ filed ∷ [])) i h o k = verify_means c i l text filed h o k
+  files_mean (verify c) (gathering.texts l (t ∷ u ∷ v ∷ ts)) i h o k = absurd k
 
   -- the status of the outcome has its cause
   pub means : (o : Outcome) → Decides told counted words o → Means told counted words o.status
@@ -68,22 +94,39 @@ IsFixed _ = ⊤
 fixed_as : (o p : Outcome) → o ≡ p → IsFixed p.status → IsFixed o.status
 fixed_as o p e h = subst (λ (x : Outcome). IsFixed x.status) (sym e) h
 
-areas_fixed : (l : Layout) (rows : List (List Row)) (o : Outcome) → AreJudged l rows o → IsFixed o.status
-areas_fixed l rows o j = fixed_as o (areas_told l j.answers) j.told (by (has_fault j.answers))
+areas_fixed : (name : List ℕ) (l : Layout) (rows : List (List Row)) (o : Outcome) → AreJudged name l rows o → IsFixed o.status
+areas_fixed name l rows o j = fixed_as o (areas_told l (objects rows) name j.answers j.certificates) j.told (by (has_fault j.answers) (has_left j.answers))
   where
-    by : (f : Bool) → IsFixed (if f then reported Rejected (area_lines l l.areas j.answers ++ (lines.verdict verdict.Rejected ∷ [])) else reported Undecided (area_lines l l.areas j.answers ++ (lines.verdict verdict.Undecided ∷ []))).status
-    by true = tt
-    by false = tt
+    by : (f g : Bool) → IsFixed (told_by l (objects rows) name j.answers j.certificates f g).status
+    by true g = tt
+    by false true = tt
+    by false false = tt
 
 rows_fixed : (name : List ℕ) (l : Layout) (rows : List (List Row)) (o : Outcome) → IsRowsChecked name l rows o → IsFixed o.status
 rows_fixed name l rows o (faulty n e) = fixed_as o (rejected (findings l rows)) e tt
 rows_fixed name l rows o (oversized k b e) = fixed_as o area_too_large e tt
-rows_fixed name l rows o (drawn k b a j) = areas_fixed l rows o j
-rows_fixed name l rows o (clean k a e) = fixed_as o (accepted (objects rows) name []) e tt
+rows_fixed name l rows o (judged k b j) = areas_fixed name l rows o j
 
 check_fixed : (name : List ℕ) (l : Layout) (text : List ℕ) (o : Outcome) → IsChecked name l text o → IsFixed o.status
 check_fixed name l text o (at_fault n code h e) = fixed_as o (misbuilt n code) e tt
 check_fixed name l text o (well_formed rows t h) = rows_fixed name l rows o h
+
+verified_fixed : (l : Layout) (rows : List (List Row)) (filed : List ℕ) (o : Outcome) → AreVerified l rows filed o → IsFixed o.status
+verified_fixed l rows filed o j = fixed_as o (verified l (objects rows) j.drawings j.verification) j.told (by j.verification)
+  where
+    by : (v : Verification) → IsFixed (verified l (objects rows) j.drawings v).status
+    by (verifying.proved levels) = tt
+    by (verifying.not_proved a rule place) = tt
+
+filed_rows_fixed : (l : Layout) (rows : List (List Row)) (filed : List ℕ) (o : Outcome) → IsRowsVerified l rows filed o → IsFixed o.status
+filed_rows_fixed l rows filed o (filed_texts.faulty n e) = fixed_as o (rejected (findings l rows)) e tt
+filed_rows_fixed l rows filed o (filed_texts.oversized k b e) = fixed_as o area_too_large e tt
+filed_rows_fixed l rows filed o (filed_texts.arcs k b h) = fixed_as o (arcs_left l h.drawings) h.told tt
+filed_rows_fixed l rows filed o (filed_texts.verified k b j) = verified_fixed l rows filed o j
+
+filed_fixed : (l : Layout) (text filed : List ℕ) (o : Outcome) → IsVerified l text filed o → IsFixed o.status
+filed_fixed l text filed o (filed_texts.at_fault n code h e) = fixed_as o (misbuilt n code) e tt
+filed_fixed l text filed o (filed_texts.well_formed rows t h) = filed_rows_fixed l rows filed o h
 
 files_fixed : (c : Command) (g : Gathered) (o : Outcome) → Amounts c g o → IsFixed o.status
 files_fixed c (gathering.unread f) o e = fixed_as o (unread f) e tt
@@ -93,6 +136,10 @@ files_fixed (compile m) (gathering.texts l ts) o e = fixed_as o (compiled l) e t
 files_fixed (check c) (gathering.texts l []) o k = absurd k
 files_fixed (check c) (gathering.texts l (text ∷ [])) o k = check_fixed c.certificate l text o k
 files_fixed (check c) (gathering.texts l (t ∷ u ∷ ts)) o k = absurd k
+files_fixed (verify c) (gathering.texts l []) o k = absurd k
+files_fixed (verify c) (gathering.texts l (text ∷ [])) o k = absurd k
+files_fixed (verify c) (gathering.texts l (text ∷ filed ∷ [])) o k = filed_fixed l text filed o k
+files_fixed (verify c) (gathering.texts l (t ∷ u ∷ v ∷ ts)) o k = absurd k
 
 fixed : (told : Option Files) (counted : List ℕ → Type 0) (words : List (List ℕ)) (o : Outcome) → Decides told counted words o → IsFixed o.status
 fixed told counted words o (formless u e) = fixed_as o usage e tt
@@ -118,11 +165,11 @@ by_write A OverLimit f n = n (λ e. cc)
 by_write A Memory f n = n (λ e. cc)
 by_write A NotProved f n = n (λ e. cc)
 
-pub caused : (told : Option Files) (counted : List ℕ → Type 0) (words : List (List ℕ)) (o : Outcome) (s : Status) → Decides told counted words o → (s ≢ WriteFault → s ≡ o.status) → Means told counted words s
-caused told counted words o s h e =
+pub caused : (told : Option Files) (counted : List ℕ → Type 0) (words : List (List ℕ)) (o : Outcome) (s : Status) → (Decides told counted words o → Means told counted words o.status) → Decides told counted words o → (s ≢ WriteFault → s ≡ o.status) → Means told counted words s
+caused told counted words o s law h e =
     by_write (Means told counted words s) s
     (λ w. subst (Means told counted words) (sym w) tt)
-    (λ n. subst (Means told counted words) (sym (e n)) (means told counted words o h))
+    (λ n. subst (Means told counted words) (sym (e n)) (law h))
 
 -- such an answer is not out of memory
 pub never_memory : (told : Option Files) (counted : List ℕ → Type 0) (words : List (List ℕ)) (o : Outcome) (s : Status) → Decides told counted words o → (s ≢ WriteFault → s ≡ o.status) → s ≢ Memory

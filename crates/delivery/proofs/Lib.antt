@@ -1,7 +1,11 @@
 pub mod Agreement
+pub mod AnswerLemmas
 pub mod AreaLemmas
 pub mod AreaLines
+pub mod BadLines
 pub mod Causes
+pub mod CertificateLemmas
+pub mod Certified
 pub mod CommandLemmas
 pub mod CurveLemmas
 pub mod Drawables
@@ -11,3 +15,7 @@ pub mod PointLemmas
 pub mod PutLemmas
 pub mod ReportLemmas
 pub mod Steps
+pub mod Verifications
+pub mod VerifyingLemmas
+pub mod Windows
+pub mod Zips

@@ -10,10 +10,13 @@ use Rattle.itf_reader.specs.declared.refusal.ReadRefusal.TheVariants as refusals
 use Rattle.table_layout.specs.Layouts.{Layout}
 use Rattle.delivery.specs.Commands.{Command, compile, Source, limit_of, model_of, further_files}
 use Rattle.delivery.specs.Deciding.{Decides, formless, formed}
-use Rattle.delivery.specs.Ending.{Ends}
+use Rattle.delivery.specs.Ending.{Ends, EndsAfter}
+use Rattle.delivery.specs.FiledTexts as filed_texts
+use Rattle.delivery.specs.FiledTexts.{IsVerified}
 use Rattle.delivery.specs.Gathering as gathering
 use Rattle.delivery.specs.Gathering.{Gathered, Reads, ReadsAll, Compiles, Gathers}
-use Rattle.delivery.specs.Judging.{lines_of, IsChecked, at_fault, Amounts}
+use Rattle.delivery.specs.Amounting.{Amounts}
+use Rattle.delivery.specs.Judging.{lines_of, IsChecked, at_fault}
 use Rattle.delivery.specs.Outcomes.{Outcome, compiled}
 use Rattle.delivery.specs.Reading.{IsLonger}
 use Rattle.delivery.specs.FileRefusals.{IsNotRead}
@@ -31,6 +34,10 @@ if_ok P Q (Err e) f h = h
 pub refused_text : (name : List ℕ) (l : Layout) (text : List ℕ) (r : ReadRefusal) (o : Outcome) → Refuses (form_of l) (lines_of l text) r → IsStructure r o → IsChecked name l text o
 refused_text name l text (refusals.At line code) o h e = at_fault line (fault_of code) h e
 refused_text name l text refusals.Memory o h e = absurd e
+
+pub refused_filed : (l : Layout) (text filed : List ℕ) (r : ReadRefusal) (o : Outcome) → Refuses (form_of l) (lines_of l text) r → IsStructure r o → IsVerified l text filed o
+refused_filed l text filed (refusals.At line code) o h e = filed_texts.at_fault line (fault_of code) h e
+refused_filed l text filed refusals.Memory o h e = absurd e
 
 -- counts that rise in one part of a call rise in the whole of it
 pub rose_after : (a b c : ℕ) → a ≤ b → Rose b c → Rose a c
@@ -65,8 +72,8 @@ module _ (told : Option Files) (near far : List ℕ → Type 0) (counted : (name
   gathers_on : (c : Command) (g : Gathered) → Gathers told near c g → Gathers told far c g
   gathers_on c g h = reads_on (model_of c) g (λ text. Compiles told near c text g) (λ text. Compiles told far c text g) (λ text k. compiles_on c text g k) h
 
-  pub ends_on : (c : Command) (l : Layout) (o : Outcome) → Ends told near c l o → Ends told far c l o
-  ends_on c l o h = record { gathered = h.gathered; reads = all_on l [] (further_files c) h.gathered h.reads; amounts = h.amounts }
+  pub ends_on : (c : Command) (l : Layout) (before : List (List ℕ)) (rest : List Source) (o : Outcome) → EndsAfter told near c l before rest o → EndsAfter told far c l before rest o
+  ends_on c l before rest o h = record { gathered = h.gathered; reads = all_on l before rest h.gathered h.reads; amounts = h.amounts }
 
   pub decides_on : (words : List (List ℕ)) (o : Outcome) → Decides told near words o → Decides told far words o
   decides_on words o (formless u e) = formless u e

@@ -6,7 +6,7 @@ use Rattle.table_layout.specs.Layouts.{Layout}
 use Rattle.delivery.specs.Commands.{Command, IsCommand, IsUsage}
 use Rattle.delivery.specs.Deciding.{Decides}
 use Rattle.delivery.specs.Gathering.{Gathered, unread, too_long, refused, texts, Gathers}
-use Rattle.delivery.specs.Judging.{Accepts, Rejects, LeavesAreas, IsOversized}
+use Rattle.delivery.specs.Amounting.{Accepts, Rejects, LeavesAreas, Unproves, IsOversized}
 use Rattle.delivery.specs.Lines as lines
 use Rattle.delivery.specs.Lines.{Line}
 use Rattle.delivery.specs.ModelTexts.{Refusal}
@@ -25,12 +25,13 @@ abbrev pub Passes : Option Files → (List ℕ → Type 0) → List (List ℕ) �
 Passes told counted words test = (c : Command) × (l : Layout) × (ts : List (List ℕ)) × IsCommand words c × Gathers told counted c (texts l ts) × test c l ts
 
 -- The cause of each answer.
--- Accepted: the model has no fault; for `check`, it has no AREA, and every object meets the declarations of its table.
--- Rejected: a line of the transfer is at fault, or the objects have findings; or they have none, and in the drawing of an AREA two curves meet badly, so that it is no partition.
--- Undecided: every object meets the declarations of its table, and the model has an AREA; none is over its limit, and the drawing of each has a half arc, or straights alone of which no two meet badly.
+-- Accepted: the model has no fault; for `check`, every object meets the declarations of its table, and the drawing of every AREA is a partition; for `verify`, the filed certificates prove that, too.
+-- Rejected: a line of the transfer is at fault, or the objects have findings; for `check`, or they have none, and the drawing of an AREA, of straights alone, has a fault, so that it is no partition.
+-- Undecided: every object meets the declarations of its table, no AREA is over its limit, and some drawing has a half arc; for `check`, each other one is a partition. So it never comes where all lines of AREAs are straights.
+-- NotProved: for `verify`, every object meets the declarations of its table, all lines of AREAs are straights, and the filed text breaks a rule of certificates.
 -- ModelRefused: the model has this first fault of its tokens, of its grammar, or of its names and types.
 -- Usage: the words are no command. ReadFault: a fault was counted for a file that was to be read. OverLimit: a file is longer than its limit, or every object meets the declarations of its table and an area is over its limit.
--- The cause of WriteFault is a clause of its own; Memory has none, and NotProved does not come.
+-- The cause of WriteFault is a clause of its own; Memory has none.
 abbrev pub Means : Option Files → (List ℕ → Type 0) → List (List ℕ) → Status → Type 0
 Means told counted words Accepted = Passes told counted words Accepts
 Means told counted words Rejected = Passes told counted words Rejects
@@ -41,7 +42,7 @@ Means told counted words ReadFault = (f : File) × Gives told counted words (unr
 Means told counted words WriteFault = ⊤
 Means told counted words OverLimit = ((f : File) × Gives told counted words (too_long f)) ⊎ Passes told counted words IsOversized
 Means told counted words Memory = ⊤
-Means told counted words NotProved = ⊥
+Means told counted words NotProved = Passes told counted words Unproves
 
 -- ---- outcomes that agree
 -- a line that names a meeting of an area
@@ -71,6 +72,10 @@ pub record Agree (o p : Outcome) : Type 0 where
   pub status : o.status ≡ p.status
   pub lines : AgreeLines o.lines p.lines
   pub filings : AgreeFilings o.filing p.filing
+
+-- a file could not be read in one of the two calls, or they agree
+abbrev pub AgreeUnlessUnread : Outcome → Outcome → Type 0
+AgreeUnlessUnread o p = (o.status ≡ ReadFault) ⊎ ((p.status ≡ ReadFault) ⊎ Agree o p)
 
 -- the answer and the report are those of an outcome that agrees with this one
 pub record Answers (o : Outcome) (status : Status) (before after : Option (List ℕ)) : Type 0 where

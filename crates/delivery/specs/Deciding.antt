@@ -3,7 +3,7 @@ use Rattle.std.specs.Prelude.{◌≡◌, ℕ, List, Option}
 use Rattle.ports.specs.Files.{Files}
 use Rattle.delivery.specs.Commands.{Command, IsCommand, IsUsage}
 use Rattle.delivery.specs.Gathering.{Gathered, Gathers}
-use Rattle.delivery.specs.Judging.{Amounts}
+use Rattle.delivery.specs.Amounting.{Amounts}
 use Rattle.delivery.specs.Outcomes.{Outcome, usage}
 
 -- The words are no command; or this is read of the files of the command, and amounts to the outcome.

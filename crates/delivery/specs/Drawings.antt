@@ -1,6 +1,6 @@
 -- The drawing of an area: from the rows of a transfer to curves and points of the plane.
-use Rattle.std.specs.Prelude.{◌≡◌, ℕ, ◌+◌, if◌then◌else◌, List, [], ◌∷◌, ◌++◌, take, drop, map, Option, Some, None, Result, Ok, slice_get, slice_index_or}
-use Rattle.std.specs.List.{All, flat_map}
+use Rattle.std.specs.Prelude.{◌≡◌, ℕ, ◌+◌, if◌then◌else◌, List, [], ◌∷◌, ◌++◌, take, drop, map, Option, Some, None, Result, Ok, pos, slice_get, slice_index_or}
+use Rattle.std.specs.List.{All, AllZip, flat_map}
 use Rattle.ili_grammar.specs.Syntax.{Codes}
 use Rattle.resolver.specs.Resolved.{LineForm, Window}
 use Rattle.table_layout.specs.Layouts.{Column, Table, AreaOf, Layout}
@@ -101,11 +101,20 @@ pub record IsWindowOf (w : Window) (d : Window2) : Type 0 where
   pub low : d.low ≡ record { x = w.x.low; y = w.y.low }
   pub high : d.high ≡ record { x = w.x.high; y = w.y.high }
 
+-- the window of the lines of a table; a table of lines has one form of them
+abbrev pub HasWindow : List LineForm → Window2 → Type 0
+HasWindow [] d = (d.low ≡ record { x = pos 0; y = pos 0 }) × (d.high ≡ record { x = pos 0; y = pos 0 })
+HasWindow (l ∷ ls) d = IsWindowOf l.window d
+
 -- the drawing of an area of the layout from the rows of a transfer
 pub record IsDrawing (l : Layout) (rows : List (List Row)) (a : AreaOf) (d : Plan) : Type 0 where
-  pub window : All (λ f. IsWindowOf f.window d.window) (lines_in (slice_get l.tables a.lines))
+  pub window : HasWindow (lines_in (slice_get l.tables a.lines)) d.window
   pub curves : d.curves ≡ area_curves l rows a
   pub points : d.points ≡ area_points l rows a
+
+-- the drawings of all areas, in order
+abbrev pub AreDrawings : Layout → List (List Row) → List Plan → Type 0
+AreDrawings l rows ds = AllZip (IsDrawing l rows) l.areas ds
 
 -- the drawing of the area of that number
 abbrev pub IsDrawingAt : Layout → List (List Row) → ℕ → Plan → Type 0

@@ -1,8 +1,11 @@
+pub mod Amounting
 pub mod Answers
+pub mod AnswerViews
 pub mod AreaAnswers
 pub mod AreaCertificates
 pub mod AreaLimits
 pub mod AreaNames
+pub mod Certified
 pub mod Codes
 pub mod Commands
 pub mod CommandViews
@@ -11,6 +14,7 @@ pub mod Drawable
 pub mod Drawings
 pub mod Effects
 pub mod Ending
+pub mod FiledTexts
 pub mod FileRefusals
 pub mod Gathering
 pub mod Judging
@@ -23,3 +27,5 @@ pub mod Reading
 pub mod RefusalViews
 pub mod RowsRead
 pub mod Statuses
+pub mod VerificationViews
+pub mod Verifying

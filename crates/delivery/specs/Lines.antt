@@ -1,5 +1,5 @@
 -- The lines of a report, and their text.
-use Rattle.std.specs.Prelude.{ℕ, List, [], ◌++◌, codes, decimal}
+use Rattle.std.specs.Prelude.{ℕ, Bool, true, false, List, [], ◌++◌, codes, decimal}
 use Rattle.table_layout.specs.Layouts.{Role, Main, AreaLines, SurfaceLines}
 use Rattle.itf_reader.specs.Findings.{Finding, Other, Nothing, Line as ALine, Word as AWord}
 use Rattle.itf_reader.specs.Readings.{Structure}
@@ -46,11 +46,14 @@ pub data Line : Type 0 where
   structure : ℕ → Structure → Line
   finding : Finding → Line
   area : AreaLine → Line
+  -- the area, the rule that its certificate breaks first, and the place
+  not_proved : ℕ → ℕ → ℕ → Line
   verdict : Verdict → Line
 
 abbrev pub file_text : File → List ℕ
 file_text file.Model = codes "model"
 file_text file.Transfer = codes "transfer"
+file_text file.Certificate = codes "certificate"
 
 -- a line and a column, each with a blank before it, and a blank
 abbrev pub place_text : ℕ → ℕ → List ℕ
@@ -83,10 +86,25 @@ finding_words f = codes "FINDING " ++ decimal f.line ++ codes " " ++ code_text f
 abbrev pub pair_text : ℕ → ℕ → List ℕ
 pair_text first second = decimal first ++ codes " " ++ decimal second
 
--- a pair of curves is told by their lines
+abbrev pub side_text : Bool → List ℕ
+side_text true = codes " LEFT"
+side_text false = codes " RIGHT"
+
+abbrev pub empty_text : ℕ → Bool → List ℕ
+empty_text curve left = codes "EMPTY " ++ decimal curve ++ side_text left
+
+abbrev pub proof_text : ℕ → ℕ → ℕ → List ℕ
+proof_text level curves points = codes "PROVED " ++ decimal level ++ codes " " ++ decimal curves ++ codes " " ++ decimal points
+
+-- curves and objects are told by their lines
 abbrev pub area_text : AreaAnswer → List ℕ
 area_text answer.Later = codes "LATER"
 area_text (answer.Meeting first second) = codes "MEETING " ++ pair_text first second
+area_text (answer.On object curve) = codes "ON " ++ pair_text object curve
+area_text (answer.Outside object) = codes "OUTSIDE " ++ decimal object
+area_text (answer.Two first second) = codes "TWO " ++ pair_text first second
+area_text (answer.Empty curve left) = empty_text curve left
+area_text (answer.Proved level curves points) = proof_text level curves points
 
 abbrev pub area_words : AreaLine → List ℕ
 area_words a = codes "AREA " ++ a.topic ++ codes " " ++ a.table ++ codes " " ++ a.attribute ++ codes " " ++ area_text a.answer
@@ -95,7 +113,11 @@ abbrev pub verdict_text : Verdict → List ℕ
 verdict_text (verdicts.Accepted objects) = codes "VERDICT ACCEPTED " ++ decimal objects
 verdict_text verdicts.Rejected = codes "VERDICT REJECTED"
 verdict_text verdicts.Undecided = codes "VERDICT UNDECIDED"
+verdict_text verdicts.NotProved = codes "VERDICT NOTPROVED"
 verdict_text (verdicts.Compiled tables) = codes "VERDICT COMPILED " ++ decimal tables
+
+abbrev pub not_proved_words : ℕ → ℕ → ℕ → List ℕ
+not_proved_words a rule place = codes "NOTPROVED " ++ decimal a ++ codes " " ++ decimal rule ++ codes " " ++ decimal place
 
 abbrev pub words_of : Line → List ℕ
 words_of usage_fault = codes "FAULT USAGE"
@@ -109,6 +131,7 @@ words_of (table t) = table_words t
 words_of (structure n code) = structure_words n code
 words_of (finding f) = finding_words f
 words_of (area a) = area_words a
+words_of (not_proved a rule place) = not_proved_words a rule place
 words_of (verdict v) = verdict_text v
 
 -- each line ends with LF

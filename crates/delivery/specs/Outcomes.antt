@@ -1,17 +1,21 @@
 -- Outcomes: what a call answers, reports and writes.
 use Rattle.std.specs.Prelude.{ℕ, if◌then◌else◌, List, [], ◌∷◌, ◌++◌, map, length, Option, Some, None, slice_get, slice_index_or}
 use Rattle.std.specs.List.{flat_map}
+use Rattle.plane.specs.Rule.Plans.{Plan}
 use Rattle.certificate.specs.Spelling.{Plain}
 use Rattle.itf_reader.specs.Findings.{Finding}
 use Rattle.itf_reader.specs.Readings.{Structure}
 use Rattle.table_layout.specs.Layouts.{Table, AreaOf, Layout}
-use Rattle.delivery.specs.AreaAnswers.{has_fault}
+use Rattle.delivery.specs.AreaAnswers.{has_fault, has_left, has_half_arc, proof_told}
 use Rattle.delivery.specs.AreaNames.{topic_name, table_name}
 use Rattle.delivery.specs.Lines as lines
 use Rattle.delivery.specs.Lines.{TableLine, AreaLine, Line, line_text}
 use Rattle.delivery.specs.ModelTexts.{Refusal}
+use Rattle.delivery.specs.Verifying.{Verification, proved, not_proved}
 use Rattle.delivery.specs.declared.files.File.{File}
 use Rattle.delivery.specs.declared.report.lines.AreaAnswer.{AreaAnswer}
+use Rattle.delivery.specs.declared.report.lines.AreaAnswer.TheVariants as answer
+use Rattle.delivery.specs.declared.report.lines.Verdict as verdicts
 use Rattle.delivery.specs.declared.report.lines.Verdict.TheVariants as verdict
 use Rattle.delivery.specs.declared.status.Status.{Status}
 use Rattle.delivery.specs.declared.status.Status.TheVariants as status
@@ -81,12 +85,41 @@ area_lines l [] xs = []
 area_lines l (a ∷ as_) [] = []
 area_lines l (a ∷ as_) (x ∷ xs) = area_line l a x ∷ area_lines l as_ xs
 
--- the transfer has no finding, and these are the answers to the areas of the layout: one at fault rejects it
-abbrev pub areas_told : Layout → List AreaAnswer → Outcome
-areas_told l xs =
-    if has_fault xs then reported status.Rejected (area_lines l l.areas xs ++ (lines.verdict verdict.Rejected ∷ []))
-    else reported status.Undecided (area_lines l l.areas xs ++ (lines.verdict verdict.Undecided ∷ []))
+-- the lines of a report and its verdict
+abbrev pub with_verdict : List Line → verdicts.Verdict → List Line
+with_verdict ls v = ls ++ (lines.verdict v ∷ [])
 
--- so many objects without a finding: the certificates go to the file of that name
-abbrev pub accepted : ℕ → List ℕ → List Plain → Outcome
-accepted objects name cs = record { status = status.Accepted; lines = lines.verdict (verdict.Accepted objects) ∷ []; filing = Some (record { name = name; certificates = cs }) }
+-- so many objects without a finding, and these lines of the areas: the certificates go to the file of that name
+abbrev pub accepted : List Line → ℕ → List ℕ → List Plain → Outcome
+accepted ls objects name cs = record { status = status.Accepted; lines = with_verdict ls (verdict.Accepted objects); filing = Some (record { name = name; certificates = cs }) }
+
+-- So many objects without a finding, and these are the answers to the areas of the layout. One at fault rejects the transfer, else one
+-- that is left leaves it undecided, else it is accepted, with these certificates for the file of that name.
+abbrev pub areas_told : Layout → ℕ → List ℕ → List AreaAnswer → List Plain → Outcome
+areas_told l objects name xs cs =
+    if has_fault xs then reported status.Rejected (with_verdict (area_lines l l.areas xs) verdict.Rejected)
+    else if has_left xs then reported status.Undecided (with_verdict (area_lines l l.areas xs) verdict.Undecided)
+    else accepted (area_lines l l.areas xs) objects name cs
+
+-- an area with a half arc leaves the certificates for later: these are the lines of such areas
+abbrev pub arc_line : Layout → AreaOf → Plan → List Line
+arc_line l a d = if has_half_arc d then area_line l a answer.Later ∷ [] else []
+
+abbrev pub arc_lines : Layout → List AreaOf → List Plan → List Line
+arc_lines l [] ds = []
+arc_lines l (a ∷ as_) [] = []
+arc_lines l (a ∷ as_) (d ∷ ds) = arc_line l a d ++ arc_lines l as_ ds
+
+abbrev pub arcs_left : Layout → List Plan → Outcome
+arcs_left l ds = reported status.Undecided (with_verdict (arc_lines l l.areas ds) verdict.Undecided)
+
+-- so many objects, and drawings that are shown to be partitions at these levels
+abbrev pub proofs_told : List Plan → List ℕ → List AreaAnswer
+proofs_told [] levels = []
+proofs_told (d ∷ ds) [] = []
+proofs_told (d ∷ ds) (level ∷ levels) = proof_told d level ∷ proofs_told ds levels
+
+-- what the filed certificates prove
+abbrev pub verified : Layout → ℕ → List Plan → Verification → Outcome
+verified l objects ds (proved levels) = reported status.Accepted (with_verdict (area_lines l l.areas (proofs_told ds levels)) (verdict.Accepted objects))
+verified l objects ds (not_proved a rule place) = reported status.NotProved (lines.not_proved a rule place ∷ lines.verdict verdict.NotProved ∷ [])

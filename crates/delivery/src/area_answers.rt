@@ -1,15 +1,39 @@
 // What is answered to the drawings of areas.
-ghost use Rattle.std.specs.Prelude.{◌≡◌, ◌<◌, IfOk, length};
+ghost use Rattle.std.specs.Prelude.{◌≡◌, ◌++◌, ◌∷◌, ◌<◌, [], IfOk, OnOk, length};
 ghost use Rattle.std.specs.List.{list_any};
+ghost use Rattle.certificate.specs.Spelling.{view, views};
 ghost use Rattle.plane.specs.Rule.Plans.{plan};
-ghost use Rattle.delivery.specs.AreaAnswers.{IsAnswer, AreAnswers, is_fault, has_fault};
-ghost use Rattle.delivery.specs.AreaAnswers.{is_half_arc, meeting_of, plans};
+ghost use Rattle.table_layout.specs.Values.{area_view, areas_view, layout_view};
+ghost use Rattle.tubes.specs.DrawnEdges.{AreStraights};
+ghost use Rattle.area_search.specs.Answers.{IsAnswer as IsFound};
+ghost use Rattle.area_search.specs.declared.kinds.AreaAnswer.TheVariants.{Fault};
+ghost use Rattle.delivery.specs.AreaAnswers.{IsAnswer, AreAnswers, fault_told, proof_told, plans};
+ghost use Rattle.delivery.specs.AreaAnswers.{is_fault, is_left, has_fault, has_left};
+ghost use Rattle.delivery.specs.AreaAnswers.{is_half_arc, curve_line, object_line};
+ghost use Rattle.delivery.specs.AnswerViews.{certificates_in, has_arc_seen, named};
 
+use crate::area_names::{AreaNames, names_of};
 use crate::report::AreaAnswer;
-use meetings::{BadPair, bad_meeting};
-use plane::{Curve, CurveKind, Drawing};
+use area_search::{AreaAnswer as Found, AreaFinding, find_area};
+use certificate::Certificate;
+use plane::{Curve, CurveKind, Drawing, Placed};
 use ports::Memory;
 use std::alloc::Global;
+use table_layout::{AreaOf, Layout};
+
+// The answer to one area, and its certificate where it is proved.
+#[derive(Drop)]
+struct Answer {
+    told: AreaAnswer,
+    certificate: Option<Certificate>,
+}
+
+/// The answers to areas, in order, and the certificates of those that are proved.
+#[derive(Drop)]
+pub struct Answers {
+    pub told: Vec<AreaAnswer>,
+    pub certificates: Vec<Certificate>,
+}
 
 fn is_half_arc(curve: &Curve) -> bool
     ensures { result ≡ is_half_arc curve.now }
@@ -20,44 +44,153 @@ fn is_half_arc(curve: &Curve) -> bool
     }
 }
 
-fn has_half_arc(curves: &[Curve]) -> bool
+/// Some curve is a half arc.
+pub fn has_half_arc(curves: &[Curve]) -> bool
     ensures { result ≡ list_any is_half_arc curves.now }
 {
     curves.iter().any(|curve| is_half_arc(curve))
 }
 
-// A meeting of two curves, told by their lines.
-fn meeting_of(curves: &[Curve], pair: BadPair) -> AreaAnswer
-    requires first { pair.first < length curves.now }
-    requires second { pair.second < length curves.now }
-    ensures { result ≡ meeting_of curves.now pair.first pair.second }
+fn is_with_arc(drawing: &Drawing) -> bool
+    ensures { result ≡ has_arc_seen drawing.now }
 {
-    AreaAnswer::Meeting {
-        first: curves[pair.first as usize].line,
-        second: curves[pair.second as usize].line,
+    has_half_arc(&drawing.curves)
+}
+
+/// Some curve of some drawing is a half arc.
+pub fn has_arc(drawings: &[Drawing]) -> bool
+    ensures { result ≡ list_any has_arc_seen drawings.now }
+{
+    drawings.iter().any(|drawing| is_with_arc(drawing))
+}
+
+// The line of the transfer of a curve.
+fn curve_line(drawing: &Drawing, curve: u32) -> u32
+    requires { curve < length drawing.now.curves.items }
+    ensures { result ≡ curve_line (plan drawing.now) curve }
+{
+    drawing.curves[curve as usize].line
+}
+
+// The line of the transfer of an object.
+fn object_line(drawing: &Drawing, point: u32) -> u32
+    requires { point < length drawing.now.points.items }
+    ensures { result ≡ object_line (plan drawing.now) point }
+{
+    drawing.points[point as usize].line
+}
+
+// A fault of a drawing, told by lines of the transfer.
+fn fault_told(drawing: &Drawing, finding: AreaFinding) -> AreaAnswer
+    requires { IsFound (plan drawing.now) (Fault finding) }
+    ensures { result ≡ fault_told (plan drawing.now) finding }
+{
+    match finding {
+        AreaFinding::Meeting { first, second } => AreaAnswer::Meeting {
+            first: curve_line(drawing, first),
+            second: curve_line(drawing, second),
+        },
+        AreaFinding::On { point, curve } => AreaAnswer::On {
+            object: object_line(drawing, point),
+            curve: curve_line(drawing, curve),
+        },
+        AreaFinding::Outside { point } => AreaAnswer::Outside {
+            object: object_line(drawing, point),
+        },
+        AreaFinding::Two { first, second } => AreaAnswer::Two {
+            first: object_line(drawing, first),
+            second: object_line(drawing, second),
+        },
+        AreaFinding::Empty { curve, left } => AreaAnswer::Empty {
+            curve: curve_line(drawing, curve),
+            left,
+        },
     }
 }
 
-// The answer to a drawing.
-fn answer_of(alloc: Global, drawing: &Drawing) -> Result<AreaAnswer, Memory>
-    ensures { IfOk result (λ x. IsAnswer (plan drawing.now) x) }
+// A certificate under the names of its area.
+fn named(names: AreaNames, found: Certificate) -> Certificate
+    ensures { view result ≡ named names.topic names.table names.attribute (view found) }
+{
+    Certificate {
+        topic: names.topic,
+        table: names.table,
+        attribute: names.attribute,
+        level: found.level,
+        positions: found.positions,
+        notes: found.notes,
+        places: found.places,
+    }
+}
+
+/// How many curves and points of a drawing are shown to be a partition.
+pub fn proof_told(drawing: &Drawing, level: u8) -> AreaAnswer
+    ensures { result ≡ proof_told (plan drawing.now) level }
+{
+    AreaAnswer::Proved {
+        level,
+        curves: drawing.curves.len() as u64,
+        points: drawing.points.len() as u64,
+    }
+}
+
+// The answer to the drawing of an area.
+fn answer_of(
+    alloc: Global,
+    layout: &Layout,
+    area: &AreaOf,
+    drawing: &Drawing,
+) -> Result<Answer, Memory>
+    ensures { IfOk result (λ x. IsAnswer (layout_view layout.now) (area_view area.now)
+        (plan drawing.now) x.told (certificates_in x.certificate)) }
 {
     if has_half_arc(&drawing.curves) {
-        return Ok(AreaAnswer::Later);
+        return Ok(Answer {
+            told: AreaAnswer::Later,
+            certificate: None,
+        });
     }
-    match bad_meeting(alloc, drawing)? {
-        Some(pair) => Ok(meeting_of(&drawing.curves, pair)),
-        None => Ok(AreaAnswer::Later),
+    match find_area(alloc, drawing)? {
+        Found::Proved(found) => Ok(Answer {
+            told: proof_told(drawing, found.level),
+            certificate: Some(named(names_of(alloc, layout, area)?, found)),
+        }),
+        Found::Fault(finding) => Ok(Answer {
+            told: fault_told(drawing, finding),
+            certificate: None,
+        }),
+        Found::Undecided { .. } => unreachable!(),
     }
 }
 
-/// The answers to drawings, in order.
-pub fn answers_of(alloc: Global, drawings: &[Drawing]) -> Result<Vec<AreaAnswer>, Memory>
-    ensures { IfOk result (λ xs. AreAnswers (plans drawings.now) xs.items) }
+// Keeps one answer more.
+fn keep(answers: &mut Answers, answer: Answer) -> Result<(), Memory>
+    ensures told { OnOk result (answers.new.told.items
+        ≡ answers.old.told.items ++ answer.told ∷ []) }
+    ensures certificates { OnOk result (views answers.new.certificates.items
+        ≡ views answers.old.certificates.items ++ certificates_in answer.certificate) }
 {
-    let mut answers = Vec::new(alloc);
-    for drawing in drawings {
-        answers.push(answer_of(alloc, drawing)?)?;
+    answers.told.push(answer.told)?;
+    if let Some(certificate) = answer.certificate {
+        answers.certificates.push(certificate)?;
+    }
+    Ok(())
+}
+
+/// The answers to the areas of a layout by their drawings, one area after the other. The cost of
+/// each is that of its search.
+pub fn answers_of(alloc: Global, layout: &Layout, drawings: &[Drawing]) -> Result<Answers, Memory>
+    requires { length drawings.now ≡ length layout.now.areas.items }
+    ensures { IfOk result (λ x. AreAnswers (layout_view layout.now)
+        (areas_view layout.now.areas.items) (plans drawings.now) x.told.items
+        (views x.certificates.items)) }
+{
+    let mut answers = Answers {
+        told: Vec::new(alloc),
+        certificates: Vec::new(alloc),
+    };
+    for (area, drawing) in layout.areas.iter().zip(drawings) {
+        keep(&mut answers, answer_of(alloc, layout, area, drawing)?)?;
     }
     Ok(answers)
 }
@@ -66,8 +199,12 @@ fn is_fault(answer: AreaAnswer) -> bool
     ensures { result ≡ is_fault answer }
 {
     match answer {
-        AreaAnswer::Later => false,
-        AreaAnswer::Meeting { .. } => true,
+        AreaAnswer::Later | AreaAnswer::Proved { .. } => false,
+        AreaAnswer::Meeting { .. }
+        | AreaAnswer::On { .. }
+        | AreaAnswer::Outside { .. }
+        | AreaAnswer::Two { .. }
+        | AreaAnswer::Empty { .. } => true,
     }
 }
 
@@ -76,4 +213,25 @@ pub fn has_fault(answers: &[AreaAnswer]) -> bool
     ensures { result ≡ has_fault answers.now }
 {
     answers.iter().any(|answer| is_fault(*answer))
+}
+
+fn is_left(answer: AreaAnswer) -> bool
+    ensures { result ≡ is_left answer }
+{
+    match answer {
+        AreaAnswer::Later => true,
+        AreaAnswer::Proved { .. }
+        | AreaAnswer::Meeting { .. }
+        | AreaAnswer::On { .. }
+        | AreaAnswer::Outside { .. }
+        | AreaAnswer::Two { .. }
+        | AreaAnswer::Empty { .. } => false,
+    }
+}
+
+/// Some area is left undecided.
+pub fn has_left(answers: &[AreaAnswer]) -> bool
+    ensures { result ≡ has_left answers.now }
+{
+    answers.iter().any(|answer| is_left(*answer))
 }

@@ -1,13 +1,14 @@
 // The words of the command line.
 ghost use Rattle.std.specs.Prelude.{◌≡◌, IfSome, IfNone, List, ℕ};
-ghost use Rattle.delivery.specs.Commands.{Check as AnyCheck, is_file_name, IsCheck, IsCompile, IsCommand, IsUsage};
-ghost use Rattle.delivery.specs.CommandViews.{check_of, command_of as command_seen};
+ghost use Rattle.delivery.specs.Commands.{FileNames as AnyNames, is_file_name};
+ghost use Rattle.delivery.specs.Commands.{IsSpelled, IsCompile, IsCommand, IsUsage};
+ghost use Rattle.delivery.specs.CommandViews.{names_of, command_of as command_seen};
 
 use crate::word::Word;
 
-/// `check M T C`: the names of the model, of the transfer, and of the file for the certificates.
+/// The names of the model, of the transfer, and of the file of the certificates.
 #[derive(Clone, Copy)]
-pub struct Check<'a> {
+pub struct FileNames<'a> {
     pub model: &'a str,
     pub transfer: &'a str,
     pub certificate: &'a str,
@@ -18,7 +19,10 @@ pub struct Check<'a> {
 pub enum Command<'a> {
     /// `compile M`: the name of the model.
     Compile(&'a str),
-    Check(Check<'a>),
+    /// `check M T C`: the certificates are written to their file.
+    Check(FileNames<'a>),
+    /// `verify M T C`: the certificates are read from their file.
+    Verify(FileNames<'a>),
 }
 
 // A name of a file is not empty and does not begin with a minus.
@@ -47,25 +51,25 @@ fn compile_of(words: &[Word]) -> Option<&str>
     }
 }
 
-// The check that the words ask for, if they do.
-fn check_of(words: &[Word]) -> Option<Check<'_>>
-    ensures some { IfSome result (λ check. IsCheck words.now (check_of check)) }
-    ensures none { IfNone result ((c : AnyCheck) → IsCheck words.now c → ⊥) }
+// The files that the words name behind that command, if they do.
+fn files_of<'a>(words: &'a [Word], named: &str) -> Option<FileNames<'a>>
+    ensures some { IfSome result (λ names. IsSpelled named.now words.now (names_of names)) }
+    ensures none { IfNone result ((c : AnyNames) → IsSpelled named.now words.now c → ⊥) }
 {
     let [command, model, transfer, certificate] = words else {
         return None;
     };
-    let check = Check {
+    let names = FileNames {
         model: model.text(),
         transfer: transfer.text(),
         certificate: certificate.text(),
     };
-    if command.text() == "check"
-        && is_file_name(check.model)
-        && is_file_name(check.transfer)
-        && is_file_name(check.certificate)
+    if command.text() == named
+        && is_file_name(names.model)
+        && is_file_name(names.transfer)
+        && is_file_name(names.certificate)
     {
-        Some(check)
+        Some(names)
     } else {
         None
     }
@@ -76,8 +80,11 @@ pub fn command_of(words: &[Word]) -> Option<Command<'_>>
     ensures command { IfSome result (λ command. IsCommand words.now (command_seen command)) }
     ensures usage { IfNone result (IsUsage words.now) }
 {
-    if let Some(check) = check_of(words) {
-        return Some(Command::Check(check));
+    if let Some(names) = files_of(words, "check") {
+        return Some(Command::Check(names));
+    }
+    if let Some(names) = files_of(words, "verify") {
+        return Some(Command::Verify(names));
     }
     match compile_of(words) {
         Some(model) => Some(Command::Compile(model)),

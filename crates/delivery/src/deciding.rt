@@ -1,19 +1,20 @@
 // The outcome of the words and the files.
-ghost use Rattle.std.specs.Prelude.{◌≡◌, ◌≤◌, IfOk};
+ghost use Rattle.std.specs.Prelude.{◌≡◌, ◌≤◌, ◌∷◌, [], length, IfOk};
 ghost use Rattle.ports.specs.Faults.{NoReadFell, ReadRose};
 ghost use Rattle.table_layout.specs.Valid.{IsValid};
 ghost use Rattle.table_layout.specs.Values.{layout_view};
-ghost use Rattle.delivery.specs.Commands.{check as check_command, model_name};
-ghost use Rattle.delivery.specs.CommandViews.{check_of, command_of as command_seen};
+ghost use Rattle.delivery.specs.Commands.{check as check_command, verify as verify_command};
+ghost use Rattle.delivery.specs.Commands.{certificate_source, model_name};
+ghost use Rattle.delivery.specs.CommandViews.{names_of, command_of as command_seen};
 ghost use Rattle.delivery.specs.Deciding.{Decides};
-ghost use Rattle.delivery.specs.Ending.{Ends, EndsCommand};
+ghost use Rattle.delivery.specs.Ending.{Ends, EndsAfter, EndsCommand};
 ghost use Rattle.delivery.specs.OutcomeViews.{outcome_of};
 
-use crate::command::{Check, Command, command_of};
+use crate::command::{Command, FileNames, command_of};
 use crate::files::{File, read_file};
 use crate::model::{ModelReading, read_model};
 use crate::outcome::{Outcome, compiled, not_read, refused, usage};
-use crate::rows::check_text;
+use crate::rows::{check_text, verify_text};
 use crate::word::Word;
 use ports::{Memory, Shelf};
 use std::alloc::Global;
@@ -22,20 +23,65 @@ use table_layout::Layout;
 // The outcome of a check once its model is compiled.
 fn decide_check<'a, S: Shelf>(
     alloc: Global,
-    check: &Check<'a>,
+    names: &FileNames<'a>,
     layout: &Layout,
     shelf: &mut S,
 ) -> Result<Outcome<'a>, Memory>
     requires valid { IsValid (layout_view layout.now) }
     ensures outcome { IfOk result (λ o. Ends (S.held shelf.old)
         (ReadRose (S.read_faults shelf.old) (S.read_faults shelf.new))
-        (check_command (check_of check.now)) (layout_view layout.now) (outcome_of o)) }
+        (check_command (names_of names.now)) (layout_view layout.now) (outcome_of o)) }
     ensures held { S.held shelf.new ≡ S.held shelf.old }
     ensures reads { NoReadFell (S.read_faults shelf.old) (S.read_faults shelf.new) }
     ensures writes { S.write_faults shelf.old ≤ S.write_faults shelf.new }
 {
-    match read_file(alloc, shelf, File::Transfer, check.transfer) {
-        Ok(text) => check_text(alloc, check.certificate, layout, &text),
+    match read_file(alloc, shelf, File::Transfer, names.transfer) {
+        Ok(text) => check_text(alloc, names.certificate, layout, &text),
+        Err(refusal) => not_read(alloc, File::Transfer, refusal),
+    }
+}
+
+// The outcome of a verification once the transfer is read.
+fn decide_filed<'a, S: Shelf>(
+    alloc: Global,
+    names: &FileNames<'a>,
+    layout: &Layout,
+    text: &[u8],
+    shelf: &mut S,
+) -> Result<Outcome<'a>, Memory>
+    requires valid { IsValid (layout_view layout.now) }
+    requires short { length text.now ≤ 268435456 }
+    ensures outcome { IfOk result (λ o. EndsAfter (S.held shelf.old)
+        (ReadRose (S.read_faults shelf.old) (S.read_faults shelf.new))
+        (verify_command (names_of names.now)) (layout_view layout.now) (text.now ∷ [])
+        (certificate_source (names_of names.now) ∷ []) (outcome_of o)) }
+    ensures held { S.held shelf.new ≡ S.held shelf.old }
+    ensures reads { NoReadFell (S.read_faults shelf.old) (S.read_faults shelf.new) }
+    ensures writes { S.write_faults shelf.old ≤ S.write_faults shelf.new }
+{
+    match read_file(alloc, shelf, File::Certificate, names.certificate) {
+        Ok(filed) => verify_text(alloc, layout, text, &filed),
+        Err(refusal) => not_read(alloc, File::Certificate, refusal),
+    }
+}
+
+// The outcome of a verification once its model is compiled. Both files are read before any verdict.
+fn decide_verify<'a, S: Shelf>(
+    alloc: Global,
+    names: &FileNames<'a>,
+    layout: &Layout,
+    shelf: &mut S,
+) -> Result<Outcome<'a>, Memory>
+    requires valid { IsValid (layout_view layout.now) }
+    ensures outcome { IfOk result (λ o. Ends (S.held shelf.old)
+        (ReadRose (S.read_faults shelf.old) (S.read_faults shelf.new))
+        (verify_command (names_of names.now)) (layout_view layout.now) (outcome_of o)) }
+    ensures held { S.held shelf.new ≡ S.held shelf.old }
+    ensures reads { NoReadFell (S.read_faults shelf.old) (S.read_faults shelf.new) }
+    ensures writes { S.write_faults shelf.old ≤ S.write_faults shelf.new }
+{
+    match read_file(alloc, shelf, File::Transfer, names.transfer) {
+        Ok(text) => decide_filed(alloc, names, layout, &text, shelf),
         Err(refusal) => not_read(alloc, File::Transfer, refusal),
     }
 }
@@ -57,7 +103,8 @@ fn decide_compiled<'a, S: Shelf>(
 {
     match command {
         Command::Compile(_) => compiled(alloc, layout),
-        Command::Check(check) => decide_check(alloc, check, layout, shelf),
+        Command::Check(names) => decide_check(alloc, names, layout, shelf),
+        Command::Verify(names) => decide_verify(alloc, names, layout, shelf),
     }
 }
 
@@ -67,7 +114,7 @@ fn model_name<'a>(command: &Command<'a>) -> &'a str
 {
     match command {
         Command::Compile(model) => model,
-        Command::Check(check) => check.model,
+        Command::Check(names) | Command::Verify(names) => names.model,
     }
 }
 

@@ -5,10 +5,10 @@ ghost use Rattle.itf_reader.specs.Views.{transfer_of};
 ghost use Rattle.plane.specs.Rule.Plans.{plan};
 ghost use Rattle.table_layout.specs.Valid.{IsValid};
 ghost use Rattle.table_layout.specs.Values.{area_view, areas_view, layout_view};
-ghost use Rattle.delivery.specs.AreaAnswers.{AreDrawings, plans};
+ghost use Rattle.delivery.specs.AreaAnswers.{plans};
 ghost use Rattle.delivery.specs.AreaLimits.{IsWithinLimits};
 ghost use Rattle.delivery.specs.Drawable.{IsDrawable};
-ghost use Rattle.delivery.specs.Drawings.{IsDrawing, IsDrawingAt};
+ghost use Rattle.delivery.specs.Drawings.{AreDrawings, IsDrawing, IsDrawingAt};
 ghost use Rattle.delivery.specs.Judging.{IsClean};
 
 mod curves;

@@ -12,6 +12,8 @@ use std::alloc::Global;
 pub enum File {
     Model,
     Transfer,
+    /// The certificates that `verify` reads.
+    Certificate,
 }
 
 impl File {
@@ -23,6 +25,7 @@ impl File {
         match self {
             File::Model => 4_194_304,
             File::Transfer => 268_435_456,
+            File::Certificate => 1_073_741_824,
         }
     }
 }

@@ -1,22 +1,23 @@
 //! The top call: words and files become an answer, a report and the file of the certificates.
 //!
-//! `run` is what the program is. It looks at the words, reads the model and the transfer, fixes
-//! the outcome, makes the report, and only then writes. Its contract says the cause of every
-//! answer, the report word by word, and what becomes of every file.
+//! `run` is what the program is. It looks at the words, reads the files, fixes the outcome, makes
+//! the report, and only then writes. Its contract says the cause of every answer, the report word
+//! by word, and what becomes of every file.
 //!
-//! - **What is served.** `compile M` and `check M T C`. Every model is cut into tokens, parsed,
-//!   resolved and laid out; of a model with a fault, the first one is reported with its code,
-//!   line, column and word. Every transfer is read by the layout of its model; where a line is
-//!   at fault, the first one is reported with its code. All values, identifications, IDENT lists
-//!   and references of a transfer are checked, and each finding is reported.
-//! - **What is decided.** A transfer of a model without AREA, whole. Once any other has no finding,
-//!   its areas are drawn. Where a drawing has straights alone, two of them that meet badly are
-//!   reported, and the transfer is rejected; an area of more than 16,000,000 vertices, or rows of
-//!   its main table, is over its limit. All else of an area is left for later.
+//! - **What is served.** `compile M`, `check M T C` and `verify M T C`. Every model is cut into
+//!   tokens, parsed, resolved and laid out; of a model with a fault, the first one is reported with
+//!   its code, line, column and word. Every transfer is read by the layout of its model; where a
+//!   line is at fault, the first one is reported with its code. All values, identifications, IDENT
+//!   lists and references of a transfer are checked, and each finding is reported.
+//! - **What is decided.** Once a transfer has no finding, its areas are drawn and searched, one
+//!   after the other. An area of straights is a partition, or its first fault is reported. `check`
+//!   writes a certificate for each area where all are partitions; `verify` judges filed
+//!   certificates by their rules alone, without any search. An area of more than 16,000,000
+//!   vertices, or rows of its main table, is over its limit. An area with a half arc is left.
 //! - **Drawings.** `drawing` turns the rows of an area into curves and points of the plane, each
-//!   with its line in the transfer. What makes a drawing a partition is said in `plane`; that two
-//!   curves meet badly is found by `meetings`.
-//! - **What is not checked here:** drawings with a half arc, and where points and faces lie.
+//!   with its line in the transfer. What makes a drawing a partition is said in `plane`; faults and
+//!   certificates are found by `area_search`, and certificates judged by `certificate_checker`.
+//! - **What is not checked here:** drawings with a half arc.
 //! - **Degenerate cases:** an empty file is read as one; a model without a table and a transfer
 //!   without an object are decided; two words may name one file, since all reads come before the
 //!   first write. A vertex at the place before it draws nothing, an arc over three places of one
@@ -25,23 +26,26 @@
 //! `deciding` fixes the outcome: a status, the lines of the report, and the certificates where
 //! there are any to write. `report` has the lines and their text, and `publishing` writes. An
 //! outcome has one constructor in `outcome`, a line of the report one variant in `report`, an
-//! answer to an area one arm in `area_answers`.
+//! answer to an area one arm in `area_answers`; filed certificates are judged in `verifying`.
 //!
 //! Cost of `run`: time and memory in proportion to the files, but for the names of a model and
-//! the findings of a transfer, which take n log n, and for what `meetings` takes to sweep the
-//! drawing of an area. Of a model only its layout is held while the transfer is read. The text of
-//! a transfer, its lines and its rows are held together while the rows are read, and its text and
-//! its rows while they are checked. All areas are drawn, with some 60 bytes for a curve, before
-//! the rows are let go; then the drawings are swept one after the other.
+//! the findings of a transfer, which take n log n, and for the search of each area or the check of
+//! its certificate, which `area_search` and `certificate_checker` tell. Of a model only its layout
+//! is held while the transfer is read. The text of a transfer, its lines and its rows are held
+//! together while the rows are read, and its text and its rows while they are checked; for `verify`
+//! the text of the certificates stays beside them. All areas are drawn, with some 60 bytes for a
+//! curve, before the rows are let go; then the drawings are searched or checked one by one.
 #![tactic(auto)]
 
 mod area_answers;
 mod area_limits;
+mod area_names;
 mod command;
 mod deciding;
 mod drawings;
 mod files;
 mod findings;
+pub mod laws;
 mod model;
 mod outcome;
 mod publishing;
@@ -50,6 +54,7 @@ mod report;
 mod rows;
 mod status;
 mod top;
+mod verifying;
 mod word;
 
 pub use drawings::drawing;

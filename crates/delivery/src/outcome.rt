@@ -6,23 +6,29 @@ ghost use Rattle.itf_reader.specs.Refusals.{fault_of};
 ghost use Rattle.table_layout.specs.Values.{area_view, areas_view, layout_view, table_view, tables_view};
 ghost use Rattle.delivery.specs.Outcomes.{reported, usage, unread, too_long, area_too_large};
 ghost use Rattle.delivery.specs.Outcomes.{refused, compiled, misbuilt, rejected, areas_told};
-ghost use Rattle.delivery.specs.Outcomes.{accepted, area_line, area_lines, table_line};
-ghost use Rattle.delivery.specs.AreaNames.{name_at, topic_at};
+ghost use Rattle.delivery.specs.Outcomes.{accepted, area_line, area_lines, table_line, with_verdict};
+ghost use Rattle.delivery.specs.Outcomes.{arc_line, arc_lines, arcs_left, proofs_told, verified};
+ghost use Rattle.plane.specs.Rule.Plans.{plan};
+ghost use Rattle.delivery.specs.AreaAnswers.{plans};
 ghost use Rattle.delivery.specs.LineViews.{line_of, lines_of};
-ghost use Rattle.delivery.specs.OutcomeViews.{outcome_of, table_there};
+ghost use Rattle.delivery.specs.OutcomeViews.{outcome_of};
 ghost use Rattle.delivery.specs.FileRefusals.{IsNotRead};
 ghost use Rattle.delivery.specs.RefusalViews.{refusal_of};
+ghost use Rattle.delivery.specs.VerificationViews.{verification_of};
 
-use crate::area_answers::has_fault;
+use crate::area_answers::{Answers, has_fault, has_half_arc, has_left, proof_told};
+use crate::area_names::{names_of, topic_text};
 use crate::files::{File, FileRefusal};
 use crate::refusals::Refusal;
 use crate::report::{AreaAnswer, AreaLine, Line, TableLine, Verdict};
 use crate::status::Status;
+use crate::verifying::Verification;
 use certificate::Certificate;
 use itf_reader::{Finding, Structure};
+use plane::Drawing;
 use ports::{Memory, Name};
 use std::alloc::Global;
-use table_layout::{AreaOf, Layout, Table, TableId};
+use table_layout::{AreaOf, Layout, Table};
 
 /// Certificates, and the name of the file that they go to.
 #[derive(Drop)]
@@ -94,22 +100,12 @@ pub fn refused<'a>(alloc: Global, refusal: Refusal) -> Result<Outcome<'a>, Memor
     Ok(reported(alloc, Status::ModelRefused, lines))
 }
 
-// The name of the topic of that number, empty where there is none.
-fn topic_name(topics: &[Name], topic: u32) -> &[u8]
-    ensures { result.now ≡ slice_index_or topics.now topic [] }
-{
-    match topics.get(topic as usize) {
-        Some(name) => name.bytes(),
-        None => b"",
-    }
-}
-
 // The line for a table.
 fn table_line(alloc: Global, topics: &[Name], table: &Table) -> Result<Line, Memory>
     ensures { IfOk result (λ line. line_of line ≡ table_line topics.now (table_view table.now)) }
 {
     Ok(Line::Table(TableLine {
-        topic: Name::new(alloc, topic_name(topics, table.topic))?,
+        topic: Name::new(alloc, topic_text(topics, table.topic))?,
         name: Name::new(alloc, table.name.bytes())?,
         role: table.role,
         columns: table.columns.len() as u64,
@@ -168,24 +164,6 @@ pub fn rejected<'a>(alloc: Global, findings: Vec<Finding>) -> Result<Outcome<'a>
     })
 }
 
-// The table of that number, if there is one.
-fn table_at(tables: &[Table], id: TableId) -> Option<&Table>
-    ensures { table_there result ≡ slice_get (tables_view tables.now) id.0 }
-{
-    tables.get(id.0 as usize)
-}
-
-// The names of a table's topic and of the table, empty where there is none.
-fn title<'a>(layout: &'a Layout, table: Option<&'a Table>) -> (&'a [u8], &'a [u8])
-    ensures topic { result.0.now ≡ topic_at (layout_view layout.now) (table_there table.entry) }
-    ensures table { result.1.now ≡ name_at (table_there table.entry) }
-{
-    match table {
-        Some(table) => (topic_name(&layout.topics, table.topic), table.name.bytes()),
-        None => (b"", b""),
-    }
-}
-
 // The line for an area, and the answer to it.
 fn area_line(
     alloc: Global,
@@ -196,11 +174,11 @@ fn area_line(
     ensures { IfOk result (λ line. line_of line ≡ area_line (layout_view layout.now)
         (area_view area.now) answer) }
 {
-    let (topic, table) = title(layout, table_at(&layout.tables, area.main));
+    let names = names_of(alloc, layout, area)?;
     Ok(Line::Area(AreaLine {
-        topic: Name::new(alloc, topic)?,
-        table: Name::new(alloc, table)?,
-        attribute: Name::new(alloc, area.name.bytes())?,
+        topic: names.topic,
+        table: names.table,
+        attribute: names.attribute,
         answer,
     }))
 }
@@ -217,33 +195,145 @@ fn area_lines(alloc: Global, layout: &Layout, answers: &[AreaAnswer]) -> Result<
     Ok(lines)
 }
 
-/// The transfer has no finding, and these are the answers to the areas of the layout.
-pub fn areas_told<'a>(
+// So many objects without a finding, and the certificates for that file.
+fn accepted(
     alloc: Global,
-    layout: &Layout,
-    answers: &[AreaAnswer],
-) -> Result<Outcome<'a>, Memory>
-    ensures { IfOk result (λ o. outcome_of o ≡ areas_told (layout_view layout.now) answers.now) }
+    lines: Vec<Line>,
+    objects: u128,
+    filing: Filing<'_>,
+) -> Result<Outcome<'_>, Memory>
+    ensures { IfOk result (λ o. outcome_of o ≡ accepted (lines_of lines.items) objects
+        filing.entry.name.now (views filing.entry.certificates.items)) }
 {
-    let mut lines = area_lines(alloc, layout, answers)?;
-    if has_fault(answers) {
-        lines.push(Line::Verdict(Verdict::Rejected))?;
-        return Ok(reported(alloc, Status::Rejected, lines));
-    }
-    lines.push(Line::Verdict(Verdict::Undecided))?;
-    Ok(reported(alloc, Status::Undecided, lines))
-}
-
-/// So many objects without a finding, and the certificates for that file.
-pub fn accepted(alloc: Global, objects: u128, filing: Filing<'_>) -> Result<Outcome<'_>, Memory>
-    ensures { IfOk result (λ o. outcome_of o ≡ accepted objects filing.entry.name.now
-        (views filing.entry.certificates.items)) }
-{
-    let lines = vec![in alloc; Line::Verdict(Verdict::Accepted(objects))]?;
+    let mut lines = lines;
+    lines.push(Line::Verdict(Verdict::Accepted(objects)))?;
     Ok(Outcome {
         status: Status::Accepted,
         findings: Vec::new(alloc),
         lines,
         filing: Some(filing),
     })
+}
+
+// Lines and a verdict, without certificates.
+fn ended<'a>(
+    alloc: Global,
+    status: Status,
+    lines: Vec<Line>,
+    verdict: Verdict,
+) -> Result<Outcome<'a>, Memory>
+    ensures { IfOk result (λ o. outcome_of o ≡ reported status
+        (with_verdict (lines_of lines.items) verdict)) }
+{
+    let mut lines = lines;
+    lines.push(Line::Verdict(verdict))?;
+    Ok(reported(alloc, status, lines))
+}
+
+/// So many objects without a finding, and these answers to the areas of the layout, whose
+/// certificates go to the file of that name where all are proved.
+pub fn areas_told<'a>(
+    alloc: Global,
+    layout: &Layout,
+    objects: u128,
+    name: &'a str,
+    answers: Answers,
+) -> Result<Outcome<'a>, Memory>
+    ensures { IfOk result (λ o. outcome_of o ≡ areas_told (layout_view layout.now) objects name.now
+        answers.told.items (views answers.certificates.items)) }
+{
+    let lines = area_lines(alloc, layout, &answers.told)?;
+    if has_fault(&answers.told) {
+        return ended(alloc, Status::Rejected, lines, Verdict::Rejected);
+    }
+    if has_left(&answers.told) {
+        return ended(alloc, Status::Undecided, lines, Verdict::Undecided);
+    }
+    let filing = Filing {
+        name,
+        certificates: answers.certificates,
+    };
+    accepted(alloc, lines, objects, filing)
+}
+
+// Adds the line of an area, where it has a half arc.
+fn add_arc_line(
+    alloc: Global,
+    layout: &Layout,
+    area: &AreaOf,
+    drawing: &Drawing,
+    lines: &mut Vec<Line>,
+) -> Result<(), Memory>
+    ensures { OnOk result (lines_of lines.new.items ≡ lines_of lines.old.items ++ arc_line
+        (layout_view layout.now) (area_view area.now) (plan drawing.now)) }
+{
+    if has_half_arc(&drawing.curves) {
+        lines.push(area_line(alloc, layout, area, AreaAnswer::Later)?)?;
+    }
+    Ok(())
+}
+
+// The lines of areas with a half arc.
+fn arc_lines(alloc: Global, layout: &Layout, drawings: &[Drawing]) -> Result<Vec<Line>, Memory>
+    ensures { IfOk result (λ lines. lines_of lines.items ≡ arc_lines (layout_view layout.now)
+        (areas_view layout.now.areas.items) (plans drawings.now)) }
+{
+    let mut lines = Vec::new(alloc);
+    for (area, drawing) in layout.areas.iter().zip(drawings) {
+        add_arc_line(alloc, layout, area, drawing, &mut lines)?;
+    }
+    Ok(lines)
+}
+
+/// Some area has a half arc, which leaves the filed certificates for later.
+pub fn arcs_left<'a>(
+    alloc: Global,
+    layout: &Layout,
+    drawings: &[Drawing],
+) -> Result<Outcome<'a>, Memory>
+    ensures { IfOk result (λ o. outcome_of o ≡ arcs_left (layout_view layout.now)
+        (plans drawings.now)) }
+{
+    let lines = arc_lines(alloc, layout, drawings)?;
+    ended(alloc, Status::Undecided, lines, Verdict::Undecided)
+}
+
+// The answers to drawings that are proved at these levels.
+fn proofs_told(alloc: Global, drawings: &[Drawing], levels: &[u8]) -> Result<Vec<AreaAnswer>, Memory>
+    ensures { IfOk result (λ xs. xs.items ≡ proofs_told (plans drawings.now) levels.now) }
+{
+    let mut answers = Vec::new(alloc);
+    for (drawing, level) in drawings.iter().zip(levels) {
+        answers.push(proof_told(drawing, *level))?;
+    }
+    Ok(answers)
+}
+
+/// So many objects without a finding, and what filed certificates prove of the drawings.
+pub fn verified<'a>(
+    alloc: Global,
+    layout: &Layout,
+    objects: u128,
+    drawings: &[Drawing],
+    verification: &Verification,
+) -> Result<Outcome<'a>, Memory>
+    ensures { IfOk result (λ o. outcome_of o ≡ verified (layout_view layout.now) objects
+        (plans drawings.now) (verification_of verification.now)) }
+{
+    match verification {
+        Verification::Proved(levels) => {
+            let answers = proofs_told(alloc, drawings, levels)?;
+            let lines = area_lines(alloc, layout, &answers)?;
+            ended(alloc, Status::Accepted, lines, Verdict::Accepted(objects))
+        }
+        Verification::NotProved { area, rule, place } => {
+            let line = Line::NotProved {
+                area: *area,
+                rule: *rule,
+                place: *place,
+            };
+            let lines = vec![in alloc; line]?;
+            ended(alloc, Status::NotProved, lines, Verdict::NotProved)
+        }
+    }
 }

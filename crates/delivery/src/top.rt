@@ -3,11 +3,13 @@ ghost use Rattle.std.specs.Prelude.{◌≡◌, ◌≢◌, ◌≤◌, ◌⊎◌, 
 ghost use Rattle.ports.specs.Faults.{Rose, NoReadFell, ReadRose};
 ghost use Rattle.ports.specs.Files.{Files};
 ghost use Rattle.delivery.specs.Answers.{Means, IsAnswer, IsFaultless, IsComplete};
+ghost use Rattle.delivery.specs.Certified.{Certifies};
 ghost use Rattle.delivery.specs.Deciding.{Decides};
 ghost use Rattle.delivery.specs.Effects.{Does};
 ghost use Rattle.delivery.specs.Outcomes.{Outcome as AnyOutcome};
 
 use crate::deciding::decide;
+use crate::laws::outcomes_are_right;
 use crate::publishing::publish;
 use crate::report::report;
 use crate::status::Status;
@@ -26,6 +28,12 @@ pub fn run<S: Shelf, K: Sink>(alloc: Global, words: &[Word], shelf: &mut S, out:
     // The cause of the answer: the headline.
     ensures means { Means (S.held shelf.old) (ReadRose (S.read_faults shelf.old) (S.read_faults shelf.new))
         words.now result }
+
+    // After an accepted check the file of the certificates holds a list that shows by itself that
+    // the areas are partitions.
+    ensures certified { result ≡ Status.Accepted
+        → Certifies (S.held shelf.old) (ReadRose (S.read_faults shelf.old) (S.read_faults shelf.new))
+        words.now (S.held shelf.new) }
 
     // The answer, the output and every file are those of an outcome of the words and the files.
     ensures does { result ≢ Status.Memory
@@ -61,6 +69,7 @@ pub fn run<S: Shelf, K: Sink>(alloc: Global, words: &[Word], shelf: &mut S, out:
     ensures writes { S.write_faults shelf.old ≤ S.write_faults shelf.new }
     ensures faults { K.faults out.old ≤ K.faults out.new }
 {
+    outcomes_are_right();
     let Ok(outcome) = decide(alloc, words, shelf) else {
         return Status::Memory;
     };

@@ -23,6 +23,17 @@ pub enum AreaAnswer {
     Later,
     /// Two curves of its drawing, each by its line, meet elsewhere than in control points of both.
     Meeting { first: u32, second: u32 },
+    /// The point of an object, by the object's line, lies on a curve, by its line.
+    On { object: u32, curve: u32 },
+    /// The point of an object, by the object's line, lies outside of all regions.
+    Outside { object: u32 },
+    /// The points of two objects, by the objects' lines, lie in one region.
+    Two { first: u32, second: u32 },
+    /// A side of a curve, by its line and as seen in the direction of the curve, bounds a region
+    /// without a point.
+    Empty { curve: u32, left: bool },
+    /// So many curves and points are shown to be a partition, at that level of the certificate.
+    Proved { level: u8, curves: u64, points: u64 },
 }
 
 /// An area, by its topic, its main table and its attribute, and the answer to it.
@@ -41,6 +52,7 @@ pub enum Verdict {
     Accepted(u128),
     Rejected,
     Undecided,
+    NotProved,
     /// So many tables.
     Compiled(u128),
 }
@@ -66,5 +78,8 @@ pub enum Line {
     /// The first line at fault of a transfer, and why it is.
     Structure { line: u32, code: Structure },
     Area(AreaLine),
+    /// The area whose certificate does not prove it, by its number from 0, the rule that is broken
+    /// first, and its place.
+    NotProved { area: u32, rule: u8, place: u32 },
     Verdict(Verdict),
 }

@@ -6,7 +6,8 @@ ghost use Rattle.itf_reader.specs.Findings.{finding_of, findings_of, other_of};
 ghost use Rattle.itf_reader.specs.Refusals.{fault_of};
 ghost use Rattle.delivery.specs.Lines.{finding as finding_line, file_text, place_text, role_text};
 ghost use Rattle.delivery.specs.Lines.{other_text, finding_words, table_words, area_text};
-ghost use Rattle.delivery.specs.Lines.{pair_text, area_words, structure_words, refusal_words};
+ghost use Rattle.delivery.specs.Lines.{pair_text, empty_text, proof_text, area_words};
+ghost use Rattle.delivery.specs.Lines.{not_proved_words, structure_words, refusal_words};
 ghost use Rattle.delivery.specs.Lines.{verdict_text, words_of, line_text};
 ghost use Rattle.delivery.specs.LineViews.{findings_seen, line_of, lines_of, table_of, area_of};
 ghost use Rattle.delivery.specs.Outcomes.{report_of};
@@ -31,6 +32,7 @@ fn file_text(file: File) -> &'static [u8]
     match file {
         File::Model => b"model",
         File::Transfer => b"transfer",
+        File::Certificate => b"certificate",
     }
 }
 
@@ -154,12 +156,44 @@ impl Text {
         self.add_number(second)
     }
 
+    // EMPTY line side
+    fn add_side(&mut self, curve: u32, left: bool) -> Result<(), Memory>
+        ensures { OnOk result (self.new ≡ self.old ++ empty_text curve left) }
+    {
+        self.add(b"EMPTY ")?;
+        self.add_number(curve)?;
+        self.add(if left { b" LEFT" } else { b" RIGHT" })
+    }
+
+    // PROVED level curves points
+    fn add_proof(&mut self, level: u8, curves: u64, points: u64) -> Result<(), Memory>
+        ensures { OnOk result (self.new ≡ self.old ++ proof_text level curves points) }
+    {
+        self.add(b"PROVED ")?;
+        self.add_count(u128::from(level))?;
+        self.add(b" ")?;
+        self.add_count(u128::from(curves))?;
+        self.add(b" ")?;
+        self.add_count(u128::from(points))
+    }
+
     fn add_answer(&mut self, answer: AreaAnswer) -> Result<(), Memory>
         ensures { OnOk result (self.new ≡ self.old ++ area_text answer) }
     {
         match answer {
             AreaAnswer::Later => self.add(b"LATER"),
             AreaAnswer::Meeting { first, second } => self.add_pair(b"MEETING ", first, second),
+            AreaAnswer::On { object, curve } => self.add_pair(b"ON ", object, curve),
+            AreaAnswer::Outside { object } => {
+                self.add_words_and_count(b"OUTSIDE ", u128::from(object))
+            }
+            AreaAnswer::Two { first, second } => self.add_pair(b"TWO ", first, second),
+            AreaAnswer::Empty { curve, left } => self.add_side(curve, left),
+            AreaAnswer::Proved {
+                level,
+                curves,
+                points,
+            } => self.add_proof(level, curves, points),
         }
     }
 
@@ -175,6 +209,18 @@ impl Text {
         self.add(area.attribute.bytes())?;
         self.add(b" ")?;
         self.add_answer(area.answer)
+    }
+
+    // NOTPROVED area rule place
+    fn add_not_proved(&mut self, area: u32, rule: u8, place: u32) -> Result<(), Memory>
+        ensures { OnOk result (self.new ≡ self.old ++ not_proved_words area rule place) }
+    {
+        self.add(b"NOTPROVED ")?;
+        self.add_number(area)?;
+        self.add(b" ")?;
+        self.add_number(u32::from(rule))?;
+        self.add(b" ")?;
+        self.add_number(place)
     }
 
     // STRUCTURE line code
@@ -222,6 +268,7 @@ impl Text {
             Verdict::Accepted(objects) => self.add_words_and_count(b"VERDICT ACCEPTED ", objects),
             Verdict::Rejected => self.add(b"VERDICT REJECTED"),
             Verdict::Undecided => self.add(b"VERDICT UNDECIDED"),
+            Verdict::NotProved => self.add(b"VERDICT NOTPROVED"),
             Verdict::Compiled(tables) => self.add_words_and_count(b"VERDICT COMPILED ", tables),
         }
     }
@@ -254,6 +301,7 @@ impl Text {
             Line::Table(table) => self.add_table(table),
             Line::Structure { line, code } => self.add_structure(*line, *code),
             Line::Area(area) => self.add_area(area),
+            Line::NotProved { area, rule, place } => self.add_not_proved(*area, *rule, *place),
             Line::Verdict(verdict) => self.add_verdict(*verdict),
         }
     }

@@ -1,4 +1,4 @@
-//! Deliveries of parcels whose lines are drawn: which meet badly, and which are left for later.
+//! Deliveries of parcels: the answer to their area, and the certificate of those that are accepted.
 
 use super::deliveries::PARCELS;
 use super::rows::{CHECK, words_of};
@@ -26,7 +26,16 @@ struct Case {
 
 const LATER: &str = "AREA Cover Parcel Form LATER\nVERDICT UNDECIDED\n";
 
-const CASES: [Case; 10] = [
+const SQUARE: &str = "OBJE 1\nSTPT 100.000 100.000\nLIPT 200.000 100.000\nLIPT 200.000 200.000\n\
+    LIPT 100.000 200.000\nLIPT 100.000 100.000\nELIN\n";
+
+const TWO_SQUARES: &str =
+    "OBJE 1\nSTPT 100.000 100.000\nLIPT 200.000 100.000\nLIPT 200.000 200.000\n\
+    LIPT 100.000 200.000\nLIPT 100.000 100.000\nELIN\nOBJE 2\nSTPT 140.000 140.000\n\
+    LIPT 160.000 140.000\nLIPT 160.000 160.000\nLIPT 140.000 160.000\nLIPT 140.000 140.000\n\
+    ELIN\n";
+
+const CASES: [Case; 18] = [
     Case {
         name: "two lines cross",
         lines: "OBJE 1\nSTPT 100.000 100.000\nLIPT 200.000 200.000\nELIN\nOBJE 2\n\
@@ -90,8 +99,8 @@ const CASES: [Case; 10] = [
             LIPT 200.000 100.000\nELIN\nOBJE 2\nSTPT 150.000 50.000\nARCP 150.000 50.0\n\
             LIPT 150.000 100.000\nELIN\n",
         parcels: "",
-        report: LATER,
-        status: Status::Undecided,
+        report: "AREA Cover Parcel Form PROVED 0 3 0\nVERDICT ACCEPTED 2\n",
+        status: Status::Accepted,
     },
     Case {
         name: "a line crosses itself",
@@ -105,8 +114,65 @@ const CASES: [Case; 10] = [
         name: "there is no line",
         lines: "",
         parcels: "OBJE 1 77 150.000 150.000\n",
-        report: LATER,
-        status: Status::Undecided,
+        report: "AREA Cover Parcel Form OUTSIDE 9\nVERDICT REJECTED\n",
+        status: Status::Rejected,
+    },
+    Case {
+        name: "a square has its point",
+        lines: SQUARE,
+        parcels: "OBJE 1 77 150.000 150.000\n",
+        report: "AREA Cover Parcel Form PROVED 0 4 1\nVERDICT ACCEPTED 2\n",
+        status: Status::Accepted,
+    },
+    Case {
+        name: "a square has no point",
+        lines: SQUARE,
+        parcels: "",
+        report: "AREA Cover Parcel Form EMPTY 9 LEFT\nVERDICT REJECTED\n",
+        status: Status::Rejected,
+    },
+    Case {
+        name: "a square has two points",
+        lines: SQUARE,
+        parcels: "OBJE 1 77 150.000 150.000\nOBJE 2 78 160.000 160.000\n",
+        report: "AREA Cover Parcel Form TWO 16 17\nVERDICT REJECTED\n",
+        status: Status::Rejected,
+    },
+    Case {
+        name: "a second point lies outside of the square",
+        lines: SQUARE,
+        parcels: "OBJE 1 77 150.000 150.000\nOBJE 2 78 300.000 300.000\n",
+        report: "AREA Cover Parcel Form OUTSIDE 17\nVERDICT REJECTED\n",
+        status: Status::Rejected,
+    },
+    Case {
+        name: "the point lies on a line of the square",
+        lines: SQUARE,
+        parcels: "OBJE 1 77 100.000 150.000\n",
+        report: "AREA Cover Parcel Form ON 16 12\nVERDICT REJECTED\n",
+        status: Status::Rejected,
+    },
+    Case {
+        name: "the point lies on the second part of an arc over three places of one straight",
+        lines: "OBJE 1\nSTPT 100.000 100.000\nARCP 150.000 100.000\nLIPT 200.000 100.000\n\
+            LIPT 100.000 200.000\nLIPT 100.000 100.000\nELIN\n",
+        parcels: "OBJE 1 77 160.000 100.000\n",
+        report: "AREA Cover Parcel Form ON 16 10\nVERDICT REJECTED\n",
+        status: Status::Rejected,
+    },
+    Case {
+        name: "a square lies in another, and each has its point",
+        lines: TWO_SQUARES,
+        parcels: "OBJE 1 77 110.000 110.000\nOBJE 2 78 150.000 150.000\n",
+        report: "AREA Cover Parcel Form PROVED 0 8 2\nVERDICT ACCEPTED 4\n",
+        status: Status::Accepted,
+    },
+    Case {
+        name: "the inner square has no point",
+        lines: TWO_SQUARES,
+        parcels: "OBJE 1 77 110.000 110.000\n",
+        report: "AREA Cover Parcel Form EMPTY 16 LEFT\nVERDICT REJECTED\n",
+        status: Status::Rejected,
     },
 ];
 
@@ -138,7 +204,7 @@ fn answers(rt: &impl Abort, alloc: Global, case: &Case) -> Result<(), Fail> {
 }
 
 #[test]
-fn lines_of_areas_are_drawn_and_meet_or_are_left(rt: HostRuntime) -> Result<(), Fail> {
+fn areas_are_accepted_rejected_or_left(rt: HostRuntime) -> Result<(), Fail> {
     for case in &CASES {
         answers(&rt, rt.alloc(), case)?;
     }
@@ -161,7 +227,7 @@ const TWO_DRAWINGS: &str =
         ETOP\nEMOD\nENDE\n";
 
 const TWO_ANSWERS: &str =
-    "AREA Cover Parcel Form LATER\nAREA Cover Parcel Zone MEETING 15 19\nVERDICT REJECTED\n";
+    "AREA Cover Parcel Form ON 23 9\nAREA Cover Parcel Zone MEETING 15 19\nVERDICT REJECTED\n";
 
 // Where a growth is refused, the answer is the defined one, or out of memory with nothing done.
 #[test]

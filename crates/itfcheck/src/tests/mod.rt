@@ -4,6 +4,7 @@ mod areas;
 mod compiled;
 mod deliveries;
 mod endless;
+mod filed;
 mod inputs;
 mod models;
 mod rows;

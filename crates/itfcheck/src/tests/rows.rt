@@ -235,8 +235,8 @@ pub fn words_of(alloc: Global, texts: &[&str]) -> Result<Vec<Word>, Fail> {
 }
 
 // The file of the certificates, where it is there.
-fn certificate(alloc: Global, shelf: &mut MemoryShelf) -> Result<Option<String>, Fail> {
-    let mut buffer = [0u8; 64];
+pub fn certificate(alloc: Global, shelf: &mut MemoryShelf) -> Result<Option<String>, Fail> {
+    let mut buffer = [0u8; 256];
     match shelf.read("C", 0, &mut buffer) {
         Ok(length) => {
             let text = std::str::from_utf8(&buffer[..length]).unwrap_or("not a text");

@@ -1,8 +1,8 @@
-use Rattle.std.proofs.Common.{ℕ, List, Option, refl, inl, inr, subst}
+use Rattle.std.proofs.Common.{ℕ, List, [], Option, refl, inl, inr, subst}
 use Rattle.ports.specs.Faults.{ReadRose}
 use Rattle.ports.specs.Files.{Files}
 use Rattle.table_layout.specs.Values.{layout_view}
-use Rattle.delivery.specs.Commands.{limit_of}
+use Rattle.delivery.specs.Commands.{limit_of, further_files}
 use Rattle.delivery.specs.CommandViews.{command_of}
 use Rattle.delivery.specs.Ending.{Ends}
 use Rattle.delivery.specs.Gathering.{refused, Reads, Compiles}
@@ -42,7 +42,7 @@ returns-in-Laid-clause-outcome g c =
     (λ o h.
     let e = ends_on held near far
     (λ name r. rose_after (g.S.Shelf.read_faults c.args.shelf.now name) (g.S.Shelf.read_faults c.read_file.new.shelf name) (g.S.Shelf.read_faults c.decide_compiled.new.shelf name) (c.in-Ok.ensures.reads name) r)
-    command layout (outcome_of o) (subst (λ (told : Option Files). Ends told near command layout (outcome_of o)) c.in-Ok.ensures.held h) in
+    command layout [] (further_files command) (outcome_of o) (subst (λ (told : Option Files). Ends told near command layout (outcome_of o)) c.in-Ok.ensures.held h) in
     record { gathered = e.gathered; gathers = inr (inr (c.in-Ok.text.items, whole, inr (layout, laid, e.reads))); amounts = e.amounts })
     c.decide_compiled.ensures.outcome
 

@@ -6,7 +6,7 @@ use Rattle.table_layout.specs.declared.layouts.AreaOf.{AreaOf}
 use Rattle.delivery.specs.AreaAnswers.{plans}
 use Rattle.delivery.specs.Drawable.{IsDrawable}
 use Rattle.delivery.specs.Drawings.{IsDrawing}
-use Rattle.delivery.proofs.AreaLemmas.{drawn_more}
+use Rattle.delivery.proofs.Zips.{drawn_more}
 use Rattle.delivery.proofs.CurveLemmas.{mapped_at}
 use Rattle.delivery.proofs.drawings.all_drawings.Goals as goal
 

@@ -1,4 +1,7 @@
-use Rattle.std.proofs.Common.{ℕ, List, Option, inl, inr, ◌∙◌, subst}
+use Rattle.std.proofs.Common.{◌≡◌, ℕ, List, Option, inl, inr, sym, ◌∙◌, subst}
+use Rattle.std.specs.Prelude.{◌≢◌}
+use Rattle.delivery.specs.declared.status.Status.TheVariants.{WriteFault}
+use Rattle.delivery.proofs.Certified.{certifies}
 use Rattle.ports.specs.Faults.{ReadRose}
 use Rattle.ports.specs.Files.{Files}
 use Rattle.ports.specs.Output.{Adds, AddsPrefix}
@@ -13,7 +16,9 @@ pub returns-clause-exact : goal.returns-clause-exact
 returns-clause-exact g c = exactly (g.S.Shelf.held c.args.shelf.now)
     (ReadRose (g.S.Shelf.read_faults c.args.shelf.now) (g.S.Shelf.read_faults c.publish.new.shelf))
     (ReadRose (g.S.Shelf.read_faults c.args.shelf.now) (g.S.Shelf.read_faults c.decide.new.shelf))
-    c.args.words.now (outcome_of c.in-Ok.outcome) c.publish.result (g.K.Sink.written c.args.out.now) (g.K.Sink.written c.publish.new.out) c.in-Ok.ensures.outcome
+    c.args.words.now (outcome_of c.in-Ok.outcome) c.publish.result (g.K.Sink.written c.args.out.now) (g.K.Sink.written c.publish.new.out)
+    (λ files x y. c.outcomes_are_right.ensures.agree files (g.S.Shelf.read_faults c.args.shelf.now) (g.S.Shelf.read_faults c.publish.new.shelf) (g.S.Shelf.read_faults c.args.shelf.now) (g.S.Shelf.read_faults c.decide.new.shelf) c.args.words.now x y)
+    c.in-Ok.ensures.outcome
     c.publish.ensures.status
     (λ n. subst (λ (text : List ℕ). Adds (g.K.Sink.written c.args.out.now) text (g.K.Sink.written c.publish.new.out)) (c.deref.ensures.value ∙ c.in-Ok-report.ensures) (c.publish.ensures.text n))
 
@@ -22,12 +27,30 @@ returns-clause-means g c =
     caused (g.S.Shelf.held c.args.shelf.now)
     (ReadRose (g.S.Shelf.read_faults c.args.shelf.now) (g.S.Shelf.read_faults c.publish.new.shelf))
     c.args.words.now (outcome_of c.in-Ok.outcome) c.publish.result
+    (c.outcomes_are_right.ensures.means (g.S.Shelf.held c.args.shelf.now) (g.S.Shelf.read_faults c.args.shelf.now) (g.S.Shelf.read_faults c.publish.new.shelf) c.args.words.now (outcome_of c.in-Ok.outcome))
     (decides_on (g.S.Shelf.held c.args.shelf.now)
     (ReadRose (g.S.Shelf.read_faults c.args.shelf.now) (g.S.Shelf.read_faults c.decide.new.shelf))
     (ReadRose (g.S.Shelf.read_faults c.args.shelf.now) (g.S.Shelf.read_faults c.publish.new.shelf))
     (λ name r. rose_before (g.S.Shelf.read_faults c.args.shelf.now name) (g.S.Shelf.read_faults c.decide.new.shelf name) (g.S.Shelf.read_faults c.publish.new.shelf name) (c.publish.ensures.reads name) r)
     c.args.words.now (outcome_of c.in-Ok.outcome) c.in-Ok.ensures.outcome)
     c.publish.ensures.status
+
+pub returns-clause-certified : goal.returns-clause-certified
+returns-clause-certified g c =
+    let outcome = outcome_of c.in-Ok.outcome in
+    let new = g.S.Shelf.held c.publish.new.shelf in
+    λ a.
+    let fine : c.publish.result ≢ WriteFault = λ w. (let e = sym a ∙ w in cc) in
+    certifies (g.S.Shelf.held c.args.shelf.now)
+    (ReadRose (g.S.Shelf.read_faults c.args.shelf.now) (g.S.Shelf.read_faults c.publish.new.shelf))
+    c.args.words.now outcome new
+    (decides_on (g.S.Shelf.held c.args.shelf.now)
+    (ReadRose (g.S.Shelf.read_faults c.args.shelf.now) (g.S.Shelf.read_faults c.decide.new.shelf))
+    (ReadRose (g.S.Shelf.read_faults c.args.shelf.now) (g.S.Shelf.read_faults c.publish.new.shelf))
+    (λ name r. rose_before (g.S.Shelf.read_faults c.args.shelf.now name) (g.S.Shelf.read_faults c.decide.new.shelf name) (g.S.Shelf.read_faults c.publish.new.shelf name) (c.publish.ensures.reads name) r)
+    c.args.words.now outcome c.in-Ok.ensures.outcome)
+    (sym (c.publish.ensures.status fine) ∙ a)
+    (subst (λ (told : Option Files). Filed outcome.filing told new) c.in-Ok.ensures.held (c.publish.ensures.filed fine))
 
 pub returns-clause-does : goal.returns-clause-does
 returns-clause-does g c =

@@ -1,0 +1,93 @@
+-- The answer to one area, and to one area after the other.
+use Rattle.std.proofs.Common.{◌≡◌, ℕ, zero, suc, true, ◌*◌, ◌<◌, Bool, List, [], ◌∷◌, ◌++◌, length, map, Option, Some, None, refl, sym, ap, ◌∙◌, subst, arith, append-nil, append_assoc, ◌||◌, ◌⊎◌, inl, inr}
+use Rattle.certificate.specs.Spelling.{Plain, view}
+use Rattle.certificate.specs.declared.notes.Certificate.{Certificate}
+use Rattle.certificate_checker.specs.Subjects.{claims}
+use Rattle.certificate_checker.specs.Verdicts.{Proves}
+use Rattle.table_layout.specs.Layouts.{AreaOf, Layout}
+use Rattle.std.specs.List.{list_any}
+use Rattle.plane.specs.Rule.Plans.{Plan}
+use Rattle.plane.specs.declared.drawing.Drawing.{Drawing}
+use Rattle.tubes.specs.DrawnEdges.{AreStraights}
+use Rattle.area_search.specs.Answers as search
+use Rattle.area_search.specs.declared.kinds.AreaAnswer.{AreaAnswer as Found}
+use Rattle.area_search.specs.declared.kinds.AreaAnswer.TheVariants as found
+use Rattle.area_search.specs.declared.kinds.AreaFinding.{AreaFinding}
+use Rattle.delivery.specs.AnswerViews.{certificates_in, named, has_arc_seen}
+use Rattle.delivery.specs.AreaAnswers.{IsAnswer, faulty, proved, fault_told, proof_told, has_arc, plans, AreAnswers}
+use Rattle.delivery.specs.AreaCertificates.{claims_of}
+use Rattle.delivery.proofs.CertificateLemmas.{proved_view}
+use Rattle.delivery.specs.AreaNames.{topic_name, table_name}
+use Rattle.delivery.specs.declared.report.lines.AreaAnswer.{AreaAnswer}
+
+-- ---- one answer
+-- the certificate that a search gives has a level, and proves
+abbrev IsProof : Plan → Found → Type 0
+IsProof d (found.Proved c) = Proves d (claims c) × (c.level ≡ 0)
+IsProof d other = Bool
+
+is_proof : (d : Plan) (b : Found) → search.IsAnswer d b → IsProof d b
+is_proof d _ (search.proved c p l n) = (p, l)
+is_proof d _ (search.meeting i j b) = true
+is_proof d _ (search.on j i n l) = true
+is_proof d _ (search.outside j n l) = true
+is_proof d _ (search.two i j n l) = true
+is_proof d _ (search.empty i left n l) = true
+
+module _ (l : Layout) (a : AreaOf) (d : Plan) (b : Found) (s : AreStraights d) (h : search.IsAnswer d b) where
+  pub answer_proved : (c e : Certificate) (topic table attribute : List ℕ) → b ≡ found.Proved c → view e ≡ named topic table attribute (view c)
+      → topic ≡ topic_name l a → table ≡ table_name l a → attribute ≡ a.name → (x : AreaAnswer) → x ≡ proof_told d c.level → IsAnswer l a d x (certificates_in (Some e))
+  answer_proved c e topic table attribute q v t m n x y =
+      let p = subst (IsProof d) q (is_proof d b h) in
+      proved (view e) s
+      (record {
+        named = record { topic = ap (λ (z : Plain). z.topic) v ∙ t; table = ap (λ (z : Plain). z.table) v ∙ m; attribute = ap (λ (z : Plain). z.attribute) v ∙ n };
+        proves = subst (λ (z : Plain). Proves d (claims_of z)) (sym v) (proved_view d c p.0);
+      })
+      (ap (λ (z : Plain). z.level) v ∙ p.1)
+      (y ∙ ap (proof_told d) (sym (ap (λ (z : Plain). z.level) v))) refl
+
+  pub answer_faulty : (f : AreaFinding) → b ≡ found.Fault f → (x : AreaAnswer) → x ≡ fault_told d f → IsAnswer l a d x (certificates_in None)
+  answer_faulty f q x y = faulty f s (subst (search.IsAnswer d) q h) y refl
+
+-- ---- one area after the other
+-- what is answered to some areas may be followed by what is answered to the rest
+abbrev pub GoesOn : Layout → List AreaOf → List Plan → List AreaOf → List Plan → List AreaAnswer → List Plain → Type 0
+GoesOn l all ds rest es xs cs = (ys : List AreaAnswer) (bs : List Plain) → AreAnswers l rest es ys bs → AreAnswers l all ds (xs ++ ys) (cs ++ bs)
+
+pub begin : (l : Layout) (all : List AreaOf) (ds : List Plan) → GoesOn l all ds all ds [] []
+begin l all ds ys bs h = h
+
+pub go_on : (l : Layout) (all rest : List AreaOf) (ds es : List Plan) (a : AreaOf) (d : Plan) (as_ : List AreaOf) (fs : List Plan) (xs : List AreaAnswer) (cs : List Plain) (x : AreaAnswer) (here : List Plain) (more : List AreaAnswer) (kept : List Plain)
+    → rest ≡ a ∷ as_ → es ≡ d ∷ fs → more ≡ xs ++ x ∷ [] → kept ≡ cs ++ here → IsAnswer l a d x here → GoesOn l all ds rest es xs cs → GoesOn l all ds as_ fs more kept
+go_on l all rest ds es a d as_ fs xs cs x here more kept q r u w n g ys bs h =
+    let all_rest : AreAnswers l rest es (x ∷ ys) (here ++ bs) =
+    subst (λ (bs_ : List AreaOf). AreAnswers l bs_ es (x ∷ ys) (here ++ bs)) (sym q) (subst (λ (zs : List Plan). AreAnswers l (a ∷ as_) zs (x ∷ ys) (here ++ bs)) (sym r) (here, bs, n, h, refl)) in
+    let told : xs ++ x ∷ ys ≡ more ++ ys = sym (append_assoc xs (x ∷ []) ys) ∙ ap (λ (zs : List AreaAnswer). zs ++ ys) (sym u) in
+    let filed : cs ++ (here ++ bs) ≡ kept ++ bs = sym (append_assoc cs here bs) ∙ ap (λ (zs : List Plain). zs ++ bs) (sym w) in
+    subst (λ (zs : List AreaAnswer). AreAnswers l all ds zs (kept ++ bs)) told
+    (subst (AreAnswers l all ds (xs ++ x ∷ ys)) filed (g (x ∷ ys) (here ++ bs) all_rest))
+
+pub all_answered : (l : Layout) (all rest : List AreaOf) (ds es : List Plan) (xs : List AreaAnswer) (cs : List Plain) → rest ≡ [] → es ≡ [] → GoesOn l all ds rest es xs cs → AreAnswers l all ds xs cs
+all_answered l all rest ds es xs cs q r g =
+    let last : AreAnswers l rest es [] [] = subst (λ (bs_ : List AreaOf). AreAnswers l bs_ es [] []) (sym q) (subst (λ (zs : List Plan). AreAnswers l [] zs [] []) (sym r) refl) in
+    subst (λ (zs : List AreaAnswer). AreAnswers l all ds zs cs) (append-nil xs) (subst (AreAnswers l all ds (xs ++ [])) (append-nil cs) (g [] [] last))
+
+-- ---- two lists of one length that are gone through together
+pub shorter_both : {A B : Type 0} (as_ : List A) (a : A) (rest : List A) (bs : List B) (b : B) (more : List B) → as_ ≡ a ∷ rest → bs ≡ b ∷ more → length bs ≡ length as_ → length more ≡ length rest
+shorter_both as_ a rest bs b more e f h =
+    let n : length as_ ≡ suc (length rest) = ap length e in
+    let m : length bs ≡ suc (length more) = ap length f in
+    omega (arith, n, m, h)
+
+pub both_ended : {A B : Type 0} (as_ : List A) (bs : List B) → length bs ≡ length as_ → (as_ ≡ []) ⊎ (bs ≡ []) → (as_ ≡ []) × (bs ≡ [])
+both_ended [] [] h k = (refl, refl)
+both_ended [] (b ∷ bs) h k = absurd (omega (arith, h))
+both_ended (a ∷ as_) [] h k = absurd (omega (arith, h))
+both_ended (a ∷ as_) (b ∷ bs) h (inl e) = absurd (cc)
+both_ended (a ∷ as_) (b ∷ bs) h (inr e) = absurd (cc)
+
+-- ---- half arcs of drawings
+pub arcs_seen : (ds : List Drawing) → list_any has_arc_seen ds ≡ has_arc (plans ds)
+arcs_seen [] = refl
+arcs_seen (d ∷ ds) = ap (λ (b : Bool). has_arc_seen d || b) (arcs_seen ds)

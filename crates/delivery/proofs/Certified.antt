@@ -1,0 +1,104 @@
+-- An accepted check leaves certificates that prove its areas.
+use Rattle.std.proofs.Common.{◌≡◌, ℕ, Bool, true, false, ◌||◌, List, [], ◌∷◌, ◌++◌, Option, Some, refl, sym, ap, ◌∙◌, subst}
+use Rattle.std.specs.Prelude.{codes}
+use Rattle.ports.specs.Files.{Files, Puts}
+use Rattle.certificate.specs.Spelling.{Plain, spelling}
+use Rattle.itf_reader.specs.Forms.{Row}
+use Rattle.table_layout.specs.Layouts.{AreaOf, Layout}
+use Rattle.plane.specs.Rule.Plans.{Plan}
+use Rattle.delivery.specs.Amounting.{Amounts}
+use Rattle.delivery.specs.AreaAnswers.{IsAnswer, later, faulty, proved, AreAnswers, is_fault, is_left, has_fault, has_left}
+use Rattle.delivery.specs.AreaCertificates.{IsCertificateOf, AreCertificatesOf}
+use Rattle.delivery.specs.Certified.{AreCertified, Certifies}
+use Rattle.delivery.specs.Commands.{FileNames, Command, check, IsSpelled}
+use Rattle.delivery.specs.Deciding.{Decides, formless, formed}
+use Rattle.delivery.specs.Effects.{Filed}
+use Rattle.delivery.specs.Gathering as gathering
+use Rattle.delivery.specs.Gathering.{Gathered, Gathers}
+use Rattle.delivery.specs.Judging as judging
+use Rattle.delivery.specs.Judging.{Tells, IsClean, objects, AreJudged, IsRowsChecked, IsChecked}
+use Rattle.delivery.specs.Outcomes.{Outcome, Filing, areas_told}
+use Rattle.delivery.specs.declared.report.lines.AreaAnswer.{AreaAnswer}
+use Rattle.delivery.specs.declared.status.Status.{Status}
+use Rattle.delivery.specs.declared.status.Status.TheVariants.{Accepted, Rejected, Undecided, ModelRefused, Usage, ReadFault, OverLimit}
+use Rattle.delivery.proofs.AreaLemmas.{told_by, differ, neither, fault_is_fault}
+use Rattle.delivery.proofs.CommandLemmas.{one_command}
+
+-- ---- one certificate for each area
+one_certificate : (l : Layout) (a : AreaOf) (d : Plan) (x : AreaAnswer) (here : List Plain) → IsAnswer l a d x here → is_fault x ≡ false → is_left x ≡ false → (c : Plain) × (here ≡ c ∷ []) × IsCertificateOf l a d c
+one_certificate l a d x here (later i h e z) f g = differ (is_left x) (ap is_left e) g
+one_certificate l a d x here (faulty n s h e z) f g = differ (is_fault x) (ap is_fault e ∙ fault_is_fault d n) f
+one_certificate l a d x here (proved c s h v e z) f g = (c, z, h)
+
+certificates : (l : Layout) (as_ : List AreaOf) (ds : List Plan) (xs : List AreaAnswer) (cs : List Plain) → AreAnswers l as_ ds xs cs → has_fault xs ≡ false → has_left xs ≡ false → AreCertificatesOf l as_ ds cs
+certificates l [] [] [] cs h f g = subst (AreCertificatesOf l [] []) (sym h) tt
+certificates l [] [] (x ∷ xs) cs h f g = absurd h
+certificates l [] (d ∷ ds) xs cs h f g = absurd h
+certificates l (a ∷ as_) [] xs cs h f g = absurd h
+certificates l (a ∷ as_) (d ∷ ds) [] cs h f g = absurd h
+certificates l (a ∷ as_) (d ∷ ds) (x ∷ xs) cs h f g =
+    let n = neither (is_fault x) (has_fault xs) f in
+    let m = neither (is_left x) (has_left xs) g in
+    let one = one_certificate l a d x h.0 h.2 n.0 m.0 in
+    let whole : cs ≡ one.0 ∷ h.1 = h.4 ∙ ap (λ (here : List Plain). here ++ h.1) one.1 in
+    subst (AreCertificatesOf l (a ∷ as_) (d ∷ ds)) (sym whole) (one.2, certificates l as_ ds xs h.1 h.3 n.1 m.1)
+
+-- ---- what an accepted outcome of a check is
+record IsFiled (c : FileNames) (g : Gathered) (o : Outcome) : Type 0 where
+  layout : Layout
+  text : List ℕ
+  certificates : List Plain
+  read : g ≡ gathering.texts layout (text ∷ [])
+  certified : AreCertified layout text certificates
+  filed : o.filing ≡ Some (record { name = c.certificate; certificates = certificates })
+
+status_of : (o p : Outcome) → o ≡ p → o.status ≡ Accepted → p.status ≡ Accepted
+status_of o p e h = sym (ap (λ (x : Outcome). x.status) e) ∙ h
+
+module _ (c : FileNames) (l : Layout) (text : List ℕ) (o : Outcome) (s : o.status ≡ Accepted) where
+  filed_areas : (rows : List (List Row)) → Tells l text rows → IsClean l rows → AreJudged c.certificate l rows o → IsFiled c (gathering.texts l (text ∷ [])) o
+  filed_areas rows t k j = by (has_fault j.answers) (has_left j.answers) refl refl
+    where
+      told : (f g : Bool) → has_fault j.answers ≡ f → has_left j.answers ≡ g → o ≡ told_by l (objects rows) c.certificate j.answers j.certificates f g
+      told f g e h =
+          j.told ∙ ap (λ (b : Bool). told_by l (objects rows) c.certificate j.answers j.certificates b (has_left j.answers)) e
+          ∙ ap (told_by l (objects rows) c.certificate j.answers j.certificates f) h
+
+      by : (f g : Bool) → has_fault j.answers ≡ f → has_left j.answers ≡ g → IsFiled c (gathering.texts l (text ∷ [])) o
+      by true g e h = absurd (let q = status_of o _ (told true g e h) s in cc)
+      by false true e h = absurd (let q = status_of o _ (told false true e h) s in cc)
+      by false false e h = record {
+        layout = l;
+        text = text;
+        certificates = j.certificates;
+        read = refl;
+        certified = record { rows = rows; drawings = j.drawings; told = t; clean = k; drawn = j.drawn; proved = certificates l l.areas j.drawings j.answers j.certificates j.answered e h };
+        filed = ap (λ (x : Outcome). x.filing) (told false false e h);
+      }
+
+  filed_rows : (rows : List (List Row)) → Tells l text rows → IsRowsChecked c.certificate l rows o → IsFiled c (gathering.texts l (text ∷ [])) o
+  filed_rows rows t (judging.faulty n e) = absurd (let q = status_of o _ e s in cc)
+  filed_rows rows t (judging.oversized k b e) = absurd (let q = status_of o _ e s in cc)
+  filed_rows rows t (judging.judged k b j) = filed_areas rows t k j
+
+  filed_text : IsChecked c.certificate l text o → IsFiled c (gathering.texts l (text ∷ [])) o
+  filed_text (judging.at_fault n code h e) = absurd (let q = status_of o _ e s in cc)
+  filed_text (judging.well_formed rows t h) = filed_rows rows t h
+
+filed_by : (c : FileNames) (g : Gathered) (o : Outcome) → Amounts (check c) g o → o.status ≡ Accepted → IsFiled c g o
+filed_by c (gathering.unread f) o e s = absurd (let q = status_of o _ e s in cc)
+filed_by c (gathering.too_long f) o e s = absurd (let q = status_of o _ e s in cc)
+filed_by c (gathering.refused r) o e s = absurd (let q = status_of o _ e s in cc)
+filed_by c (gathering.texts l []) o k s = absurd k
+filed_by c (gathering.texts l (text ∷ [])) o k s = filed_text c l text o s k
+filed_by c (gathering.texts l (t ∷ u ∷ ts)) o k s = absurd k
+
+pub certifies : (told : Option Files) (counted : List ℕ → Type 0) (words : List (List ℕ)) (o : Outcome) (new : Option Files) → Decides told counted words o → o.status ≡ Accepted → Filed o.filing told new → Certifies told counted words new
+certifies told counted words o new (formless u e) s f c i = absurd (u (check c) i)
+certifies told counted words o new (formed d g j h a) s f c i =
+    let q = one_command words d (check c) j i in
+    let n = filed_by c g o (subst (λ (x : Command). Amounts x g o) q a) s in
+    (n.layout, n.text, n.certificates,
+    subst (Gathers told counted (check c)) n.read (subst (λ (x : Command). Gathers told counted x g) q h),
+    n.certified,
+    subst (λ (x : Option Filing). Filed x told new) n.filed f)

@@ -1,0 +1,31 @@
+use Rattle.std.proofs.Common.{ℕ, List, [], ◌∷◌, ◌++◌, refl, inr, subst}
+use Rattle.ports.specs.Faults.{ReadRose}
+use Rattle.table_layout.specs.Values.{layout_view}
+use Rattle.delivery.specs.Commands.{verify}
+use Rattle.delivery.specs.CommandViews.{names_of}
+use Rattle.delivery.specs.FiledTexts.{IsVerified}
+use Rattle.delivery.specs.Gathering.{texts, ReadsAll}
+use Rattle.delivery.specs.OutcomeViews.{outcome_of}
+use Rattle.delivery.specs.declared.files.File.TheVariants.{Certificate}
+use Rattle.delivery.proofs.Steps.{if_ok, not_read_ends}
+use Rattle.delivery.proofs.deciding.decide_filed.Goals as goal
+
+pub returns-in-Ok-clause-outcome : goal.returns-in-Ok-clause-outcome
+returns-in-Ok-clause-outcome g c =
+    if_ok _ _ c.verify_text.result
+    (λ o h. record {
+      gathered = texts (layout_view c.args.layout.now) (c.args.text.now ∷ c.in-Ok.filed.items ∷ []);
+      reads = inr (inr (c.in-Ok.filed.items, c.in-Ok.ensures.whole, refl));
+      amounts = subst (λ (filed : List ℕ). IsVerified (layout_view c.args.layout.now) c.args.text.now filed (outcome_of o)) c.deref.ensures.value h;
+    })
+    c.verify_text.ensures
+
+pub returns-in-Err-clause-outcome : goal.returns-in-Err-clause-outcome
+returns-in-Err-clause-outcome g c =
+    let held = g.S.Shelf.held c.args.shelf.now in
+    let counted : List ℕ → Type 0 = ReadRose (g.S.Shelf.read_faults c.args.shelf.now) (g.S.Shelf.read_faults c.read_file.new.shelf) in
+    if_ok _ _ c.not_read.result
+    (λ o h.
+    let e = not_read_ends _ held counted Certificate c.args.names.now.certificate.now c.in-Err.refusal (outcome_of o) (λ q filed. ReadsAll held counted (layout_view c.args.layout.now) ((c.args.text.now ∷ []) ++ (filed ∷ [])) [] q) c.in-Err.ensures.cause c.in-Err.ensures.long h in
+    record { gathered = e.0; reads = e.1; amounts = e.2 (verify (names_of c.args.names.now)) })
+    c.not_read.ensures

@@ -1,0 +1,14 @@
+use Rattle.ports.specs.Faults.{ReadRose}
+use Rattle.delivery.proofs.Agreement.{outcomes_agree}
+use Rattle.delivery.proofs.Causes.{means}
+use Rattle.delivery.proofs.laws.outcomes_are_right.Goals as goal
+
+pub returns-clause-means : goal.returns-clause-means
+returns-clause-means c told before after words o =
+    means (record { agree = c.answers_are_right.ensures.agree; partitions = c.answers_are_right.ensures.proved; proofs = c.proves_partition.ensures; verifications = c.verifications_agree.ensures; verified = c.verified_partitions.ensures })
+    told (ReadRose before after) words o
+
+pub returns-clause-agree : goal.returns-clause-agree
+returns-clause-agree c files before after from upto words o p =
+    outcomes_agree (record { agree = c.answers_are_right.ensures.agree; partitions = c.answers_are_right.ensures.proved; proofs = c.proves_partition.ensures; verifications = c.verifications_agree.ensures; verified = c.verified_partitions.ensures })
+    files (ReadRose before after) (ReadRose from upto) words o p

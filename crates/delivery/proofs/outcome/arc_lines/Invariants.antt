@@ -1,0 +1,15 @@
+use Rattle.std.proofs.Common.{◌≡◌, ◌++◌}
+use Rattle.std.specs.Iterator.Adapters.{zip_first, zip_second}
+use Rattle.std.specs.Slice.Iter.{iter_rest}
+use Rattle.table_layout.specs.Values.{areas_view, layout_view}
+use Rattle.delivery.specs.AreaAnswers.{plans}
+use Rattle.delivery.specs.LineViews.{lines_of}
+use Rattle.delivery.specs.Outcomes.{arc_lines}
+use Rattle.delivery.proofs.outcome.arc_lines.Given as goal
+
+abbrev pub invariant-loop-area : goal.invariant-loop-area
+invariant-loop-area l = record {
+  can_next : (goal.iterator-loop-area).can_next l.area-iterator;
+  is_finite : (goal.iterator-loop-area).is_finite l.area-iterator;
+  told : lines_of l.lines.items ++ arc_lines (layout_view l.layout) (areas_view (iter_rest (zip_first l.area-iterator))) (plans (iter_rest (zip_second l.area-iterator))) ≡ arc_lines (layout_view l.layout) (areas_view l.layout.areas.items) (plans l.drawings);
+}

@@ -1,0 +1,26 @@
+-- What an accepted check leaves behind.
+use Rattle.std.specs.Prelude.{ℕ, List, [], ◌∷◌, Option, codes}
+use Rattle.ports.specs.Files.{Files, Puts}
+use Rattle.certificate.specs.Spelling.{Plain, spelling}
+use Rattle.itf_reader.specs.Forms.{Row}
+use Rattle.table_layout.specs.Layouts.{Layout}
+use Rattle.delivery.specs.AreaCertificates.{AreCertificatesOf}
+use Rattle.delivery.specs.Commands.{FileNames, check, IsSpelled}
+use Rattle.delivery.specs.Drawings.{AreDrawings}
+use Rattle.plane.specs.Rule.Plans.{Plan}
+use Rattle.delivery.specs.Gathering.{texts, Gathers}
+use Rattle.delivery.specs.Judging.{Tells, IsClean}
+
+-- the transfer tells rows that meet the declarations, and these certificates, one for each AREA by its names, prove their drawings
+pub record AreCertified (l : Layout) (text : List ℕ) (cs : List Plain) : Type 0 where
+  pub rows : List (List Row)
+  pub drawings : List Plan
+  pub told : Tells l text rows
+  pub clean : IsClean l rows
+  pub drawn : AreDrawings l rows drawings
+  pub proved : AreCertificatesOf l l.areas drawings cs
+
+-- the file of a check's certificates holds the text of such a list, and no other file has changed
+abbrev pub Certifies : Option Files → (List ℕ → Type 0) → List (List ℕ) → Option Files → Type 0
+Certifies told counted words new = (c : FileNames) → IsSpelled (codes "check") words c
+    → (l : Layout) × (text : List ℕ) × (cs : List Plain) × Gathers told counted (check c) (texts l (text ∷ [])) × AreCertified l text cs × Puts told c.certificate (λ file. spelling cs) new
