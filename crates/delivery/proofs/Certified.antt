@@ -97,8 +97,11 @@ pub certifies : (told : Option Files) (counted : List ℕ → Type 0) (words : L
 certifies told counted words o new (formless u e) s f c i = absurd (u (check c) i)
 certifies told counted words o new (formed d g j h a) s f c i =
     let q = one_command words d (check c) j i in
-    let n = filed_by c g o (subst (λ (x : Command). Amounts x g o) q a) s in
-    (n.layout, n.text, n.certificates,
-    subst (Gathers told counted (check c)) n.read (subst (λ (x : Command). Gathers told counted x g) q h),
-    n.certified,
-    subst (λ (x : Option Filing). Filed x told new) n.filed f)
+    let n = filed_by c g o (subst (λ (x : Command). Amounts x g o) q a) s in (
+      n.layout,
+      n.text,
+      n.certificates,
+      subst (Gathers told counted (check c)) n.read (subst (λ (x : Command). Gathers told counted x g) q h),
+      n.certified,
+      subst (λ (x : Option Filing). Filed x told new) n.filed f,
+    )

@@ -299,7 +299,11 @@ pub fn arcs_left<'a>(
 }
 
 // The answers to drawings that are proved at these levels.
-fn proofs_told(alloc: Global, drawings: &[Drawing], levels: &[u8]) -> Result<Vec<AreaAnswer>, Memory>
+fn proofs_told(
+    alloc: Global,
+    drawings: &[Drawing],
+    levels: &[u8],
+) -> Result<Vec<AreaAnswer>, Memory>
     ensures { IfOk result (λ xs. xs.items ≡ proofs_told (plans drawings.now) levels.now) }
 {
     let mut answers = Vec::new(alloc);

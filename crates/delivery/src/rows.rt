@@ -14,7 +14,9 @@ use crate::area_answers::{answers_of, has_arc};
 use crate::area_limits::has_too_large;
 use crate::drawings::all_drawings;
 use crate::findings::{all_findings, count_objects};
-use crate::outcome::{Outcome, arcs_left, area_too_large, areas_told, misbuilt, rejected, verified};
+use crate::outcome::{
+    Outcome, arcs_left, area_too_large, areas_told, misbuilt, rejected, verified,
+};
 use crate::verifying::verify_areas;
 use itf_lines::logical_lines;
 use itf_reader::{ReadRefusal, Transfer, read_transfer};
