@@ -9,7 +9,7 @@ use Rattle.ili_grammar.specs.Numbers.{ident, whole_code, hex_code}
 use Rattle.ili_grammar.specs.Types.{IsIdents, IsExplained, IsType, IsAttributes}
 use Rattle.ili_grammar.specs.Models.{IsDomains, no_domain, more_domains, IsMaybeDomains, with_domains, IsTable, table, IsBody, no_part, and_domains, and_table, and_optional_table, IsTopic, topic, IsTopics, no_topic, and_topic, and_optional_topic, IsModel, a_model, by_number, by_hex, IsContinue, continue, IsUndefined, undefined, IsCodes, codes, IsFont, font, IsTransfer, transfer, Spells}
 use Rattle.ili_grammar.specs.Steps.{Leads, LeadsName}
-use Rattle.ili_grammar.specs.Parts.{ReadsDomain, ReadsTable, ReadsTopic, ReadsHeading, ReadsEnding, ReadsValue, ReadsCode, ReadsTid, ReadsCodes}
+use Rattle.ili_grammar.specs.Parts.{ReadsDomain, ReadsTable, ReadsTopic, ReadsHeading, ReadsEnding, ReadsValue, ReadsCode, ReadsTid, ReadsCodes, ReadsFormat}
 
 -- ---- domains
 pub domain_read : (x : Ident) (t : TypeSyntax) (w a b e f v : List Tok) → LeadsName x w a → Leads equals a b → IsType 32 t b e → IsExplained e f → Leads semicolon f v → ReadsDomain (record { name = x; kind = t }) w v
@@ -103,14 +103,17 @@ pub font_read : (w a b c v : List Tok) → Leads (word FONT) w a → Leads equal
 font_read w a b c v (i, e) (j, f) (k, g) (l, h) =
     subst (λ (w : List Tok). IsFont w v) (sym (e ∙ ap (λ (s : List Tok). tok (word FONT) i ∷ s) (f ∙ ap (λ (s : List Tok). tok equals j ∷ s) (g ∙ ap (λ (s : List Tok). tok explanation k ∷ s) h)))) (font i j k l v)
 
-pub transfer_read : (x m : Ident) (os ds : List DomainSyntax) (ts : List TopicSyntax) (cs : Codes) (w a b c d e f g h i j v : List Tok) → Leads (word TRANSFER) w a → LeadsName x a b → Leads semicolon b c → IsMaybeDomains 32 os c d → IsModel 32 m ds ts d e
-    → Leads (word FORMAT) e f → Leads (word FREE) f g → Leads semicolon g h → Leads (word CODE) h i → IsFont i j → ReadsCodes cs j v
-    → IsTransfer 32 (record { transfer = x; outer = os; model = m; domains = ds; topics = ts; codes = cs }) w v
-transfer_read x m os ds ts cs w a b c d e f g h i j v (ta, pa) (tn, pn, q) (tb, pb) y z (tc, pc) (td, pd) (te, pe) (tf, pf) s (tg, th, k, p, r) =
+pub format_read : (cs : Codes) (e f g h i j v : List Tok) → Leads (word FORMAT) e f → Leads (word FREE) f g → Leads semicolon g h → Leads (word CODE) h i → IsFont i j → ReadsCodes cs j v → ReadsFormat cs e v
+format_read cs e f g h i j v (tc, pc) (td, pd) (te, pe) (tf, pf) s r =
+    (tc, td, te, tf, i, j, pc ∙ ap (λ (s : List Tok). tok (word FORMAT) tc ∷ s) (pd ∙ ap (λ (s : List Tok). tok (word FREE) td ∷ s) (pe ∙ ap (λ (s : List Tok). tok semicolon te ∷ s) pf)), s, r)
+
+pub transfer_read : (x m : Ident) (os ds : List DomainSyntax) (ts : List TopicSyntax) (cs : Codes) (w a b c d e v : List Tok) → Leads (word TRANSFER) w a → LeadsName x a b → Leads semicolon b c → IsMaybeDomains 32 os c d → IsModel 32 m ds ts d e
+    → ReadsFormat cs e v → IsTransfer 32 (record { transfer = x; outer = os; model = m; domains = ds; topics = ts; codes = cs }) w v
+transfer_read x m os ds ts cs w a b c d e v (ta, pa) (tn, pn, q) (tb, pb) y z (tc, td, te, tf, i, j, here, s, (tg, th, k, p, r)) =
     subst (λ (x : Ident). IsTransfer 32 (record { transfer = x; outer = os; model = m; domains = ds; topics = ts; codes = cs }) w v) (sym q)
     (subst (λ (w : List Tok). IsTransfer 32 (record { transfer = ident tn; outer = os; model = m; domains = ds; topics = ts; codes = cs }) w v) (sym (pa ∙ ap (λ (s : List Tok). tok (word TRANSFER) ta ∷ s) (pn ∙ ap (λ (s : List Tok). tok name tn ∷ s) pb)))
     (transfer ta tn tb tc td te tf tg th m os ds ts cs c d i k v y
-    (subst (λ (e : List Tok). IsModel 32 m ds ts d e) (pc ∙ ap (λ (s : List Tok). tok (word FORMAT) tc ∷ s) (pd ∙ ap (λ (s : List Tok). tok (word FREE) td ∷ s) (pe ∙ ap (λ (s : List Tok). tok semicolon te ∷ s) pf))) z)
+    (subst (λ (e : List Tok). IsModel 32 m ds ts d e) here z)
     (subst (λ (j : List Tok). IsFont i j) p s) r))
 
 -- ---- codes

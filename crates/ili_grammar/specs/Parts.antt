@@ -2,9 +2,9 @@
 use Rattle.std.specs.Prelude.{◌≡◌, ℕ, List, ◌∷◌}
 use Rattle.std.specs.Option.{option_map}
 use Rattle.ili_grammar.specs.declared.lines.LineHead as stored
-use Rattle.ili_grammar.specs.Tokens.{Word, Kind, name, number, word, equals, period, two_periods, right_bracket, star, semicolon, END, TID, BLANK, Info, Tok, tok}
+use Rattle.ili_grammar.specs.Tokens.{Word, Kind, name, number, word, equals, period, two_periods, right_bracket, star, semicolon, END, TID, FORMAT, FREE, CODE, BLANK, Info, Tok, tok}
 use Rattle.ili_grammar.specs.Syntax.{Ident, Decimal, Span, Corners2, Corners3, LineHead, LineSyntax, a_line, Attributes, DomainSyntax, TableSyntax, TopicSyntax, Codes}
-use Rattle.ili_grammar.specs.Models.{IsDomains, IsBody, IsTopics, IsValue, IsTid, IsCodes}
+use Rattle.ili_grammar.specs.Models.{IsDomains, IsBody, IsTopics, IsValue, IsTid, IsCodes, IsFont}
 use Rattle.ili_grammar.specs.Numbers.{ident, decimal}
 use Rattle.ili_grammar.specs.Types.{span, IsLine, IsLineAttributes, IsList, IsLists}
 use Rattle.ili_grammar.specs.Values.{ident_of, decimal_of}
@@ -81,3 +81,8 @@ ReadsTid w v = (i : Info) × (j : Info) × (k : Info) × (x : Tok) × (l : Info)
 -- from BLANK on
 abbrev pub ReadsCodes : Codes → List Tok → List Tok → Type 0
 ReadsCodes c w v = (g : Info) × (h : Info) × (x : List Tok) × (w ≡ tok (word BLANK) g ∷ tok equals h ∷ x) × IsCodes c x v
+
+-- from FORMAT on
+abbrev pub ReadsFormat : Codes → List Tok → List Tok → Type 0
+ReadsFormat c w v = (g : Info) × (h : Info) × (i : Info) × (j : Info) × (x : List Tok) × (y : List Tok)
+    × (w ≡ tok (word FORMAT) g ∷ tok (word FREE) h ∷ tok semicolon i ∷ tok (word CODE) j ∷ x) × IsFont x y × ReadsCodes c y v

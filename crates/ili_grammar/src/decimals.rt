@@ -1,7 +1,9 @@
 // The digits of a number.
-ghost use Rattle.std.specs.Prelude.{◌≡◌, ◌+◌, ◌-◌, ◌*◌, ◌^◌, ◌<◌, ◌≤◌, IsTrue, pos, count_by, length};
+ghost use Rattle.std.specs.Prelude.{◌≡◌, ◌+◌, ◌-◌, ◌*◌, ◌^◌, ◌<◌, ◌≤◌, IsTrue, pos, count_by};
+ghost use Rattle.std.specs.Prelude.{length};
 ghost use Rattle.std.specs.Char.{is_ascii_digit};
-ghost use Rattle.ili_grammar.specs.Numbers.{read_from, signed, decimals, whole_code, hex_code, hex_digit, has, in_range};
+ghost use Rattle.ili_grammar.specs.Numbers.{read_from, signed, decimals, whole_code, hex_code};
+ghost use Rattle.ili_grammar.specs.Numbers.{hex_digit, has, in_range};
 
 /// The number with its sign and without its full stop.
 pub fn digits_of(bytes: &[u8]) -> i64

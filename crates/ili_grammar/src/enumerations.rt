@@ -14,10 +14,13 @@ impl Source<'_> {
     #[cycle(elements)]
     pub fn elements(&self, at: usize, depth: u32) -> Result<(Vec<Element>, usize), SyntaxFault>
         requires { at ≤ length self.now.tokens.now }
-        ensures reads { IfOk result (λ p. IsElements depth (elements_of p.0.items) (rest self.now at) (rest self.now p.1)) }
+        ensures reads { IfOk result (λ p. IsElements depth (elements_of p.0.items)
+            (rest self.now at) (rest self.now p.1)) }
         ensures within { IfOk result (λ p. (at < p.1) × (p.1 ≤ length self.now.tokens.now)) }
-        ensures runs { IfOk result (λ p. Goes (rest self.now at) (elements depth ∷ []) (rest self.now p.1) []) }
-        ensures stops { IfErr result (λ fault. Refuses (all self.now) (rest self.now at) (elements depth ∷ []) fault) }
+        ensures runs { IfOk result (λ p. Goes (rest self.now at) (elements depth ∷ [])
+            (rest self.now p.1) []) }
+        ensures stops { IfErr result (λ fault. Refuses (all self.now) (rest self.now at)
+            (elements depth ∷ []) fault) }
     {
         let mut elements = Vec::new(self.alloc);
         let mut first = at;
@@ -36,10 +39,13 @@ impl Source<'_> {
     #[cycle(elements)]
     fn element(&self, at: usize, depth: u32) -> Result<(Element, usize), SyntaxFault>
         requires { at ≤ length self.now.tokens.now }
-        ensures reads { IfOk result (λ p. IsElement depth (element_of p.0) (rest self.now at) (rest self.now p.1)) }
+        ensures reads { IfOk result (λ p. IsElement depth (element_of p.0) (rest self.now at)
+            (rest self.now p.1)) }
         ensures within { IfOk result (λ p. (at < p.1) × (p.1 ≤ length self.now.tokens.now)) }
-        ensures runs { IfOk result (λ p. Goes (rest self.now at) (elements depth ∷ []) (rest self.now p.1) (more_parts depth ∷ [])) }
-        ensures stops { IfErr result (λ fault. Refuses (all self.now) (rest self.now at) (elements depth ∷ []) fault) }
+        ensures runs { IfOk result (λ p. Goes (rest self.now at) (elements depth ∷ [])
+            (rest self.now p.1) (more_parts depth ∷ [])) }
+        ensures stops { IfErr result (λ fault. Refuses (all self.now) (rest self.now at)
+            (elements depth ∷ []) fault) }
     {
         let (name, next) = self.ident(at)?;
         let (parts, next) = self.parts(next, depth)?;
@@ -50,10 +56,13 @@ impl Source<'_> {
     #[cycle(elements)]
     fn parts(&self, at: usize, depth: u32) -> Result<(Vec<Element>, usize), SyntaxFault>
         requires { at ≤ length self.now.tokens.now }
-        ensures reads { IfOk result (λ p. ReadsParts depth (elements_of p.0.items) (rest self.now at) (rest self.now p.1)) }
+        ensures reads { IfOk result (λ p. ReadsParts depth (elements_of p.0.items)
+            (rest self.now at) (rest self.now p.1)) }
         ensures within { IfOk result (λ p. (at ≤ p.1) × (p.1 ≤ length self.now.tokens.now)) }
-        ensures runs { IfOk result (λ p. Goes (rest self.now at) (maybe_parts depth ∷ []) (rest self.now p.1) []) }
-        ensures stops { IfErr result (λ fault. Refuses (all self.now) (rest self.now at) (maybe_parts depth ∷ []) fault) }
+        ensures runs { IfOk result (λ p. Goes (rest self.now at) (maybe_parts depth ∷ [])
+            (rest self.now p.1) []) }
+        ensures stops { IfErr result (λ fault. Refuses (all self.now) (rest self.now at)
+            (maybe_parts depth ∷ []) fault) }
     {
         if !self.is_mark(at, Mark::LeftParen) {
             return Ok((Vec::new(self.alloc), at));

@@ -14,6 +14,8 @@ pub fn one_model()
 
 /// A list of tokens has at most one first fault, and none where it is a model.
 pub fn one_fault()
-    ensures same { (w : List Tok) (f g : fault.SyntaxFault) → (f ≡ faults.Memory → ⊥) → (g ≡ faults.Memory → ⊥) → IsFirstFault w f → IsFirstFault w g → f ≡ g }
-    ensures no_model { (w : List Tok) (f : fault.SyntaxFault) (m : ModelSyntax) → IsFirstFault w f → Spells m w → f ≡ faults.Memory }
+    ensures same { (w : List Tok) (f g : fault.SyntaxFault) → (f ≡ faults.Memory → ⊥)
+        → (g ≡ faults.Memory → ⊥) → IsFirstFault w f → IsFirstFault w g → f ≡ g }
+    ensures no_model { (w : List Tok) (f : fault.SyntaxFault) (m : ModelSyntax) → IsFirstFault w f
+        → Spells m w → f ≡ faults.Memory }
 {}

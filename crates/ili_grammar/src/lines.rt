@@ -1,11 +1,13 @@
 // Lines and IDENT lists.
 ghost use Rattle.std.specs.Prelude.{◌≡◌, ◌<◌, ◌≤◌, ◌∷◌, [], length, cond, IfOk, IfErr};
 ghost use Rattle.std.specs.Option.{option_map};
-ghost use Rattle.ili_grammar.specs.Types.{IsForms, IsBase, IsOverlap, IsLine, IsList, IsIdents, IsMaybeIdents};
+ghost use Rattle.ili_grammar.specs.Types.{IsForms, IsBase, IsOverlap, IsLine, IsList, IsIdents};
+ghost use Rattle.ili_grammar.specs.Types.{IsMaybeIdents};
 ghost use Rattle.ili_grammar.specs.Tokens.{word, STRAIGHTS, ARCS, semicolon};
 ghost use Rattle.ili_grammar.specs.Values.{decimal_of, names_of, lists_of};
 ghost use Rattle.ili_grammar.specs.Steps.{all, rest, Leads, Refuses, Goes};
-ghost use Rattle.ili_grammar.specs.Machine.{want, the_line, forms, more_forms, maybe_base, maybe_overlap, maybe_idents, idents, lists, name_list};
+ghost use Rattle.ili_grammar.specs.Machine.{want, the_line, forms, more_forms, maybe_base};
+ghost use Rattle.ili_grammar.specs.Machine.{maybe_overlap, maybe_idents, idents, lists, name_list};
 ghost use Rattle.ili_grammar.specs.Parts.{head_of, ReadsLists, ReadsEndedList};
 
 use super::source::{Source, Wanted, keep};
@@ -24,10 +26,13 @@ pub struct LineHead {
 impl Source<'_> {
     pub fn line(&self, at: usize) -> Result<(LineHead, usize), SyntaxFault>
         requires { at ≤ length self.now.tokens.now }
-        ensures reads { IfOk result (λ p. IsLine (head_of p.0) (rest self.now at) (rest self.now p.1)) }
+        ensures reads { IfOk result (λ p. IsLine (head_of p.0) (rest self.now at)
+            (rest self.now p.1)) }
         ensures within { IfOk result (λ p. (at < p.1) × (p.1 ≤ length self.now.tokens.now)) }
-        ensures runs { IfOk result (λ p. Goes (rest self.now at) (the_line ∷ []) (rest self.now p.1) []) }
-        ensures stops { IfErr result (λ fault. Refuses (all self.now) (rest self.now at) (the_line ∷ []) fault) }
+        ensures runs { IfOk result (λ p. Goes (rest self.now at) (the_line ∷ []) (rest self.now p.1)
+            []) }
+        ensures stops { IfErr result (λ fault. Refuses (all self.now) (rest self.now at)
+            (the_line ∷ []) fault) }
     {
         let next = self.expect_keyword(at, Keyword::With)?;
         let next = self.expect_mark(next, Mark::LeftParen)?;
@@ -50,8 +55,10 @@ impl Source<'_> {
         requires { at ≤ length self.now.tokens.now }
         ensures reads { IfOk result (λ p. IsForms p.0 p.1 (rest self.now at) (rest self.now p.2)) }
         ensures within { IfOk result (λ p. (at < p.2) × (p.2 ≤ length self.now.tokens.now)) }
-        ensures runs { IfOk result (λ p. Goes (rest self.now at) (forms ∷ []) (rest self.now p.2) []) }
-        ensures stops { IfErr result (λ fault. Refuses (all self.now) (rest self.now at) (forms ∷ []) fault) }
+        ensures runs { IfOk result (λ p. Goes (rest self.now at) (forms ∷ []) (rest self.now p.2)
+            []) }
+        ensures stops { IfErr result (λ fault. Refuses (all self.now) (rest self.now at)
+            (forms ∷ []) fault) }
     {
         let mut straights = false;
         let mut arcs = false;
@@ -70,10 +77,13 @@ impl Source<'_> {
 
     // A form: whether it is ARCS.
     fn form(&self, at: usize) -> Result<(bool, usize), SyntaxFault>
-        ensures reads { IfOk result (λ p. Leads (cond p.0 (word ARCS) (word STRAIGHTS)) (rest self.now at) (rest self.now p.1)) }
+        ensures reads { IfOk result (λ p. Leads (cond p.0 (word ARCS) (word STRAIGHTS))
+            (rest self.now at) (rest self.now p.1)) }
         ensures within { IfOk result (λ p. (at < p.1) × (p.1 ≤ length self.now.tokens.now)) }
-        ensures runs { IfOk result (λ p. Goes (rest self.now at) (forms ∷ []) (rest self.now p.1) (more_forms ∷ [])) }
-        ensures stops { IfErr result (λ fault. Refuses (all self.now) (rest self.now at) (forms ∷ []) fault) }
+        ensures runs { IfOk result (λ p. Goes (rest self.now at) (forms ∷ []) (rest self.now p.1)
+            (more_forms ∷ [])) }
+        ensures stops { IfErr result (λ fault. Refuses (all self.now) (rest self.now at)
+            (forms ∷ []) fault) }
     {
         if self.is_keyword(at, Keyword::Straights) {
             return Ok((false, at + 1));
@@ -88,8 +98,10 @@ impl Source<'_> {
         requires { at ≤ length self.now.tokens.now }
         ensures reads { IfOk result (λ next. IsBase (rest self.now at) (rest self.now next)) }
         ensures within { IfOk result (λ next. (at ≤ next) × (next ≤ length self.now.tokens.now)) }
-        ensures runs { IfOk result (λ next. Goes (rest self.now at) (maybe_base ∷ []) (rest self.now next) []) }
-        ensures stops { IfErr result (λ fault. Refuses (all self.now) (rest self.now at) (maybe_base ∷ []) fault) }
+        ensures runs { IfOk result (λ next. Goes (rest self.now at) (maybe_base ∷ [])
+            (rest self.now next) []) }
+        ensures stops { IfErr result (λ fault. Refuses (all self.now) (rest self.now at)
+            (maybe_base ∷ []) fault) }
     {
         if !self.is_keyword(at, Keyword::Base) {
             return Ok(at);
@@ -100,10 +112,13 @@ impl Source<'_> {
 
     fn overlap(&self, at: usize) -> Result<(Option<Decimal>, usize), SyntaxFault>
         requires { at ≤ length self.now.tokens.now }
-        ensures reads { IfOk result (λ p. IsOverlap (option_map decimal_of p.0) (rest self.now at) (rest self.now p.1)) }
+        ensures reads { IfOk result (λ p. IsOverlap (option_map decimal_of p.0) (rest self.now at)
+            (rest self.now p.1)) }
         ensures within { IfOk result (λ p. (at ≤ p.1) × (p.1 ≤ length self.now.tokens.now)) }
-        ensures runs { IfOk result (λ p. Goes (rest self.now at) (maybe_overlap ∷ []) (rest self.now p.1) []) }
-        ensures stops { IfErr result (λ fault. Refuses (all self.now) (rest self.now at) (maybe_overlap ∷ []) fault) }
+        ensures runs { IfOk result (λ p. Goes (rest self.now at) (maybe_overlap ∷ [])
+            (rest self.now p.1) []) }
+        ensures stops { IfErr result (λ fault. Refuses (all self.now) (rest self.now at)
+            (maybe_overlap ∷ []) fault) }
     {
         if !self.is_keyword(at, Keyword::Without) {
             return Ok((None, at));
@@ -117,10 +132,13 @@ impl Source<'_> {
     // NO IDENT, or IDENT and its lists, or neither.
     pub fn optional_idents(&self, at: usize) -> Result<(Vec<IdentList>, usize), SyntaxFault>
         requires { at ≤ length self.now.tokens.now }
-        ensures reads { IfOk result (λ p. IsMaybeIdents (lists_of p.0.items) (rest self.now at) (rest self.now p.1)) }
+        ensures reads { IfOk result (λ p. IsMaybeIdents (lists_of p.0.items) (rest self.now at)
+            (rest self.now p.1)) }
         ensures within { IfOk result (λ p. (at ≤ p.1) × (p.1 ≤ length self.now.tokens.now)) }
-        ensures runs { IfOk result (λ p. Goes (rest self.now at) (maybe_idents ∷ []) (rest self.now p.1) []) }
-        ensures stops { IfErr result (λ fault. Refuses (all self.now) (rest self.now at) (maybe_idents ∷ []) fault) }
+        ensures runs { IfOk result (λ p. Goes (rest self.now at) (maybe_idents ∷ [])
+            (rest self.now p.1) []) }
+        ensures stops { IfErr result (λ fault. Refuses (all self.now) (rest self.now at)
+            (maybe_idents ∷ []) fault) }
     {
         if self.is_keyword(at, Keyword::No) || self.is_keyword(at, Keyword::Ident) {
             let (lists, next) = self.idents(at)?;
@@ -132,10 +150,13 @@ impl Source<'_> {
     // NO IDENT, or IDENT and its lists.
     pub fn idents(&self, at: usize) -> Result<(Vec<IdentList>, usize), SyntaxFault>
         requires { at ≤ length self.now.tokens.now }
-        ensures reads { IfOk result (λ p. IsIdents (lists_of p.0.items) (rest self.now at) (rest self.now p.1)) }
+        ensures reads { IfOk result (λ p. IsIdents (lists_of p.0.items) (rest self.now at)
+            (rest self.now p.1)) }
         ensures within { IfOk result (λ p. (at < p.1) × (p.1 ≤ length self.now.tokens.now)) }
-        ensures runs { IfOk result (λ p. Goes (rest self.now at) (idents ∷ []) (rest self.now p.1) []) }
-        ensures stops { IfErr result (λ fault. Refuses (all self.now) (rest self.now at) (idents ∷ []) fault) }
+        ensures runs { IfOk result (λ p. Goes (rest self.now at) (idents ∷ []) (rest self.now p.1)
+            []) }
+        ensures stops { IfErr result (λ fault. Refuses (all self.now) (rest self.now at)
+            (idents ∷ []) fault) }
     {
         if self.is_keyword(at, Keyword::No) {
             let next = self.expect_keyword(at + 1, Keyword::Ident)?;
@@ -149,10 +170,13 @@ impl Source<'_> {
     // One list or more, each with its semicolon.
     fn lists(&self, at: usize) -> Result<(Vec<IdentList>, usize), SyntaxFault>
         requires { at ≤ length self.now.tokens.now }
-        ensures reads { IfOk result (λ p. ReadsLists (lists_of p.0.items) (rest self.now at) (rest self.now p.1)) }
+        ensures reads { IfOk result (λ p. ReadsLists (lists_of p.0.items) (rest self.now at)
+            (rest self.now p.1)) }
         ensures within { IfOk result (λ p. (at < p.1) × (p.1 ≤ length self.now.tokens.now)) }
-        ensures runs { IfOk result (λ p. Goes (rest self.now at) (name_list ∷ want semicolon ∷ lists ∷ []) (rest self.now p.1) []) }
-        ensures stops { IfErr result (λ fault. Refuses (all self.now) (rest self.now at) (name_list ∷ want semicolon ∷ lists ∷ []) fault) }
+        ensures runs { IfOk result (λ p. Goes (rest self.now at)
+            (name_list ∷ want semicolon ∷ lists ∷ []) (rest self.now p.1) []) }
+        ensures stops { IfErr result (λ fault. Refuses (all self.now) (rest self.now at)
+            (name_list ∷ want semicolon ∷ lists ∷ []) fault) }
     {
         let mut lists = Vec::new(self.alloc);
         let (list, next) = self.ended_list(at)?;
@@ -169,10 +193,13 @@ impl Source<'_> {
     // A list and its semicolon.
     fn ended_list(&self, at: usize) -> Result<(IdentList, usize), SyntaxFault>
         requires { at ≤ length self.now.tokens.now }
-        ensures reads { IfOk result (λ p. ReadsEndedList (names_of p.0) (rest self.now at) (rest self.now p.1)) }
+        ensures reads { IfOk result (λ p. ReadsEndedList (names_of p.0) (rest self.now at)
+            (rest self.now p.1)) }
         ensures within { IfOk result (λ p. (at < p.1) × (p.1 ≤ length self.now.tokens.now)) }
-        ensures runs { IfOk result (λ p. Goes (rest self.now at) (name_list ∷ want semicolon ∷ []) (rest self.now p.1) []) }
-        ensures stops { IfErr result (λ fault. Refuses (all self.now) (rest self.now at) (name_list ∷ want semicolon ∷ []) fault) }
+        ensures runs { IfOk result (λ p. Goes (rest self.now at) (name_list ∷ want semicolon ∷ [])
+            (rest self.now p.1) []) }
+        ensures stops { IfErr result (λ fault. Refuses (all self.now) (rest self.now at)
+            (name_list ∷ want semicolon ∷ []) fault) }
     {
         let (list, next) = self.name_list(at)?;
         let next = self.expect_mark(next, Mark::Semicolon)?;
@@ -181,10 +208,13 @@ impl Source<'_> {
 
     fn name_list(&self, at: usize) -> Result<(IdentList, usize), SyntaxFault>
         requires { at ≤ length self.now.tokens.now }
-        ensures reads { IfOk result (λ p. IsList (names_of p.0) (rest self.now at) (rest self.now p.1)) }
+        ensures reads { IfOk result (λ p. IsList (names_of p.0) (rest self.now at)
+            (rest self.now p.1)) }
         ensures within { IfOk result (λ p. (at < p.1) × (p.1 ≤ length self.now.tokens.now)) }
-        ensures runs { IfOk result (λ p. Goes (rest self.now at) (name_list ∷ []) (rest self.now p.1) []) }
-        ensures stops { IfErr result (λ fault. Refuses (all self.now) (rest self.now at) (name_list ∷ []) fault) }
+        ensures runs { IfOk result (λ p. Goes (rest self.now at) (name_list ∷ [])
+            (rest self.now p.1) []) }
+        ensures stops { IfErr result (λ fault. Refuses (all self.now) (rest self.now at)
+            (name_list ∷ []) fault) }
     {
         let mut names = Vec::new(self.alloc);
         let mut first = at;

@@ -22,7 +22,8 @@ pub fn parse(alloc: Global, text: &[u8], tokens: &[Token]) -> Result<ModelSyntax
     ensures spelt { IfOk result (λ model. Spells (model_of model) (toks text.now tokens.now)) }
     ensures within { IfOk result (λ model. IsWithinLimits (model_of model)) }
     ensures fault { IfErr result (λ fault. IsFirstFault (toks text.now tokens.now) fault) }
-    ensures complete { (m : written.ModelSyntax) → Spells m (toks text.now tokens.now) → IfErr result (λ fault. fault ≡ SyntaxFault.Memory) }
+    ensures complete { (m : written.ModelSyntax) → Spells m (toks text.now tokens.now)
+        → IfErr result (λ fault. fault ≡ SyntaxFault.Memory) }
 {
     let source = Source {
         alloc,

@@ -94,7 +94,8 @@ impl Wanted {
 }
 
 impl<'a> Source<'a> {
-    ghost use Rattle.std.specs.Prelude.{◌+◌, ◌-◌, ◌<◌, ℕ, take, drop, IfOk, IfSome, None, MatchBool, ⊤};
+    ghost use Rattle.std.specs.Prelude.{◌+◌, ◌-◌, ◌<◌, ℕ, take, drop, IfOk, IfSome, None};
+    ghost use Rattle.std.specs.Prelude.{MatchBool, ⊤};
     ghost use Rattle.std.specs.Option.{option_map};
     ghost use Rattle.ili_grammar.specs.Kinds.{Not};
     ghost use Rattle.ili_grammar.specs.Machine.{want, maybe_explanation, first_content, content};
@@ -102,7 +103,9 @@ impl<'a> Source<'a> {
     ghost use Rattle.ili_grammar.specs.Types.{IsExplained};
     ghost use Rattle.ili_grammar.specs.Slices.{bytes_of, word_of};
     ghost use Rattle.ili_grammar.specs.Values.{ident_of, decimal_of};
-    ghost use Rattle.ili_grammar.specs.Steps.{all, rest, Leads, LeadsName, LeadsNumber, kind_at, leads_with, code_here, scales_here, is_plain, Refuses, Goes, past, NoWord, IsFaultAt};
+    ghost use Rattle.ili_grammar.specs.Steps.{all, rest, Leads, LeadsName, LeadsNumber, kind_at};
+    ghost use Rattle.ili_grammar.specs.Steps.{leads_with, code_here, scales_here, is_plain};
+    ghost use Rattle.ili_grammar.specs.Steps.{Refuses, Goes, past, NoWord, IsFaultAt};
 
     /// The kind of a token, if there is one.
     pub fn kind(&self, at: usize) -> Option<Kind>
@@ -117,7 +120,9 @@ impl<'a> Source<'a> {
 
     /// Whether a token is of this kind.
     pub fn is(&self, at: usize, kind: Kind) -> bool
-        ensures here { MatchBool result (Leads (kind_of kind) (rest self.now at) (rest self.now (at + 1))) (Not (kind_of kind) (rest self.now at)) }
+        ensures here { MatchBool result
+            (Leads (kind_of kind) (rest self.now at) (rest self.now (at + 1)))
+            (Not (kind_of kind) (rest self.now at)) }
         ensures value { result ≡ leads_with (kind_of kind) (rest self.now at) }
         ensures within { MatchBool result (at < length self.now.tokens.now) ⊤ }
     {
@@ -128,14 +133,18 @@ impl<'a> Source<'a> {
     }
 
     pub fn is_keyword(&self, at: usize, keyword: Keyword) -> bool
-        ensures here { MatchBool result (Leads (kind_of (Kind.Keyword keyword)) (rest self.now at) (rest self.now (at + 1))) (Not (kind_of (Kind.Keyword keyword)) (rest self.now at)) }
+        ensures here { MatchBool result
+            (Leads (kind_of (Kind.Keyword keyword)) (rest self.now at) (rest self.now (at + 1)))
+            (Not (kind_of (Kind.Keyword keyword)) (rest self.now at)) }
         ensures within { MatchBool result (at < length self.now.tokens.now) ⊤ }
     {
         self.is(at, Kind::Keyword(keyword))
     }
 
     pub fn is_mark(&self, at: usize, mark: Mark) -> bool
-        ensures here { MatchBool result (Leads (kind_of (Kind.Mark mark)) (rest self.now at) (rest self.now (at + 1))) (Not (kind_of (Kind.Mark mark)) (rest self.now at)) }
+        ensures here { MatchBool result
+            (Leads (kind_of (Kind.Mark mark)) (rest self.now at) (rest self.now (at + 1)))
+            (Not (kind_of (Kind.Mark mark)) (rest self.now at)) }
         ensures within { MatchBool result (at < length self.now.tokens.now) ⊤ }
     {
         self.is(at, Kind::Mark(mark))
@@ -143,7 +152,8 @@ impl<'a> Source<'a> {
 
     /// The keyword at a place, if one stands there.
     pub fn keyword(&self, at: usize) -> Option<Keyword>
-        ensures here { IfSome result (λ keyword. Leads (word (word_of keyword)) (rest self.now at) (rest self.now (at + 1))) }
+        ensures here { IfSome result (λ keyword. Leads (word (word_of keyword)) (rest self.now at)
+            (rest self.now (at + 1))) }
         ensures within { IfSome result (λ keyword. at < length self.now.tokens.now) }
         ensures none { result ≡ None → NoWord (rest self.now at) }
     {
@@ -158,10 +168,12 @@ impl<'a> Source<'a> {
     /// Passes over OPTIONAL, if it stands here.
     pub fn optional(&self, at: usize) -> (bool, usize)
         requires { at ≤ length self.now.tokens.now }
-        ensures here { MatchBool result.0 (Leads (word OPTIONAL) (rest self.now at) (rest self.now result.1)) (result.1 ≡ at) }
+        ensures here { MatchBool result.0
+            (Leads (word OPTIONAL) (rest self.now at) (rest self.now result.1)) (result.1 ≡ at) }
         ensures within { (at ≤ result.1) × (result.1 ≤ length self.now.tokens.now) }
         ensures past { rest self.now result.1 ≡ past (word OPTIONAL) (rest self.now at) }
-        ensures content { (d : ℕ) → Goes (rest self.now at) (first_content d ∷ []) (rest self.now result.1) (content d ∷ []) }
+        ensures content { (d : ℕ) → Goes (rest self.now at) (first_content d ∷ [])
+            (rest self.now result.1) (content d ∷ []) }
     {
         if self.is_keyword(at, Keyword::Optional) {
             return (true, at + 1);
@@ -192,10 +204,13 @@ impl<'a> Source<'a> {
     /// Passes over a token of this kind.
     pub fn expect(&self, at: usize, kind: Kind) -> Result<usize, SyntaxFault>
         requires { IsTrue (is_plain (kind_of kind)) }
-        ensures reads { IfOk result (λ next. Leads (kind_of kind) (rest self.now at) (rest self.now next)) }
+        ensures reads { IfOk result (λ next. Leads (kind_of kind) (rest self.now at)
+            (rest self.now next)) }
         ensures within { IfOk result (λ next. (next ≡ at + 1) × (at < length self.now.tokens.now)) }
-        ensures stops { IfErr result (λ fault. Refuses (all self.now) (rest self.now at) (want (kind_of kind) ∷ []) fault) }
-        ensures runs { IfOk result (λ next. Goes (rest self.now at) (want (kind_of kind) ∷ []) (rest self.now next) []) }
+        ensures stops { IfErr result (λ fault. Refuses (all self.now) (rest self.now at)
+            (want (kind_of kind) ∷ []) fault) }
+        ensures runs { IfOk result (λ next. Goes (rest self.now at) (want (kind_of kind) ∷ [])
+            (rest self.now next) []) }
     {
         if self.is(at, kind) {
             return Ok(at + 1);
@@ -204,10 +219,13 @@ impl<'a> Source<'a> {
     }
 
     pub fn expect_free(&self, at: usize) -> Result<usize, SyntaxFault>
-        ensures reads { IfOk result (λ next. Leads (word FREE) (rest self.now at) (rest self.now next)) }
+        ensures reads { IfOk result (λ next. Leads (word FREE) (rest self.now at)
+            (rest self.now next)) }
         ensures within { IfOk result (λ next. (next ≡ at + 1) × (at < length self.now.tokens.now)) }
-        ensures stops { IfErr result (λ fault. Refuses (all self.now) (rest self.now at) (want (word FREE) ∷ []) fault) }
-        ensures runs { IfOk result (λ next. Goes (rest self.now at) (want (word FREE) ∷ []) (rest self.now next) []) }
+        ensures stops { IfErr result (λ fault. Refuses (all self.now) (rest self.now at)
+            (want (word FREE) ∷ []) fault) }
+        ensures runs { IfOk result (λ next. Goes (rest self.now at) (want (word FREE) ∷ [])
+            (rest self.now next) []) }
     {
         if self.is_keyword(at, Keyword::Free) {
             return Ok(at + 1);
@@ -217,30 +235,39 @@ impl<'a> Source<'a> {
 
     pub fn expect_keyword(&self, at: usize, keyword: Keyword) -> Result<usize, SyntaxFault>
         requires { IsTrue (is_plain (kind_of (Kind.Keyword keyword))) }
-        ensures reads { IfOk result (λ next. Leads (kind_of (Kind.Keyword keyword)) (rest self.now at) (rest self.now next)) }
+        ensures reads { IfOk result (λ next. Leads (kind_of (Kind.Keyword keyword))
+            (rest self.now at) (rest self.now next)) }
         ensures within { IfOk result (λ next. (next ≡ at + 1) × (at < length self.now.tokens.now)) }
-        ensures stops { IfErr result (λ fault. Refuses (all self.now) (rest self.now at) (want (kind_of (Kind.Keyword keyword)) ∷ []) fault) }
-        ensures runs { IfOk result (λ next. Goes (rest self.now at) (want (kind_of (Kind.Keyword keyword)) ∷ []) (rest self.now next) []) }
+        ensures stops { IfErr result (λ fault. Refuses (all self.now) (rest self.now at)
+            (want (kind_of (Kind.Keyword keyword)) ∷ []) fault) }
+        ensures runs { IfOk result (λ next. Goes (rest self.now at)
+            (want (kind_of (Kind.Keyword keyword)) ∷ []) (rest self.now next) []) }
     {
         self.expect(at, Kind::Keyword(keyword))
     }
 
     pub fn expect_mark(&self, at: usize, mark: Mark) -> Result<usize, SyntaxFault>
         requires { IsTrue (is_plain (kind_of (Kind.Mark mark))) }
-        ensures reads { IfOk result (λ next. Leads (kind_of (Kind.Mark mark)) (rest self.now at) (rest self.now next)) }
+        ensures reads { IfOk result (λ next. Leads (kind_of (Kind.Mark mark)) (rest self.now at)
+            (rest self.now next)) }
         ensures within { IfOk result (λ next. (next ≡ at + 1) × (at < length self.now.tokens.now)) }
-        ensures stops { IfErr result (λ fault. Refuses (all self.now) (rest self.now at) (want (kind_of (Kind.Mark mark)) ∷ []) fault) }
-        ensures runs { IfOk result (λ next. Goes (rest self.now at) (want (kind_of (Kind.Mark mark)) ∷ []) (rest self.now next) []) }
+        ensures stops { IfErr result (λ fault. Refuses (all self.now) (rest self.now at)
+            (want (kind_of (Kind.Mark mark)) ∷ []) fault) }
+        ensures runs { IfOk result (λ next. Goes (rest self.now at)
+            (want (kind_of (Kind.Mark mark)) ∷ []) (rest self.now next) []) }
     {
         self.expect(at, Kind::Mark(mark))
     }
 
     /// Reads a name.
     pub fn ident(&self, at: usize) -> Result<(Ident, usize), SyntaxFault>
-        ensures reads { IfOk result (λ p. LeadsName (ident_of p.0) (rest self.now at) (rest self.now p.1)) }
+        ensures reads { IfOk result (λ p. LeadsName (ident_of p.0) (rest self.now at)
+            (rest self.now p.1)) }
         ensures within { IfOk result (λ p. (p.1 ≡ at + 1) × (at < length self.now.tokens.now)) }
-        ensures stops { IfErr result (λ fault. Refuses (all self.now) (rest self.now at) (want name ∷ []) fault) }
-        ensures runs { IfOk result (λ p. Goes (rest self.now at) (want name ∷ []) (rest self.now p.1) []) }
+        ensures stops { IfErr result (λ fault. Refuses (all self.now) (rest self.now at)
+            (want name ∷ []) fault) }
+        ensures runs { IfOk result (λ p. Goes (rest self.now at) (want name ∷ [])
+            (rest self.now p.1) []) }
     {
         let next = self.expect(at, Kind::Name)?;
         let token = self.tokens[at];
@@ -259,10 +286,13 @@ impl<'a> Source<'a> {
 
     /// Reads a number.
     pub fn decimal(&self, at: usize) -> Result<(Decimal, usize), SyntaxFault>
-        ensures reads { IfOk result (λ p. LeadsNumber (decimal_of p.0) (rest self.now at) (rest self.now p.1)) }
+        ensures reads { IfOk result (λ p. LeadsNumber (decimal_of p.0) (rest self.now at)
+            (rest self.now p.1)) }
         ensures within { IfOk result (λ p. (p.1 ≡ at + 1) × (at < length self.now.tokens.now)) }
-        ensures stops { IfErr result (λ fault. Refuses (all self.now) (rest self.now at) (want number ∷ []) fault) }
-        ensures runs { IfOk result (λ p. Goes (rest self.now at) (want number ∷ []) (rest self.now p.1) []) }
+        ensures stops { IfErr result (λ fault. Refuses (all self.now) (rest self.now at)
+            (want number ∷ []) fault) }
+        ensures runs { IfOk result (λ p. Goes (rest self.now at) (want number ∷ [])
+            (rest self.now p.1) []) }
     {
         let next = self.expect(at, Kind::Number)?;
         let token = self.tokens[at];

@@ -3,9 +3,11 @@ ghost use Rattle.std.specs.Prelude.{◌≡◌, ◌+◌, ◌<◌, ◌≤◌, ◌�
 ghost use Rattle.ili_grammar.specs.Types.{IsType, IsAttributes, IsAttribute, IsContent};
 ghost use Rattle.ili_grammar.specs.Tokens.{word, name, colon, semicolon};
 ghost use Rattle.ili_grammar.specs.Slices.{word_of};
-ghost use Rattle.ili_grammar.specs.Values.{type_of, line_of, attribute_of, attributes_of, content_of, lists_of};
+ghost use Rattle.ili_grammar.specs.Values.{type_of, line_of, attribute_of, attributes_of};
+ghost use Rattle.ili_grammar.specs.Values.{content_of, lists_of};
 ghost use Rattle.ili_grammar.specs.Steps.{all, rest, Leads, Refuses, Goes, is_unnumbered};
-ghost use Rattle.ili_grammar.specs.Machine.{want, a_type, the_line, maybe_line_attributes, attributes, first_content, maybe_explanation, content};
+ghost use Rattle.ili_grammar.specs.Machine.{want, a_type, the_line, maybe_line_attributes};
+ghost use Rattle.ili_grammar.specs.Machine.{attributes, first_content, maybe_explanation, content};
 ghost use Rattle.ili_grammar.specs.Parts.{ReadsLine, head_of};
 ghost use Rattle.ili_grammar.specs.Syntax.{a_line};
 
@@ -18,10 +20,13 @@ impl Source<'_> {
     #[cycle(types)]
     pub fn type_syntax(&self, at: usize, depth: u32) -> Result<(TypeSyntax, usize), SyntaxFault>
         requires { at ≤ length self.now.tokens.now }
-        ensures reads { IfOk result (λ p. IsType depth (type_of p.0) (rest self.now at) (rest self.now p.1)) }
+        ensures reads { IfOk result (λ p. IsType depth (type_of p.0) (rest self.now at)
+            (rest self.now p.1)) }
         ensures within { IfOk result (λ p. (at < p.1) × (p.1 ≤ length self.now.tokens.now)) }
-        ensures runs { IfOk result (λ p. Goes (rest self.now at) (a_type depth ∷ []) (rest self.now p.1) []) }
-        ensures stops { IfErr result (λ fault. Refuses (all self.now) (rest self.now at) (a_type depth ∷ []) fault) }
+        ensures runs { IfOk result (λ p. Goes (rest self.now at) (a_type depth ∷ [])
+            (rest self.now p.1) []) }
+        ensures stops { IfErr result (λ fault. Refuses (all self.now) (rest self.now at)
+            (a_type depth ∷ []) fault) }
     {
         if self.is(at, Kind::Name) {
             let (name, next) = self.ident(at)?;
@@ -39,10 +44,7 @@ impl Source<'_> {
             return Ok((TypeSyntax::Enumeration(elements), next));
         }
         match self.keyword(at) {
-            Some(keyword) => {
-                let (kind, next) = self.keyword_type(at, keyword, depth)?;
-                Ok((kind, next))
-            }
+            Some(keyword) => self.keyword_type(at, keyword, depth),
             None => Err(self.fault(at, Wanted::Other)),
         }
     }
@@ -56,11 +58,15 @@ impl Source<'_> {
         depth: u32,
     ) -> Result<(TypeSyntax, usize), SyntaxFault>
         requires within { at < length self.now.tokens.now }
-        requires begun { Leads (word (word_of keyword)) (rest self.now at) (rest self.now (at + 1)) }
-        ensures reads { IfOk result (λ p. IsType depth (type_of p.0) (rest self.now at) (rest self.now p.1)) }
+        requires begun { Leads (word (word_of keyword)) (rest self.now at)
+            (rest self.now (at + 1)) }
+        ensures reads { IfOk result (λ p. IsType depth (type_of p.0) (rest self.now at)
+            (rest self.now p.1)) }
         ensures within { IfOk result (λ p. (at < p.1) × (p.1 ≤ length self.now.tokens.now)) }
-        ensures runs { IfOk result (λ p. Goes (rest self.now at) (a_type depth ∷ []) (rest self.now p.1) []) }
-        ensures stops { IfErr result (λ fault. Refuses (all self.now) (rest self.now at) (a_type depth ∷ []) fault) }
+        ensures runs { IfOk result (λ p. Goes (rest self.now at) (a_type depth ∷ [])
+            (rest self.now p.1) []) }
+        ensures stops { IfErr result (λ fault. Refuses (all self.now) (rest self.now at)
+            (a_type depth ∷ []) fault) }
     {
         match keyword {
             Keyword::Date => Ok((TypeSyntax::Date, at + 1)),
@@ -79,10 +85,7 @@ impl Source<'_> {
                 let (line, next) = self.attributed_line(at + 1, depth)?;
                 Ok((TypeSyntax::Area(line), next))
             }
-            _ => {
-                let (kind, next) = self.number_type(at, keyword, depth)?;
-                Ok((kind, next))
-            }
+            _ => self.number_type(at, keyword, depth),
         }
     }
 
@@ -94,12 +97,16 @@ impl Source<'_> {
         depth: u32,
     ) -> Result<(TypeSyntax, usize), SyntaxFault>
         requires within { at < length self.now.tokens.now }
-        requires begun { Leads (word (word_of keyword)) (rest self.now at) (rest self.now (at + 1)) }
+        requires begun { Leads (word (word_of keyword)) (rest self.now at)
+            (rest self.now (at + 1)) }
         requires numbered { is_unnumbered keyword ≡ false }
-        ensures reads { IfOk result (λ p. IsType depth (type_of p.0) (rest self.now at) (rest self.now p.1)) }
+        ensures reads { IfOk result (λ p. IsType depth (type_of p.0) (rest self.now at)
+            (rest self.now p.1)) }
         ensures within { IfOk result (λ p. (at < p.1) × (p.1 ≤ length self.now.tokens.now)) }
-        ensures runs { IfOk result (λ p. Goes (rest self.now at) (a_type depth ∷ []) (rest self.now p.1) []) }
-        ensures stops { IfErr result (λ fault. Refuses (all self.now) (rest self.now at) (a_type depth ∷ []) fault) }
+        ensures runs { IfOk result (λ p. Goes (rest self.now at) (a_type depth ∷ [])
+            (rest self.now p.1) []) }
+        ensures stops { IfErr result (λ fault. Refuses (all self.now) (rest self.now at)
+            (a_type depth ∷ []) fault) }
     {
         match keyword {
             Keyword::Text => {
@@ -142,10 +149,13 @@ impl Source<'_> {
     #[cycle(types)]
     fn attributed_line(&self, at: usize, depth: u32) -> Result<(LineSyntax, usize), SyntaxFault>
         requires { at ≤ length self.now.tokens.now }
-        ensures reads { IfOk result (λ p. ReadsLine depth (line_of p.0) (rest self.now at) (rest self.now p.1)) }
+        ensures reads { IfOk result (λ p. ReadsLine depth (line_of p.0) (rest self.now at)
+            (rest self.now p.1)) }
         ensures within { IfOk result (λ p. (at < p.1) × (p.1 ≤ length self.now.tokens.now)) }
-        ensures runs { IfOk result (λ p. Goes (rest self.now at) (the_line ∷ maybe_line_attributes depth ∷ []) (rest self.now p.1) []) }
-        ensures stops { IfErr result (λ fault. Refuses (all self.now) (rest self.now at) (the_line ∷ maybe_line_attributes depth ∷ []) fault) }
+        ensures runs { IfOk result (λ p. Goes (rest self.now at)
+            (the_line ∷ maybe_line_attributes depth ∷ []) (rest self.now p.1) []) }
+        ensures stops { IfErr result (λ fault. Refuses (all self.now) (rest self.now at)
+            (the_line ∷ maybe_line_attributes depth ∷ []) fault) }
     {
         let (head, next) = self.line(at)?;
         if !self.is_keyword(next, Keyword::Lineattr) {
@@ -169,10 +179,13 @@ impl Source<'_> {
         depth: u32,
     ) -> Result<(Vec<AttributeSyntax>, usize), SyntaxFault>
         requires { at ≤ length self.now.tokens.now }
-        ensures reads { IfOk result (λ p. IsAttributes depth (attributes_of p.0.items) (rest self.now at) (rest self.now p.1)) }
+        ensures reads { IfOk result (λ p. IsAttributes depth (attributes_of p.0.items)
+            (rest self.now at) (rest self.now p.1)) }
         ensures within { IfOk result (λ p. (at ≤ p.1) × (p.1 ≤ length self.now.tokens.now)) }
-        ensures runs { IfOk result (λ p. Goes (rest self.now at) (attributes depth ∷ []) (rest self.now p.1) []) }
-        ensures stops { IfErr result (λ fault. Refuses (all self.now) (rest self.now at) (attributes depth ∷ []) fault) }
+        ensures runs { IfOk result (λ p. Goes (rest self.now at) (attributes depth ∷ [])
+            (rest self.now p.1) []) }
+        ensures stops { IfErr result (λ fault. Refuses (all self.now) (rest self.now at)
+            (attributes depth ∷ []) fault) }
     {
         let mut attributes = Vec::new(self.alloc);
         let mut first = at;
@@ -187,10 +200,15 @@ impl Source<'_> {
     #[cycle(types)]
     fn attribute(&self, at: usize, depth: u32) -> Result<(AttributeSyntax, usize), SyntaxFault>
         requires { at ≤ length self.now.tokens.now }
-        ensures reads { IfOk result (λ p. IsAttribute depth (attribute_of p.0) (rest self.now at) (rest self.now p.1)) }
+        ensures reads { IfOk result (λ p. IsAttribute depth (attribute_of p.0) (rest self.now at)
+            (rest self.now p.1)) }
         ensures within { IfOk result (λ p. (at < p.1) × (p.1 ≤ length self.now.tokens.now)) }
-        ensures runs { IfOk result (λ p. Goes (rest self.now at) (want name ∷ want colon ∷ first_content depth ∷ maybe_explanation ∷ want semicolon ∷ []) (rest self.now p.1) []) }
-        ensures stops { IfErr result (λ fault. Refuses (all self.now) (rest self.now at) (want name ∷ want colon ∷ first_content depth ∷ maybe_explanation ∷ want semicolon ∷ []) fault) }
+        ensures runs { IfOk result (λ p. Goes (rest self.now at)
+            (want name ∷ want colon ∷ first_content depth ∷ maybe_explanation ∷ want semicolon ∷ [])
+            (rest self.now p.1) []) }
+        ensures stops { IfErr result (λ fault. Refuses (all self.now) (rest self.now at)
+            (want name ∷ want colon ∷ first_content depth ∷ maybe_explanation ∷ want semicolon ∷ [])
+            fault) }
     {
         let (name, next) = self.ident(at)?;
         let next = self.expect_mark(next, Mark::Colon)?;
@@ -209,10 +227,13 @@ impl Source<'_> {
     #[cycle(types)]
     fn content(&self, at: usize, depth: u32) -> Result<(Content, usize), SyntaxFault>
         requires { at ≤ length self.now.tokens.now }
-        ensures reads { IfOk result (λ p. IsContent depth (content_of p.0) (rest self.now at) (rest self.now p.1)) }
+        ensures reads { IfOk result (λ p. IsContent depth (content_of p.0) (rest self.now at)
+            (rest self.now p.1)) }
         ensures within { IfOk result (λ p. (at < p.1) × (p.1 ≤ length self.now.tokens.now)) }
-        ensures runs { IfOk result (λ p. Goes (rest self.now at) (content depth ∷ []) (rest self.now p.1) []) }
-        ensures stops { IfErr result (λ fault. Refuses (all self.now) (rest self.now at) (content depth ∷ []) fault) }
+        ensures runs { IfOk result (λ p. Goes (rest self.now at) (content depth ∷ [])
+            (rest self.now p.1) []) }
+        ensures stops { IfErr result (λ fault. Refuses (all self.now) (rest self.now at)
+            (content depth ∷ []) fault) }
     {
         if self.is_mark(at, Mark::Arrow) {
             let (name, next) = self.ident(at + 1)?;
@@ -229,7 +250,8 @@ fn whole_line(
     attributes: Vec<AttributeSyntax>,
     idents: Vec<IdentList>,
 ) -> LineSyntax
-    ensures { line_of result ≡ a_line (head_of head) (attributes_of attributes.items) (lists_of idents.items) }
+    ensures { line_of result ≡ a_line (head_of head) (attributes_of attributes.items)
+        (lists_of idents.items) }
 {
     LineSyntax {
         straights: head.straights,
