@@ -6,11 +6,14 @@ use Rattle.ili_grammar.specs.declared.syntax.Ident as ident
 use Rattle.ili_grammar.specs.declared.syntax.AttributeSyntax as attribute
 use Rattle.ili_grammar.specs.declared.syntax.Content.TheViews.{out-AttributeSyntax}
 use Rattle.ili_grammar.specs.declared.syntax.Content.TheFolds.{fold_out-AttributeSyntax}
-use Rattle.ili_grammar.specs.Syntax.{Ident, Content, TypeSyntax, AttributeSyntax, LineSyntax, an_attribute, and_attribute}
-use Rattle.ili_grammar.specs.Values.{ident_of, attribute_of, attributes_of, content_of, content_step, type_step, attribute_step, line_step}
+use Rattle.ili_grammar.specs.declared.syntax.Element as element
+use Rattle.ili_grammar.specs.declared.syntax.Element.TheViews.{out-Element}
+use Rattle.ili_grammar.specs.Syntax.{Ident, Content, TypeSyntax, AttributeSyntax, LineSyntax, Element, an_attribute, and_attribute, and_element}
+use Rattle.ili_grammar.specs.Values.{ident_of, attribute_of, attributes_of, content_of, elements_of, content_step, type_step, attribute_step, line_step}
 use Rattle.resolver.specs.Indexed.{idents}
-use Rattle.resolver.specs.Rules.{attribute_names}
+use Rattle.resolver.specs.Rules.{attribute_names, element_names}
 use Rattle.resolver.proofs.Folds.{list_behind}
+use Rattle.resolver.proofs.Types.{element_out}
 
 -- one more name is read
 pub gathered : {X : Type 0} (names : List X → List Ident) (i : ℕ) (xs read : List X) (x : X) (ns more : List (Bor ident.Ident)) (n : Bor ident.Ident) (m : Ident)
@@ -31,3 +34,6 @@ attribute_out = fold_out-AttributeSyntax Content TypeSyntax AttributeSyntax Line
 
 pub first_attribute_name : (a : attribute.AttributeSyntax) (rest : List attribute.AttributeSyntax) → attribute_names (attributes_of (a ∷ rest)) ≡ ident_of (out-AttributeSyntax a).name ∷ attribute_names (attributes_of rest)
 first_attribute_name a rest = ap (λ (t : AttributeSyntax). attribute_names (and_attribute t (attributes_of rest))) (attribute_out a)
+
+pub first_element_name : (e : element.Element) (rest : List element.Element) → element_names (elements_of (e ∷ rest)) ≡ ident_of (out-Element e).name ∷ element_names (elements_of rest)
+first_element_name e rest = ap (λ (t : Element). element_names (and_element t (elements_of rest))) (element_out e)

@@ -135,8 +135,12 @@ attributes s (and_attribute a as_) = resolved.and_attribute (attribute s a) (att
 abbrev pub table : Scope → TableSyntax → ModelTable
 table s t = record { name = t.name.text; attributes = attributes s t.attributes; idents = places t.attributes t.idents }
 
+-- a topic in its scope
+abbrev pub topic_in : Scope → TopicSyntax → Topic
+topic_in s t = record { name = t.name.text; tables = map (table s) t.tables }
+
 abbrev pub topic : List DomainSyntax → TopicSyntax → Topic
-topic above t = record { name = t.name.text; tables = map (table (inside above t)) t.tables }
+topic above t = topic_in (inside above t) t
 
 abbrev pub resolved_model : ModelSyntax → ResolvedModel
 resolved_model m = record { name = m.model.text; codes = m.codes; topics = map (topic (everywhere m)) m.topics }

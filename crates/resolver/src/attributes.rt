@@ -1,19 +1,26 @@
 // What attributes stand for, of tables and of the lines of a boundary.
 ghost use Rattle.std.specs.Prelude.{◌≡◌, ◌≤◌, IfOk, Some};
 ghost use Rattle.ili_grammar.specs.Limits.{IsSmallLine, line_names};
-ghost use Rattle.ili_grammar.specs.Values.{attribute_of, attributes_of, content_of, lists_of, type_of, line_of};
+ghost use Rattle.ili_grammar.specs.Values.{attribute_of, attributes_of, content_of, lists_of};
+ghost use Rattle.ili_grammar.specs.Values.{type_of, line_of};
 ghost use Rattle.resolver.specs.Directories.{names_in};
-ghost use Rattle.resolver.specs.Limits.{AreModest, IsModest, IsModestAttribute, IsModestContent, IsModestScope};
+ghost use Rattle.resolver.specs.Limits.{AreModest, IsModest, IsModestAttribute, IsModestContent};
+ghost use Rattle.resolver.specs.Limits.{IsModestScope};
 ghost use Rattle.resolver.specs.Rules.{attribute_names};
 ghost use Rattle.resolver.specs.Scopes.{outside};
 ghost use Rattle.resolver.specs.ScopeViews.{meaning_of, scope_of};
-ghost use Rattle.resolver.specs.Models.{places, line_attribute, line_attributes, line_part, type_form, meaning_form, content_form, attribute, attributes};
-ghost use Rattle.resolver.specs.Values.{attribute_of as resolved_attribute, attributes_of as resolved_attributes, content_of as resolved_content, part_of, places_of};
+ghost use Rattle.resolver.specs.Models.{places, line_attribute, line_attributes, line_form};
+ghost use Rattle.resolver.specs.Models.{line_part, type_form, meaning_form, content_form};
+ghost use Rattle.resolver.specs.Models.{attribute, attributes};
+ghost use Rattle.resolver.specs.Values.{attribute_of as resolved_attribute};
+ghost use Rattle.resolver.specs.Values.{attributes_of as resolved_attributes};
+ghost use Rattle.resolver.specs.Values.{content_of as resolved_content, line_of as resolved_line};
+ghost use Rattle.resolver.specs.Values.{part_of, places_of};
 
 use super::directory::Directory;
 use super::forms::form;
 use super::line_forms::line_form;
-use super::models::{Attribute, AttributeForm, Form, LinePart, Places};
+use super::models::{Attribute, AttributeForm, Form, LineForm, LinePart, Places};
 use super::names::attribute_names;
 use super::scope::{Meaning, Scope};
 use super::values::{meant, number, places, value};
@@ -36,7 +43,8 @@ pub fn ident_places(
     lists: &[IdentList],
 ) -> Result<Vec<Places>, Memory>
     requires { AreModest (attributes_of attributes.now) }
-    ensures { IfOk result (λ ps. places_of ps.items ≡ places (attributes_of attributes.now) (lists_of lists.now)) }
+    ensures { IfOk result (λ ps. places_of ps.items
+        ≡ places (attributes_of attributes.now) (lists_of lists.now)) }
 {
     let names = directory(alloc, attributes)?;
     places(alloc, &names, lists)
@@ -51,7 +59,8 @@ fn line_attribute<'a>(
 ) -> Result<Attribute, Memory>
     requires scope { IsModestScope (scope_of scope.now) }
     requires attribute { IsModestAttribute (attribute_of attribute.now) }
-    ensures { IfOk result (λ a. resolved_attribute a ≡ line_attribute (scope_of scope.now) (attribute_of attribute.now)) }
+    ensures { IfOk result (λ a. resolved_attribute a
+        ≡ line_attribute (scope_of scope.now) (attribute_of attribute.now)) }
 {
     let form = value(scope, &attribute.content);
     Ok(Attribute {
@@ -69,7 +78,8 @@ fn line_attributes<'a>(
 ) -> Result<Vec<Attribute>, Memory>
     requires scope { IsModestScope (scope_of scope.now) }
     requires attributes { AreModest (attributes_of attributes.now) }
-    ensures { IfOk result (λ done. resolved_attributes done.items ≡ line_attributes (scope_of scope.now) (attributes_of attributes.now)) }
+    ensures { IfOk result (λ done. resolved_attributes done.items
+        ≡ line_attributes (scope_of scope.now) (attributes_of attributes.now)) }
 {
     let mut done = Vec::new(alloc);
     for attribute in attributes {
@@ -94,6 +104,28 @@ fn line_part<'a>(
     Ok(LinePart { attributes, idents })
 }
 
+// What the lines of a boundary stand for, and what they have of their own.
+#[tactic(auto, using(crate::proofs::Modest::small_scope))]
+fn boundary<'a>(
+    alloc: Global,
+    scope: &Scope<'_, 'a>,
+    name: &Ident,
+    optional: bool,
+    line: &'a LineSyntax,
+) -> Result<(LineForm, LinePart), Memory>
+    requires scope { IsModestScope (scope_of scope.now) }
+    requires numbers { IsSmallLine (line_of line.now) }
+    requires names { line_names (line_of line.now) ≤ 4194304 }
+    ensures form { IfOk result (λ b. resolved_line b.0
+        ≡ line_form name.now.text optional (scope_of scope.now) (line_of line.now)) }
+    ensures part { IfOk result (λ b. part_of b.1
+        ≡ line_part (scope_of scope.now) (line_of line.now)) }
+{
+    let lines = line_form(alloc, scope, name, optional, line)?;
+    let part = line_part(alloc, scope, line)?;
+    Ok((lines, part))
+}
+
 // What the type of an attribute of that name stands for, in the scope where it is written.
 #[tactic(auto, using(crate::proofs::Modest::small_scope))]
 fn type_form<'a>(
@@ -105,7 +137,8 @@ fn type_form<'a>(
 ) -> Result<AttributeForm, Memory>
     requires scope { IsModestScope (scope_of scope.now) }
     requires kind { IsModest (type_of kind.now) }
-    ensures { IfOk result (λ f. resolved_content f ≡ type_form name.now.text optional (scope_of scope.now) (type_of kind.now)) }
+    ensures { IfOk result (λ f. resolved_content f
+        ≡ type_form name.now.text optional (scope_of scope.now) (type_of kind.now)) }
 {
     match kind {
         TypeSyntax::Polyline(line) => {
@@ -113,14 +146,12 @@ fn type_form<'a>(
             Ok(AttributeForm::Polyline(polyline))
         }
         TypeSyntax::Surface(line) => {
-            let boundary = line_form(alloc, scope, name, optional, line)?;
-            let part = line_part(alloc, scope, line)?;
-            Ok(AttributeForm::Surface(boundary, part))
+            let (lines, part) = boundary(alloc, scope, name, optional, line)?;
+            Ok(AttributeForm::Surface(lines, part))
         }
         TypeSyntax::Area(line) => {
-            let boundary = line_form(alloc, scope, name, optional, line)?;
-            let part = line_part(alloc, scope, line)?;
-            Ok(AttributeForm::Area(boundary, part))
+            let (lines, part) = boundary(alloc, scope, name, optional, line)?;
+            Ok(AttributeForm::Area(lines, part))
         }
         _ => Ok(AttributeForm::Value(form(kind))),
     }
@@ -140,7 +171,9 @@ fn meaning_form<'a>(
     requires scope { IsModestScope (scope_of scope.now) }
     requires outer { scope_of outer.now ≡ outside (scope_of scope.now).above }
     requires kind { IsModest (type_of meaning.kind.now) }
-    ensures { IfOk result (λ f. resolved_content f ≡ meaning_form name.now.text optional (Some (meaning_of (scope_of scope.now) meaning.entry))) }
+    ensures { IfOk result (λ f. resolved_content f
+        ≡ meaning_form name.now.text optional
+        (Some (meaning_of (scope_of scope.now) meaning.entry))) }
 {
     if meaning.here {
         type_form(alloc, scope, name, optional, meaning.kind)
@@ -161,7 +194,8 @@ fn content_form<'a>(
     requires scope { IsModestScope (scope_of scope.now) }
     requires outer { scope_of outer.now ≡ outside (scope_of scope.now).above }
     requires content { IsModestContent (content_of content.now) }
-    ensures { IfOk result (λ f. resolved_content f ≡ content_form (scope_of scope.now) name.now.text optional (content_of content.now)) }
+    ensures { IfOk result (λ f. resolved_content f
+        ≡ content_form (scope_of scope.now) name.now.text optional (content_of content.now)) }
 {
     match content {
         Content::Value(kind) => match meant(scope, kind) {
@@ -186,7 +220,8 @@ fn attribute<'a>(
     requires scope { IsModestScope (scope_of scope.now) }
     requires outer { scope_of outer.now ≡ outside (scope_of scope.now).above }
     requires written { IsModestAttribute (attribute_of written.now) }
-    ensures { IfOk result (λ a. resolved_attribute a ≡ attribute (scope_of scope.now) (attribute_of written.now)) }
+    ensures { IfOk result (λ a. resolved_attribute a
+        ≡ attribute (scope_of scope.now) (attribute_of written.now)) }
 {
     let (name, optional) = (&written.name, written.optional);
     let content = content_form(alloc, outer, scope, name, optional, &written.content)?;
@@ -208,7 +243,8 @@ pub fn attributes<'a>(
     requires scope { IsModestScope (scope_of scope.now) }
     requires outer { scope_of outer.now ≡ outside (scope_of scope.now).above }
     requires written { AreModest (attributes_of written.now) }
-    ensures { IfOk result (λ done. resolved_attributes done.items ≡ attributes (scope_of scope.now) (attributes_of written.now)) }
+    ensures { IfOk result (λ done. resolved_attributes done.items
+        ≡ attributes (scope_of scope.now) (attributes_of written.now)) }
 {
     let mut done = Vec::new(alloc);
     for each in written {

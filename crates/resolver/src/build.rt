@@ -3,18 +3,20 @@ ghost use Rattle.std.specs.Prelude.{◌≡◌, [], All, map, IfOk};
 ghost use Rattle.ili_grammar.specs.Limits.{IsWithinLimits};
 ghost use Rattle.ili_grammar.specs.Values.{model_of, table_of, tables_of, topic_of, topics_of};
 ghost use Rattle.resolver.specs.Levels.{domains_in, StepsFrom};
-ghost use Rattle.resolver.specs.Limits.{IsModestDomain, IsModestScope, IsModestTable, IsModestTopic};
+ghost use Rattle.resolver.specs.Limits.{IsModestDomain, IsModestScope, IsModestTable};
+ghost use Rattle.resolver.specs.Limits.{IsModestTopic};
 ghost use Rattle.resolver.specs.Scopes.{everywhere, outside};
 ghost use Rattle.resolver.specs.ScopeViews.{scope_of};
-ghost use Rattle.resolver.specs.Models.{table, topic, resolved_model};
-ghost use Rattle.resolver.specs.Values.{model_of as built_model, table_of as built_table, tables_of as built_tables, topic_of as built_topic, topics_of as built_topics};
+ghost use Rattle.resolver.specs.Models.{table, topic, topic_in, resolved_model};
+ghost use Rattle.resolver.specs.Values.{model_of as built_model, table_of as built_table};
+ghost use Rattle.resolver.specs.Values.{tables_of as built_tables, topic_of as built_topic};
+ghost use Rattle.resolver.specs.Values.{topics_of as built_topics};
 
 use super::attributes::{attributes, ident_places};
-use super::directory::Directory;
 use super::level::Level;
 use super::models::{ModelTable, ResolvedModel, Topic};
 use super::scope::Scope;
-use super::topics::{push_domains, table_names};
+use super::topics::{own_level, table_directory};
 use ili_grammar::{ModelSyntax, TableSyntax, TopicSyntax};
 use ports::{Memory, Name};
 use std::alloc::Global;
@@ -48,13 +50,33 @@ fn tables<'a>(
     requires scope { IsModestScope (scope_of scope.now) }
     requires outer { scope_of outer.now ≡ outside (scope_of scope.now).above }
     requires written { All IsModestTable (tables_of written.now) }
-    ensures { IfOk result (λ ts. built_tables ts.items ≡ map (table (scope_of scope.now)) (tables_of written.now)) }
+    ensures { IfOk result (λ ts. built_tables ts.items
+        ≡ map (table (scope_of scope.now)) (tables_of written.now)) }
 {
     let mut done = Vec::new(alloc);
     for each in written {
         done.push(table(alloc, outer, scope, each)?)?;
     }
     Ok(done)
+}
+
+// What a topic stands for in its scope, where `outer` is the scope of the domains outside.
+fn topic_in<'a>(
+    alloc: Global,
+    outer: &Scope<'_, 'a>,
+    scope: &Scope<'_, 'a>,
+    written: &'a TopicSyntax,
+) -> Result<Topic, Memory>
+    requires scope { IsModestScope (scope_of scope.now) }
+    requires outer { scope_of outer.now ≡ outside (scope_of scope.now).above }
+    requires written { IsModestTopic (topic_of written.now) }
+    ensures { IfOk result (λ t. built_topic t
+        ≡ topic_in (scope_of scope.now) (topic_of written.now)) }
+{
+    Ok(Topic {
+        name: Name::new(alloc, written.name.text.bytes())?,
+        tables: tables(alloc, outer, scope, &written.tables)?,
+    })
 }
 
 // What a topic stands for, where the domains of `above` are declared outside, and `outer` is
@@ -69,22 +91,17 @@ fn topic<'a>(
     requires above { All IsModestDomain (domains_in above.now) }
     requires outer { scope_of outer.now ≡ outside (domains_in above.now) }
     requires written { IsModestTopic (topic_of written.now) }
-    ensures { IfOk result (λ t. built_topic t ≡ topic (domains_in above.now) (topic_of written.now)) }
+    ensures { IfOk result
+        (λ t. built_topic t ≡ topic (domains_in above.now) (topic_of written.now)) }
 {
-    let mut domains = Vec::new(alloc);
-    push_domains(&written.domains, &mut domains)?;
-    let own = Level::new(alloc, above.names(), domains)?;
-    let directory = Directory::new(alloc, table_names(alloc, &written.tables)?)?;
+    let own = own_level(alloc, above, &written.domains)?;
+    let directory = table_directory(alloc, &written.tables)?;
     let scope = Scope {
         above,
         own: &own,
         tables: &directory,
     };
-    let tables = tables(alloc, outer, &scope, &written.tables)?;
-    Ok(Topic {
-        name: Name::new(alloc, written.name.text.bytes())?,
-        tables,
-    })
+    topic_in(alloc, outer, &scope, written)
 }
 
 // What the topics of a model stand for.
@@ -98,7 +115,8 @@ fn topics<'a>(
     requires above { All IsModestDomain (domains_in above.now) }
     requires outer { scope_of outer.now ≡ outside (domains_in above.now) }
     requires written { All IsModestTopic (topics_of written.now) }
-    ensures { IfOk result (λ ts. built_topics ts.items ≡ map (topic (domains_in above.now)) (topics_of written.now)) }
+    ensures { IfOk result (λ ts. built_topics ts.items
+        ≡ map (topic (domains_in above.now)) (topics_of written.now)) }
 {
     let mut done = Vec::new(alloc);
     for each in written {
@@ -116,14 +134,14 @@ fn topics_within<'a>(
     requires steps { StepsFrom [] above.now }
     requires above { All IsModestDomain (domains_in above.now) }
     requires written { All IsModestTopic (topics_of written.now) }
-    ensures { IfOk result (λ ts. built_topics ts.items ≡ map (topic (domains_in above.now)) (topics_of written.now)) }
+    ensures { IfOk result (λ ts. built_topics ts.items
+        ≡ map (topic (domains_in above.now)) (topics_of written.now)) }
 {
-    let none = Directory::new(alloc, Vec::new(alloc))?;
-    let nothing = Level::new(alloc, &none, Vec::new(alloc))?;
+    let nothing = Level::empty(alloc)?;
     let outer = Scope {
         above: &nothing,
         own: above,
-        tables: &none,
+        tables: nothing.names(),
     };
     topics(alloc, &outer, above, written)
 }

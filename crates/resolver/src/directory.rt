@@ -81,14 +81,16 @@ impl<'a> Directory<'a> {
     // Whether a name of `above` or one of the first names here has these bytes.
     #[tactic(auto, using(crate::proofs::Indexes::any_append))]
     fn stands_before(&self, above: &Directory<'a>, name: &[u8], end: usize) -> bool
-        ensures { result ≡ is_among name.now (texts (names_in above.now) ++ take end (texts (names_in self.now))) }
+        ensures { result ≡ is_among name.now
+            (texts (names_in above.now) ++ take end (texts (names_in self.now))) }
     {
         above.has(name) || self.has_before(name, end)
     }
 
     /// Tells each name that stands among those of `above` or among the names before it.
     pub fn tell_twice(&self, above: &Directory<'a>, earliest: &mut Earliest<'a>)
-        ensures { told earliest.new ≡ first_from (told earliest.old) (twice (texts (names_in above.now)) (map entry (names_in self.now))) }
+        ensures { told earliest.new ≡ first_from (told earliest.old)
+            (twice (texts (names_in above.now)) (map entry (names_in self.now))) }
     {
         for (place, name) in self.names.iter().enumerate() {
             let again = self.stands_before(above, name.text.bytes(), place);

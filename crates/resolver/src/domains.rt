@@ -26,7 +26,9 @@ fn tell_domain<'a>(
 ) -> Result<(), Memory>
     requires scope { IsSmallScope (scope_of scope.now) }
     requires domain { IsSmallDomain (domain_of domain.now) }
-    ensures { OnOk result (told earliest.new ≡ first_from (told earliest.old) (domain_faults (scope_of scope.now) (domain_of domain.now))) }
+    ensures { OnOk result (told earliest.new
+        ≡ first_from (told earliest.old)
+        (domain_faults (scope_of scope.now) (domain_of domain.now))) }
 {
     tell_type(&domain.kind, &domain.name, alloc, scope, earliest)
 }
@@ -40,7 +42,9 @@ fn tell_types<'a>(
 ) -> Result<(), Memory>
     requires scope { IsSmallScope (scope_of scope.now) }
     requires domains { All IsSmallDomain (domains_at domains.now) }
-    ensures { OnOk result (told earliest.new ≡ first_from (told earliest.old) (flat_map (domain_faults (scope_of scope.now)) (domains_at domains.now))) }
+    ensures { OnOk result (told earliest.new
+        ≡ first_from (told earliest.old)
+        (flat_map (domain_faults (scope_of scope.now)) (domains_at domains.now))) }
 {
     for domain in domains {
         tell_domain(alloc, scope, domain, earliest)?;
@@ -56,7 +60,8 @@ pub fn tell_domains<'a>(
 ) -> Result<(), Memory>
     requires scope { IsSmallScope (scope_of scope.now) }
     requires few { length (domains_in scope.now.own.now) ≤ 4194304 }
-    ensures { OnOk result (told earliest.new ≡ first_from (told earliest.old) (domains_faults (scope_of scope.now))) }
+    ensures { OnOk result (told earliest.new
+        ≡ first_from (told earliest.old) (domains_faults (scope_of scope.now))) }
 {
     scope.own.names().tell_twice(scope.above.names(), earliest);
     scope.own.tell_cycles(alloc, earliest)?;

@@ -69,7 +69,8 @@ impl<'a> Earliest<'a> {
 
     /// Tells a fault at a name, if the rule is broken there.
     pub fn tell(&mut self, broken: bool, code: ModelCode, name: &'a Ident)
-        ensures { told self.new ≡ first_from (told self.old) (fault_if broken code (ident_of name.now)) }
+        ensures { told self.new ≡ first_from (told self.old)
+            (fault_if broken code (ident_of name.now)) }
     {
         if !broken {
             return;

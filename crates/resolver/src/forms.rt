@@ -65,7 +65,8 @@ fn range(span: Span) -> Limits
 /// Where coordinates of two axes may lie.
 pub fn window(corners: Corners2) -> Window
     requires { IsSmallSpan (corners2_of corners).x × IsSmallSpan (corners2_of corners).y }
-    ensures { window_of result ≡ window (scale_of (Coord2 (corners2_of corners))) (corners2_of corners) }
+    ensures { window_of result ≡ window (scale_of (Coord2 (corners2_of corners)))
+        (corners2_of corners) }
 {
     let scale = scale2(corners);
     Window {
@@ -76,8 +77,10 @@ pub fn window(corners: Corners2) -> Window
 
 /// Where coordinates of three axes may lie.
 pub fn block(corners: Corners3) -> Block
-    requires { IsSmallSpan (corners3_of corners).x × IsSmallSpan (corners3_of corners).y × IsSmallSpan (corners3_of corners).z }
-    ensures { block_of result ≡ block (scale_of (Coord3 (corners3_of corners))) (corners3_of corners) }
+    requires { IsSmallSpan (corners3_of corners).x × IsSmallSpan (corners3_of corners).y
+        × IsSmallSpan (corners3_of corners).z }
+    ensures { block_of result ≡ block (scale_of (Coord3 (corners3_of corners)))
+        (corners3_of corners) }
 {
     let scale = scale3(corners);
     Block {

@@ -1,7 +1,8 @@
 // The names of tables and of the helper tables that boundaries give them.
 ghost use Rattle.std.specs.Prelude.{◌≡◌, [], ◌∷◌, ◌++◌, List, flat_map, IfOk, OnOk};
 ghost use Rattle.indexmap.specs.IndexSet.{keys};
-ghost use Rattle.ili_grammar.specs.Values.{ident_of, attribute_of, attributes_of, table_of, tables_of};
+ghost use Rattle.ili_grammar.specs.Values.{ident_of, attribute_of, attributes_of, table_of};
+ghost use Rattle.ili_grammar.specs.Values.{tables_of};
 ghost use Rattle.resolver.specs.Faults.{first_from};
 ghost use Rattle.resolver.specs.Told.{told};
 ghost use Rattle.resolver.specs.ScopeViews.{scope_of};
@@ -34,7 +35,10 @@ fn tell_key<'a>(
     name: &'a Ident,
     earliest: &mut Earliest<'a>,
 ) -> Result<(), Memory>
-    ensures { OnOk result ((rest : List Entry) → first_from (told earliest.new) (twice (keys names.new) rest) ≡ first_from (told earliest.old) (twice (keys names.old) (record { key = key; name = ident_of name.now } ∷ rest))) }
+    ensures { OnOk result ((rest : List Entry)
+        → first_from (told earliest.new) (twice (keys names.new) rest)
+        ≡ first_from (told earliest.old)
+        (twice (keys names.old) (record { key = key; name = ident_of name.now } ∷ rest))) }
 {
     let new = names.insert(key)?;
     earliest.tell(!new, ModelCode::Twice, name);
@@ -51,7 +55,11 @@ fn tell_helper<'a>(
     names: &mut IndexSet<Name>,
     earliest: &mut Earliest<'a>,
 ) -> Result<(), Memory>
-    ensures { OnOk result ((rest : List Entry) → first_from (told earliest.new) (twice (keys names.new) rest) ≡ first_from (told earliest.old) (twice (keys names.old) (helper (scope_of scope.now) table.now.text (attribute_of attribute.now) ++ rest))) }
+    ensures { OnOk result ((rest : List Entry)
+        → first_from (told earliest.new) (twice (keys names.new) rest)
+        ≡ first_from (told earliest.old)
+        (twice (keys names.old) (helper (scope_of scope.now) table.now.text
+        (attribute_of attribute.now) ++ rest))) }
 {
     if !stands_for_boundary(scope, &attribute.content) {
         return Ok(());
@@ -68,7 +76,11 @@ fn tell_helpers<'a>(
     names: &mut IndexSet<Name>,
     earliest: &mut Earliest<'a>,
 ) -> Result<(), Memory>
-    ensures { OnOk result ((rest : List Entry) → first_from (told earliest.new) (twice (keys names.new) rest) ≡ first_from (told earliest.old) (twice (keys names.old) (helpers (scope_of scope.now) table.now.name.text (attributes_of table.now.attributes.items) ++ rest))) }
+    ensures { OnOk result ((rest : List Entry)
+        → first_from (told earliest.new) (twice (keys names.new) rest)
+        ≡ first_from (told earliest.old)
+        (twice (keys names.old) (helpers (scope_of scope.now) table.now.name.text
+        (attributes_of table.now.attributes.items) ++ rest))) }
 {
     for attribute in &table.attributes {
         tell_helper(alloc, scope, &table.name, attribute, names, earliest)?;
@@ -85,7 +97,11 @@ fn tell_table_name<'a>(
     names: &mut IndexSet<Name>,
     earliest: &mut Earliest<'a>,
 ) -> Result<(), Memory>
-    ensures { OnOk result ((rest : List Entry) → first_from (told earliest.new) (twice (keys names.new) rest) ≡ first_from (told earliest.old) (twice (keys names.old) (table_entries (scope_of scope.now) (table_of table.now) ++ rest))) }
+    ensures { OnOk result ((rest : List Entry)
+        → first_from (told earliest.new) (twice (keys names.new) rest)
+        ≡ first_from (told earliest.old)
+        (twice (keys names.old)
+        (table_entries (scope_of scope.now) (table_of table.now) ++ rest))) }
 {
     let key = Name::new(alloc, table.name.text.bytes())?;
     tell_key(names, key, &table.name, earliest)?;
@@ -99,7 +115,9 @@ pub fn tell_table_names<'a>(
     tables: &'a [TableSyntax],
     earliest: &mut Earliest<'a>,
 ) -> Result<(), Memory>
-    ensures { OnOk result (told earliest.new ≡ first_from (told earliest.old) (twice [] (flat_map (table_entries (scope_of scope.now)) (tables_of tables.now)))) }
+    ensures { OnOk result (told earliest.new
+        ≡ first_from (told earliest.old)
+        (twice [] (flat_map (table_entries (scope_of scope.now)) (tables_of tables.now)))) }
 {
     let mut names = IndexSet::new(alloc);
     for table in tables {

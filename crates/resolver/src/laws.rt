@@ -12,6 +12,7 @@ ghost use Rattle.resolver.specs.Standing.{IsModel};
 /// what is there, bounds are kept exactly and in order, vertices have coordinates. What is
 /// written stands for one model at most.
 pub fn stands_for_what_is_written()
-    ensures kept { (m : ModelSyntax) → first_fault m ≡ None → IsWithinLimits m → IsModel m (resolved_model m) }
+    ensures kept { (m : ModelSyntax) → first_fault m ≡ None → IsWithinLimits m
+        → IsModel m (resolved_model m) }
     ensures only { (m : ModelSyntax) (a b : ResolvedModel) → IsModel m a → IsModel m b → a ≡ b }
 {}

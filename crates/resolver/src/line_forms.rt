@@ -3,11 +3,13 @@ ghost use Rattle.std.specs.Prelude.{◌≡◌, ◌≤◌, IfOk};
 ghost use Rattle.std.specs.Option.{option_map};
 ghost use Rattle.ili_grammar.specs.Syntax.{Coord3, Date};
 ghost use Rattle.ili_grammar.specs.Limits.{IsSmall, IsSmallSpan, IsSmallType, IsSmallLine};
-ghost use Rattle.ili_grammar.specs.Values.{decimal_of, corners3_of, type_of, line_of as written_line};
+ghost use Rattle.ili_grammar.specs.Values.{decimal_of, corners3_of, type_of};
+ghost use Rattle.ili_grammar.specs.Values.{line_of as written_line};
 ghost use Rattle.resolver.specs.Limits.{IsSmallScope, IsSmallOverlap};
 ghost use Rattle.resolver.specs.Scopes.{meaning};
 ghost use Rattle.resolver.specs.ScopeViews.{scope_of};
-ghost use Rattle.resolver.specs.Models.{window_in, heights_in, vertex_scale, vertex_kind, overlap_at, line_form};
+ghost use Rattle.resolver.specs.Models.{window_in, heights_in, vertex_scale, vertex_kind};
+ghost use Rattle.resolver.specs.Models.{overlap_at, line_form};
 ghost use Rattle.resolver.specs.Values.{limits_of, window_of, line_of};
 
 use super::forms::{block, bound, no_limits, window};
@@ -29,9 +31,11 @@ struct Vertices {
 
 // Vertices of three axes.
 fn vertices_in_space(corners: Corners3) -> Vertices
-    requires { IsSmallSpan (corners3_of corners).x × IsSmallSpan (corners3_of corners).y × IsSmallSpan (corners3_of corners).z }
+    requires { IsSmallSpan (corners3_of corners).x × IsSmallSpan (corners3_of corners).y
+        × IsSmallSpan (corners3_of corners).z }
     ensures window { window_of result.window ≡ window_in (Coord3 (corners3_of corners)) }
-    ensures heights { option_map limits_of result.heights ≡ heights_in (Coord3 (corners3_of corners)) }
+    ensures heights { option_map limits_of result.heights
+        ≡ heights_in (Coord3 (corners3_of corners)) }
     ensures scale { result.scale ≡ vertex_scale (Coord3 (corners3_of corners)) }
 {
     let scale = scale3(corners);
@@ -83,9 +87,12 @@ fn vertices_nowhere() -> Vertices
 // Vertices of the type for which a name stands.
 fn vertices_of(scope: &Scope<'_, '_>, vertex: &Ident) -> Vertices
     requires { IsSmallScope (scope_of scope.now) }
-    ensures window { window_of result.window ≡ window_in (vertex_kind (meaning (scope_of scope.now) vertex.now.text)) }
-    ensures heights { option_map limits_of result.heights ≡ heights_in (vertex_kind (meaning (scope_of scope.now) vertex.now.text)) }
-    ensures scale { result.scale ≡ vertex_scale (vertex_kind (meaning (scope_of scope.now) vertex.now.text)) }
+    ensures window { window_of result.window
+        ≡ window_in (vertex_kind (meaning (scope_of scope.now) vertex.now.text)) }
+    ensures heights { option_map limits_of result.heights
+        ≡ heights_in (vertex_kind (meaning (scope_of scope.now) vertex.now.text)) }
+    ensures scale { result.scale ≡ vertex_scale
+        (vertex_kind (meaning (scope_of scope.now) vertex.now.text)) }
 {
     match scope.meaning(vertex.text.bytes()) {
         Some(meaning) => vertices_in(meaning.kind),
@@ -127,7 +134,8 @@ pub fn line_form(
 ) -> Result<LineForm, Memory>
     requires scope { IsSmallScope (scope_of scope.now) }
     requires line { IsSmallLine (written_line line.now) }
-    ensures { IfOk result (λ f. line_of f ≡ line_form name.now.text optional (scope_of scope.now) (written_line line.now)) }
+    ensures { IfOk result (λ f. line_of f
+        ≡ line_form name.now.text optional (scope_of scope.now) (written_line line.now)) }
 {
     let vertices = vertices_of(scope, &line.vertex);
     let overlap = overlap(line.overlap, vertices.scale);

@@ -3,7 +3,8 @@ ghost use Rattle.std.specs.Prelude.{◌≡◌, ◌≤◌, if◌then◌else◌, S
 ghost use Rattle.std.specs.Option.{option_map};
 ghost use Rattle.ili_grammar.specs.Values.{decimal_of, type_of, content_of};
 ghost use Rattle.resolver.specs.Numbers.{scale_of};
-ghost use Rattle.resolver.specs.Lines.{is_area, is_coord, suits, is_long_overlap, is_line, is_boundary, stands_for};
+ghost use Rattle.resolver.specs.Lines.{is_area, is_coord, suits, is_long_overlap, is_line};
+ghost use Rattle.resolver.specs.Lines.{is_boundary, stands_for};
 ghost use Rattle.ili_grammar.specs.Limits.{IsSmallType};
 ghost use Rattle.resolver.specs.Limits.{IsSmallOverlap};
 ghost use Rattle.resolver.specs.ScopeViews.{scope_of};
@@ -47,7 +48,8 @@ pub fn suits(shape: Shape, kind: &TypeSyntax) -> bool
 /// The scale of coordinates, if a type is some.
 pub fn coord_scale(kind: &TypeSyntax) -> Option<u8>
     requires { IsSmallType (type_of kind.now) }
-    ensures value { result ≡ (if is_coord (type_of kind.now) then Some (scale_of (type_of kind.now)) else None) }
+    ensures value { result ≡ (if is_coord (type_of kind.now) then Some (scale_of (type_of kind.now))
+        else None) }
     ensures most { IfSome result (λ scale. scale ≤ 9) }
 {
     match kind {

@@ -1,13 +1,16 @@
 // The rules on names: of domains and tables, of attributes, of elements, and in IDENT lists.
 ghost use Rattle.std.specs.Prelude.{◌≡◌, flat_map, IfOk, OnOk};
-ghost use Rattle.ili_grammar.specs.Values.{ident_of, names_of, lists_of, element_of, elements_of, attributes_of, content_of};
+ghost use Rattle.ili_grammar.specs.Values.{ident_of, names_of, lists_of, element_of, elements_of};
+ghost use Rattle.ili_grammar.specs.Values.{attributes_of, content_of};
 ghost use Rattle.resolver.specs.Faults.{first_from};
 ghost use Rattle.resolver.specs.Told.{told};
 ghost use Rattle.resolver.specs.Indexed.{idents};
 ghost use Rattle.resolver.specs.Directories.{names_in};
 ghost use Rattle.resolver.specs.Scopes.{texts};
 ghost use Rattle.resolver.specs.ScopeViews.{scope_of};
-ghost use Rattle.resolver.specs.Rules.{type_name_faults, reference_faults, twice_in, element_names, attribute_names, no_attribute, list_faults, lists_faults, names_faults};
+ghost use Rattle.resolver.specs.Rules.{type_name_faults, reference_faults, twice_in, element_names};
+ghost use Rattle.resolver.specs.Rules.{attribute_names, no_attribute, list_faults, lists_faults};
+ghost use Rattle.resolver.specs.Rules.{names_faults};
 
 use super::directory::Directory;
 use super::earliest::Earliest;
@@ -19,7 +22,8 @@ use std::alloc::Global;
 
 /// Tells a name of a domain that is not visible.
 pub fn tell_type_name<'a>(scope: &Scope<'_, 'a>, name: &'a Ident, earliest: &mut Earliest<'a>)
-    ensures { told earliest.new ≡ first_from (told earliest.old) (type_name_faults (scope_of scope.now) (ident_of name.now)) }
+    ensures { told earliest.new ≡ first_from (told earliest.old)
+        (type_name_faults (scope_of scope.now) (ident_of name.now)) }
 {
     let visible = scope.is_visible(name.text.bytes());
     earliest.tell(!visible, ModelCode::Unknown, name);
@@ -27,7 +31,8 @@ pub fn tell_type_name<'a>(scope: &Scope<'_, 'a>, name: &'a Ident, earliest: &mut
 
 /// Tells a reference that names no table.
 pub fn tell_reference<'a>(scope: &Scope<'_, 'a>, name: &'a Ident, earliest: &mut Earliest<'a>)
-    ensures { told earliest.new ≡ first_from (told earliest.old) (reference_faults (scope_of scope.now) (ident_of name.now)) }
+    ensures { told earliest.new ≡ first_from (told earliest.old)
+        (reference_faults (scope_of scope.now) (ident_of name.now)) }
 {
     if scope.tables.has(name.text.bytes()) {
         return;
@@ -45,7 +50,8 @@ pub fn attribute_names<'a>(
     alloc: Global,
     attributes: &'a [AttributeSyntax],
 ) -> Result<Vec<&'a Ident>, Memory>
-    ensures { IfOk result (λ names. idents names.items ≡ attribute_names (attributes_of attributes.now)) }
+    ensures { IfOk result (λ names. idents names.items
+        ≡ attribute_names (attributes_of attributes.now)) }
 {
     let mut names = Vec::new(alloc);
     for attribute in attributes {
@@ -82,7 +88,8 @@ pub fn tell_twice<'a>(
     names: Vec<&'a Ident>,
     earliest: &mut Earliest<'a>,
 ) -> Result<Directory<'a>, Memory>
-    ensures told { OnOk result (told earliest.new ≡ first_from (told earliest.old) (twice_in (idents names.entry.items))) }
+    ensures told { OnOk result (told earliest.new
+        ≡ first_from (told earliest.old) (twice_in (idents names.entry.items))) }
     ensures names { IfOk result (λ d. names_in d ≡ idents names.entry.items) }
 {
     let none = Directory::new(alloc, Vec::new(alloc))?;
@@ -97,16 +104,32 @@ pub fn tell_elements<'a>(
     elements: &'a [Element],
     earliest: &mut Earliest<'a>,
 ) -> Result<(), Memory>
-    ensures { OnOk result (told earliest.new ≡ first_from (told earliest.old) (twice_in (element_names (elements_of elements.now)))) }
+    ensures { OnOk result (told earliest.new
+        ≡ first_from (told earliest.old) (twice_in (element_names (elements_of elements.now)))) }
 {
     let names = element_names(alloc, elements)?;
     tell_twice(alloc, names, earliest)?;
     Ok(())
 }
 
+// Tells each attribute that has the name of an earlier one.
+fn tell_attribute_names<'a>(
+    alloc: Global,
+    attributes: &'a [AttributeSyntax],
+    earliest: &mut Earliest<'a>,
+) -> Result<Directory<'a>, Memory>
+    ensures told { OnOk result (told earliest.new ≡ first_from (told earliest.old)
+        (twice_in (attribute_names (attributes_of attributes.now)))) }
+    ensures names { IfOk result (λ d. names_in d ≡ attribute_names (attributes_of attributes.now)) }
+{
+    let names = attribute_names(alloc, attributes)?;
+    tell_twice(alloc, names, earliest)
+}
+
 // Tells a name of an IDENT list that is no attribute.
 fn tell_no_attribute<'a>(attributes: &Directory<'a>, name: &'a Ident, earliest: &mut Earliest<'a>)
-    ensures { told earliest.new ≡ first_from (told earliest.old) (no_attribute (texts (names_in attributes.now)) (ident_of name.now)) }
+    ensures { told earliest.new ≡ first_from (told earliest.old)
+        (no_attribute (texts (names_in attributes.now)) (ident_of name.now)) }
 {
     let there = attributes.has(name.text.bytes());
     earliest.tell(!there, ModelCode::IdentUnknown, name);
@@ -118,7 +141,8 @@ fn tell_no_attributes<'a>(
     list: &'a IdentList,
     earliest: &mut Earliest<'a>,
 )
-    ensures { told earliest.new ≡ first_from (told earliest.old) (flat_map (no_attribute (texts (names_in attributes.now))) (names_of list.now)) }
+    ensures { told earliest.new ≡ first_from (told earliest.old)
+        (flat_map (no_attribute (texts (names_in attributes.now))) (names_of list.now)) }
 {
     for name in &list.names {
         tell_no_attribute(attributes, name, earliest);
@@ -133,7 +157,9 @@ fn tell_list<'a>(
     list: &'a IdentList,
     earliest: &mut Earliest<'a>,
 ) -> Result<(), Memory>
-    ensures { OnOk result (told earliest.new ≡ first_from (told earliest.old) (list_faults (texts (names_in attributes.now)) (names_of list.now))) }
+    ensures { OnOk result (told earliest.new
+        ≡ first_from (told earliest.old)
+        (list_faults (texts (names_in attributes.now)) (names_of list.now))) }
 {
     let names = listed_names(alloc, list)?;
     tell_twice(alloc, names, earliest)?;
@@ -148,7 +174,9 @@ fn tell_lists<'a>(
     lists: &'a [IdentList],
     earliest: &mut Earliest<'a>,
 ) -> Result<(), Memory>
-    ensures { OnOk result (told earliest.new ≡ first_from (told earliest.old) (lists_faults (texts (names_in attributes.now)) (lists_of lists.now))) }
+    ensures { OnOk result (told earliest.new
+        ≡ first_from (told earliest.old)
+        (lists_faults (texts (names_in attributes.now)) (lists_of lists.now))) }
 {
     for list in lists {
         tell_list(alloc, attributes, list, earliest)?;
@@ -165,10 +193,10 @@ pub fn tell_names<'a>(
     lists: &'a [IdentList],
     earliest: &mut Earliest<'a>,
 ) -> Result<(), Memory>
-    ensures { OnOk result (told earliest.new ≡ first_from (told earliest.old) (names_faults (attributes_of attributes.now) (lists_of lists.now))) }
+    ensures { OnOk result (told earliest.new
+        ≡ first_from (told earliest.old)
+        (names_faults (attributes_of attributes.now) (lists_of lists.now))) }
 {
-    let names = attribute_names(alloc, attributes)?;
-    let directory = tell_twice(alloc, names, earliest)?;
-    tell_lists(alloc, &directory, lists, earliest)?;
-    Ok(())
+    let names = tell_attribute_names(alloc, attributes, earliest)?;
+    tell_lists(alloc, &names, lists, earliest)
 }

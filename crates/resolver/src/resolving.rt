@@ -47,14 +47,14 @@ fn tell_outside<'a>(
     requires steps { StepsFrom [] own.now }
     requires small { All IsSmallDomain (domains_in own.now) }
     requires few { AreFew (domains_in own.now) }
-    ensures { OnOk result (told earliest.new ≡ first_from (told earliest.old) (domains_faults (outside (domains_in own.now)))) }
+    ensures { OnOk result (told earliest.new
+        ≡ first_from (told earliest.old) (domains_faults (outside (domains_in own.now)))) }
 {
-    let tables = Directory::new(alloc, Vec::new(alloc))?;
-    let above = Level::new(alloc, &tables, Vec::new(alloc))?;
+    let nothing = Level::empty(alloc)?;
     let scope = Scope {
-        above: &above,
+        above: &nothing,
         own,
-        tables: &tables,
+        tables: nothing.names(),
     };
     tell_domains(alloc, &scope, earliest)
 }
@@ -103,7 +103,8 @@ fn resolve_within<'a>(
     requires within { IsWithinLimits (model_of syntax.now) }
     requires steps { StepsFrom [] above.now }
     requires domains { domains_in above.now ≡ everywhere (model_of syntax.now) }
-    ensures model { IfOk result (λ m. (first_fault (model_of syntax.now) ≡ None) × (built_model m ≡ resolved_model (model_of syntax.now))) }
+    ensures model { IfOk result (λ m. (first_fault (model_of syntax.now) ≡ None)
+        × (built_model m ≡ resolved_model (model_of syntax.now))) }
     ensures fault { IfErr result (λ f. Names f (first_fault (model_of syntax.now))) }
 {
     match first_fault(alloc, above, syntax) {
@@ -124,7 +125,8 @@ fn resolve_within<'a>(
 /// text, and the name at which it is; or it is want of memory.
 pub fn resolve(alloc: Global, syntax: &ModelSyntax) -> Result<ResolvedModel, ModelFault>
     requires { IsWithinLimits (model_of syntax.now) }
-    ensures model { IfOk result (λ m. (first_fault (model_of syntax.now) ≡ None) × (built_model m ≡ resolved_model (model_of syntax.now))) }
+    ensures model { IfOk result (λ m. (first_fault (model_of syntax.now) ≡ None)
+        × (built_model m ≡ resolved_model (model_of syntax.now))) }
     ensures sound { IfOk result (λ m. IsSound (built_model m)) }
     ensures fault { IfErr result (λ f. Names f (first_fault (model_of syntax.now))) }
 {

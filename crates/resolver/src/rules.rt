@@ -1,19 +1,24 @@
 // The rules on types: of a domain, of an attribute, and of the attributes of a line.
 ghost use Rattle.std.specs.Prelude.{◌≡◌, ◌++◌, OnOk};
 ghost use Rattle.std.specs.Option.{option_map};
-ghost use Rattle.ili_grammar.specs.Values.{ident_of, decimal_of, element_of, elements_of, type_of, line_of, attribute_of, attributes_of};
+ghost use Rattle.ili_grammar.specs.Values.{ident_of, decimal_of, element_of, elements_of, type_of};
+ghost use Rattle.ili_grammar.specs.Values.{line_of, attribute_of, attributes_of};
 ghost use Rattle.resolver.specs.Faults.{first_from};
 ghost use Rattle.resolver.specs.Told.{told};
 ghost use Rattle.resolver.specs.ScopeViews.{scope_of};
-ghost use Rattle.ili_grammar.specs.Limits.{IsSmallType, IsSmallLine, IsSmallAttribute, AreSmallAttributes};
+ghost use Rattle.ili_grammar.specs.Limits.{IsSmallType, IsSmallLine, IsSmallAttribute};
+ghost use Rattle.ili_grammar.specs.Limits.{AreSmallAttributes};
 ghost use Rattle.resolver.specs.Limits.{IsSmallOverlap, IsSmallScope};
-ghost use Rattle.resolver.specs.Rules.{kind_faults, vertex_faults, element_names, twice_in, element_faults, parts_faults, line_attribute_fault, line_attribute_faults, type_faults, line_faults, attribute_faults};
+ghost use Rattle.resolver.specs.Rules.{kind_faults, vertex_faults, element_names, twice_in};
+ghost use Rattle.resolver.specs.Rules.{element_faults, parts_faults, line_attribute_fault};
+ghost use Rattle.resolver.specs.Rules.{line_attribute_faults, type_faults, line_faults};
+ghost use Rattle.resolver.specs.Rules.{attribute_faults};
 
 use super::earliest::Earliest;
 use super::faults::ModelCode;
 use super::lines::{is_long_overlap, stands_for_line, suits};
 use super::names::{tell_elements, tell_names, tell_reference, tell_type_name};
-use super::numbers::{is_text_length, is_wide, tell_corners2, tell_corners3, tell_span};
+use super::numbers::{is_text_length, is_wide, tell_numbers};
 use super::scope::Scope;
 use super::shape::Shape;
 use ili_grammar::{AttributeSyntax, Content, Decimal, Element, Ident, LineSyntax, TypeSyntax};
@@ -32,7 +37,9 @@ fn tell_kind<'a>(
 )
     requires kind { IsSmallType (type_of kind.now) }
     requires overlap { IsSmallOverlap (option_map decimal_of overlap) }
-    ensures { told earliest.new ≡ first_from (told earliest.old) (kind_faults (ident_of owner.now) shape (ident_of vertex.now) (option_map decimal_of overlap) (type_of kind.now)) }
+    ensures { told earliest.new ≡ first_from (told earliest.old)
+        (kind_faults (ident_of owner.now) shape (ident_of vertex.now)
+        (option_map decimal_of overlap) (type_of kind.now)) }
 {
     earliest.tell(is_long_overlap(overlap, kind), ModelCode::Decimals, owner);
     earliest.tell(!suits(shape, kind), ModelCode::NotCoord, vertex);
@@ -52,7 +59,9 @@ fn tell_vertex<'a>(
 )
     requires scope { IsSmallScope (scope_of scope.now) }
     requires overlap { IsSmallOverlap (option_map decimal_of overlap) }
-    ensures { told earliest.new ≡ first_from (told earliest.old) (vertex_faults (scope_of scope.now) (ident_of owner.now) shape (ident_of vertex.now) (option_map decimal_of overlap)) }
+    ensures { told earliest.new ≡ first_from (told earliest.old)
+        (vertex_faults (scope_of scope.now) (ident_of owner.now) shape (ident_of vertex.now)
+        (option_map decimal_of overlap)) }
 {
     tell_type_name(scope, vertex, earliest);
     match scope.meaning(vertex.text.bytes()) {
@@ -68,7 +77,8 @@ fn tell_line_attribute<'a>(
     attribute: &'a AttributeSyntax,
     earliest: &mut Earliest<'a>,
 )
-    ensures { told earliest.new ≡ first_from (told earliest.old) (line_attribute_fault (scope_of scope.now) (attribute_of attribute.now)) }
+    ensures { told earliest.new ≡ first_from (told earliest.old)
+        (line_attribute_fault (scope_of scope.now) (attribute_of attribute.now)) }
 {
     let line = stands_for_line(scope, &attribute.content);
     earliest.tell(line, ModelCode::LineAttr, &attribute.name);
@@ -80,7 +90,8 @@ fn tell_line_attributes<'a>(
     attributes: &'a [AttributeSyntax],
     earliest: &mut Earliest<'a>,
 )
-    ensures { told earliest.new ≡ first_from (told earliest.old) (line_attribute_faults (scope_of scope.now) (attributes_of attributes.now)) }
+    ensures { told earliest.new ≡ first_from (told earliest.old)
+        (line_attribute_faults (scope_of scope.now) (attributes_of attributes.now)) }
 {
     for attribute in attributes {
         tell_line_attribute(scope, attribute, earliest);
@@ -93,7 +104,8 @@ fn tell_parts<'a>(
     alloc: Global,
     earliest: &mut Earliest<'a>,
 ) -> Result<(), Memory>
-    ensures { OnOk result (told earliest.new ≡ first_from (told earliest.old) (element_faults (element_of element.now))) }
+    ensures { OnOk result (told earliest.new
+        ≡ first_from (told earliest.old) (element_faults (element_of element.now))) }
 {
     tell_elements(alloc, &element.parts, earliest)?;
     for part in &element.parts {
@@ -109,7 +121,10 @@ fn tell_enumeration<'a>(
     alloc: Global,
     earliest: &mut Earliest<'a>,
 ) -> Result<(), Memory>
-    ensures { OnOk result (told earliest.new ≡ first_from (told earliest.old) (twice_in (element_names (elements_of elements.now)) ++ parts_faults (elements_of elements.now))) }
+    ensures { OnOk result (told earliest.new
+        ≡ first_from (told earliest.old)
+        (twice_in (element_names (elements_of elements.now))
+        ++ parts_faults (elements_of elements.now))) }
 {
     tell_elements(alloc, elements, earliest)?;
     for element in elements {
@@ -129,34 +144,32 @@ pub fn tell_type<'a>(
 ) -> Result<(), Memory>
     requires kind { IsSmallType (type_of kind.now) }
     requires scope { IsSmallScope (scope_of scope.now) }
-    ensures { OnOk result (told earliest.new ≡ first_from (told earliest.old) (type_faults (scope_of scope.now) (ident_of owner.now) (type_of kind.now))) }
+    ensures { OnOk result (told earliest.new
+        ≡ first_from (told earliest.old)
+        (type_faults (scope_of scope.now) (ident_of owner.now) (type_of kind.now))) }
 {
     match kind {
-        TypeSyntax::Named(name) => tell_type_name(scope, name, earliest),
-        TypeSyntax::Coord2(corners) => tell_corners2(owner, *corners, earliest),
-        TypeSyntax::Coord3(corners) => tell_corners3(owner, *corners, earliest),
-        TypeSyntax::Dim1(span) => tell_span(owner, *span, earliest),
-        TypeSyntax::Dim2(span) => tell_span(owner, *span, earliest),
-        TypeSyntax::Radians(span) => tell_span(owner, *span, earliest),
-        TypeSyntax::Grads(span) => tell_span(owner, *span, earliest),
-        TypeSyntax::Degrees(span) => tell_span(owner, *span, earliest),
-        TypeSyntax::Range(span) => tell_span(owner, *span, earliest),
-        TypeSyntax::Text(length) => {
-            earliest.tell(!is_text_length(*length), ModelCode::Bounds, owner);
-        }
-        TypeSyntax::Enumeration(elements) => tell_enumeration(elements, alloc, earliest)?,
         TypeSyntax::Polyline(line) => {
-            tell_line(line, owner, Shape::Polyline, alloc, scope, earliest)?;
+            tell_line(line, owner, Shape::Polyline, alloc, scope, earliest)
         }
         TypeSyntax::Surface(line) => {
-            tell_line(line, owner, Shape::Surface, alloc, scope, earliest)?;
+            tell_line(line, owner, Shape::Surface, alloc, scope, earliest)
         }
-        TypeSyntax::Area(line) => {
-            tell_line(line, owner, Shape::Area, alloc, scope, earliest)?;
+        TypeSyntax::Area(line) => tell_line(line, owner, Shape::Area, alloc, scope, earliest),
+        TypeSyntax::Enumeration(elements) => tell_enumeration(elements, alloc, earliest),
+        TypeSyntax::Named(name) => {
+            tell_type_name(scope, name, earliest);
+            Ok(())
         }
-        TypeSyntax::Date | TypeSyntax::HAlignment | TypeSyntax::VAlignment => {}
+        TypeSyntax::Text(length) => {
+            earliest.tell(!is_text_length(*length), ModelCode::Bounds, owner);
+            Ok(())
+        }
+        _ => {
+            tell_numbers(owner, kind, earliest);
+            Ok(())
+        }
     }
-    Ok(())
 }
 
 // Tells what is wrong with a line that is written at `owner`.
@@ -172,7 +185,9 @@ fn tell_line<'a>(
 ) -> Result<(), Memory>
     requires line { IsSmallLine (line_of line.now) }
     requires scope { IsSmallScope (scope_of scope.now) }
-    ensures { OnOk result (told earliest.new ≡ first_from (told earliest.old) (line_faults (scope_of scope.now) (ident_of owner.now) shape (line_of line.now))) }
+    ensures { OnOk result (told earliest.new
+        ≡ first_from (told earliest.old)
+        (line_faults (scope_of scope.now) (ident_of owner.now) shape (line_of line.now))) }
 {
     tell_vertex(scope, owner, shape, &line.vertex, line.overlap, earliest);
     tell_names(alloc, &line.attributes, &line.idents, earliest)?;
@@ -193,7 +208,9 @@ pub fn tell_attribute<'a>(
 ) -> Result<(), Memory>
     requires attribute { IsSmallAttribute (attribute_of attribute.now) }
     requires scope { IsSmallScope (scope_of scope.now) }
-    ensures { OnOk result (told earliest.new ≡ first_from (told earliest.old) (attribute_faults (scope_of scope.now) (attribute_of attribute.now))) }
+    ensures { OnOk result (told earliest.new
+        ≡ first_from (told earliest.old)
+        (attribute_faults (scope_of scope.now) (attribute_of attribute.now))) }
 {
     match &attribute.content {
         Content::Value(kind) => tell_type(kind, &attribute.name, alloc, scope, earliest),

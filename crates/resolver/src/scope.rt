@@ -33,7 +33,8 @@ impl<'s, 'a> Scope<'s, 'a> {
     ghost use Rattle.resolver.specs.Limits.{IsSmallScope};
     ghost use Rattle.std.specs.Option.{option_map};
     ghost use Rattle.ili_grammar.specs.Values.{type_of};
-    ghost use Rattle.resolver.specs.Scopes.{is_visible, outside, written, meaning_outside, meaning, meant};
+    ghost use Rattle.resolver.specs.Scopes.{is_visible, outside, written, meaning_outside, meaning};
+    ghost use Rattle.resolver.specs.Scopes.{meant};
     ghost use Rattle.resolver.specs.ScopeViews.{scope_of, meaning_of};
 
     /// Whether a domain of that name is visible.
@@ -45,8 +46,10 @@ impl<'s, 'a> Scope<'s, 'a> {
 
     // What a name stands for further out.
     fn further(&self, name: &[u8]) -> Option<Meaning<'a>>
-        ensures found { option_map (meaning_of (scope_of self.now)) result ≡ meaning_outside (domains_in self.now.above.now) name.now }
-        ensures short { All IsSmallDomain (domains_in self.now.above.now) → IfSome result (λ m. IsSmallType (type_of m.kind.now)) }
+        ensures found { option_map (meaning_of (scope_of self.now)) result
+            ≡ meaning_outside (domains_in self.now.above.now) name.now }
+        ensures short { All IsSmallDomain (domains_in self.now.above.now)
+            → IfSome result (λ m. IsSmallType (type_of m.kind.now)) }
     {
         match self.above.last(name) {
             Some(kind) => self.unnamed(kind),
@@ -56,8 +59,10 @@ impl<'s, 'a> Scope<'s, 'a> {
 
     // What a type further out stands for, where it is no name alone.
     fn unnamed(&self, kind: &'a TypeSyntax) -> Option<Meaning<'a>>
-        ensures found { option_map (meaning_of (scope_of self.now)) result ≡ written (λ _. None) (outside (domains_in self.now.above.now)) (type_of kind.now) }
-        ensures short { IsSmallType (type_of kind.now) → IfSome result (λ m. IsSmallType (type_of m.kind.now)) }
+        ensures found { option_map (meaning_of (scope_of self.now)) result
+            ≡ written (λ _. None) (outside (domains_in self.now.above.now)) (type_of kind.now) }
+        ensures short { IsSmallType (type_of kind.now)
+            → IfSome result (λ m. IsSmallType (type_of m.kind.now)) }
     {
         match name_alone(kind) {
             Some(_) => None,
@@ -67,8 +72,10 @@ impl<'s, 'a> Scope<'s, 'a> {
 
     /// What a name stands for.
     pub fn meaning(&self, name: &[u8]) -> Option<Meaning<'a>>
-        ensures found { option_map (meaning_of (scope_of self.now)) result ≡ meaning (scope_of self.now) name.now }
-        ensures short { IsSmallScope (scope_of self.now) → IfSome result (λ m. IsSmallType (type_of m.kind.now)) }
+        ensures found { option_map (meaning_of (scope_of self.now)) result
+            ≡ meaning (scope_of self.now) name.now }
+        ensures short { IsSmallScope (scope_of self.now)
+            → IfSome result (λ m. IsSmallType (type_of m.kind.now)) }
     {
         if self.above.names().has(name) {
             return self.further(name);
@@ -81,8 +88,12 @@ impl<'s, 'a> Scope<'s, 'a> {
 
     // What a type here stands for, where its name, if it is one alone, is declared further out.
     fn continued(&self, kind: &'a TypeSyntax) -> Option<Meaning<'a>>
-        ensures found { option_map (meaning_of (scope_of self.now)) result ≡ written (meaning_outside (domains_in self.now.above.now)) (scope_of self.now) (type_of kind.now) }
-        ensures short { All IsSmallDomain (domains_in self.now.above.now) → IsSmallType (type_of kind.now) → IfSome result (λ m. IsSmallType (type_of m.kind.now)) }
+        ensures found { option_map (meaning_of (scope_of self.now)) result
+            ≡ written (meaning_outside (domains_in self.now.above.now)) (scope_of self.now)
+            (type_of kind.now) }
+        ensures short { All IsSmallDomain (domains_in self.now.above.now)
+            → IsSmallType (type_of kind.now)
+            → IfSome result (λ m. IsSmallType (type_of m.kind.now)) }
     {
         match name_alone(kind) {
             Some(name) => self.further(name.text.bytes()),
@@ -92,7 +103,8 @@ impl<'s, 'a> Scope<'s, 'a> {
 
     /// What a type stands for.
     pub fn meant(&self, kind: &'a TypeSyntax) -> Option<Meaning<'a>>
-        ensures { option_map (meaning_of (scope_of self.now)) result ≡ meant (scope_of self.now) (type_of kind.now) }
+        ensures { option_map (meaning_of (scope_of self.now)) result
+            ≡ meant (scope_of self.now) (type_of kind.now) }
     {
         match name_alone(kind) {
             Some(name) => self.meaning(name.text.bytes()),

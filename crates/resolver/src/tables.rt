@@ -1,5 +1,5 @@
 // The rules on the tables of a topic.
-ghost use Rattle.std.specs.Prelude.{◌≡◌, All, flat_map, OnOk};
+ghost use Rattle.std.specs.Prelude.{◌≡◌, All, OnOk};
 ghost use Rattle.ili_grammar.specs.Values.{attributes_of, table_of, tables_of};
 ghost use Rattle.resolver.specs.Faults.{first_from};
 ghost use Rattle.resolver.specs.Told.{told};
@@ -27,7 +27,9 @@ fn tell_attributes<'a>(
 ) -> Result<(), Memory>
     requires scope { IsSmallScope (scope_of scope.now) }
     requires attributes { AreSmallAttributes (attributes_of attributes.now) }
-    ensures { OnOk result (told earliest.new ≡ first_from (told earliest.old) (attributes_faults (scope_of scope.now) (attributes_of attributes.now))) }
+    ensures { OnOk result (told earliest.new
+        ≡ first_from (told earliest.old)
+        (attributes_faults (scope_of scope.now) (attributes_of attributes.now))) }
 {
     for attribute in attributes {
         tell_attribute(attribute, alloc, scope, earliest)?;
@@ -45,27 +47,11 @@ fn tell_table<'a>(
 ) -> Result<(), Memory>
     requires scope { IsSmallScope (scope_of scope.now) }
     requires table { IsSmallTable (table_of table.now) }
-    ensures { OnOk result (told earliest.new ≡ first_from (told earliest.old) (table_faults (scope_of scope.now) (table_of table.now))) }
+    ensures { OnOk result (told earliest.new
+        ≡ first_from (told earliest.old) (table_faults (scope_of scope.now) (table_of table.now))) }
 {
     tell_names(alloc, &table.attributes, &table.idents, earliest)?;
     tell_attributes(alloc, scope, &table.attributes, earliest)
-}
-
-// Tells what is wrong within each of some tables.
-fn tell_each<'a>(
-    alloc: Global,
-    scope: &Scope<'_, 'a>,
-    tables: &'a [TableSyntax],
-    earliest: &mut Earliest<'a>,
-) -> Result<(), Memory>
-    requires scope { IsSmallScope (scope_of scope.now) }
-    requires tables { All IsSmallTable (tables_of tables.now) }
-    ensures { OnOk result (told earliest.new ≡ first_from (told earliest.old) (flat_map (table_faults (scope_of scope.now)) (tables_of tables.now))) }
-{
-    for table in tables {
-        tell_table(alloc, scope, table, earliest)?;
-    }
-    Ok(())
 }
 
 /// Tells what is wrong with the tables of a topic.
@@ -78,8 +64,13 @@ pub fn tell_tables<'a>(
 ) -> Result<(), Memory>
     requires scope { IsSmallScope (scope_of scope.now) }
     requires tables { All IsSmallTable (tables_of tables.now) }
-    ensures { OnOk result (told earliest.new ≡ first_from (told earliest.old) (tables_faults (scope_of scope.now) (tables_of tables.now))) }
+    ensures { OnOk result (told earliest.new
+        ≡ first_from (told earliest.old)
+        (tables_faults (scope_of scope.now) (tables_of tables.now))) }
 {
     tell_table_names(alloc, scope, tables, earliest)?;
-    tell_each(alloc, scope, tables, earliest)
+    for table in tables {
+        tell_table(alloc, scope, table, earliest)?;
+    }
+    Ok(())
 }

@@ -3,7 +3,8 @@ ghost use Rattle.std.specs.Prelude.{◌≡◌, ◌≤◌, ◌++◌, [], All, len
 ghost use Rattle.ili_grammar.specs.Values.{domains_of, tables_of, topic_of, topics_of};
 ghost use Rattle.resolver.specs.Faults.{first_from};
 ghost use Rattle.resolver.specs.Told.{told};
-ghost use Rattle.resolver.specs.Scopes.{names_of, table_names};
+ghost use Rattle.resolver.specs.Scopes.{domain_names, names_of, table_names, texts};
+ghost use Rattle.resolver.specs.Directories.{names_in};
 ghost use Rattle.resolver.specs.ScopeViews.{scope_of};
 ghost use Rattle.resolver.specs.Indexed.{idents};
 ghost use Rattle.resolver.specs.Steps.{domains_at};
@@ -28,7 +29,8 @@ pub fn push_domains<'a>(
     domains: &'a [DomainSyntax],
     all: &mut Vec<&'a DomainSyntax>,
 ) -> Result<(), Memory>
-    ensures { OnOk result (domains_at all.new.items ≡ domains_at all.old.items ++ domains_of domains.now) }
+    ensures { OnOk result (domains_at all.new.items ≡ domains_at all.old.items
+        ++ domains_of domains.now) }
 {
     for domain in domains {
         all.push(domain)?;
@@ -47,6 +49,30 @@ pub fn table_names<'a>(alloc: Global, tables: &'a [TableSyntax]) -> Result<Vec<&
     Ok(names)
 }
 
+/// The domains of a topic, where those of `above` are declared further out.
+pub fn own_level<'a>(
+    alloc: Global,
+    above: &Level<'a>,
+    domains: &'a [DomainSyntax],
+) -> Result<Level<'a>, Memory>
+    ensures domains { IfOk result (λ l. domains_in l ≡ domains_of domains.now) }
+    ensures steps { IfOk result (StepsFrom (texts (domain_names (domains_in above.now)))) }
+{
+    let mut all = Vec::new(alloc);
+    push_domains(domains, &mut all)?;
+    Level::new(alloc, above.names(), all)
+}
+
+/// The names of some tables, each with its place.
+pub fn table_directory<'a>(
+    alloc: Global,
+    tables: &'a [TableSyntax],
+) -> Result<Directory<'a>, Memory>
+    ensures { IfOk result (λ d. names_in d ≡ table_names (tables_of tables.now)) }
+{
+    Directory::new(alloc, table_names(alloc, tables)?)
+}
+
 // Tells what is wrong with the domains of a scope, and then with tables.
 #[tactic(auto, using(crate::proofs::Folds::first_append))]
 fn tell_parts<'a>(
@@ -58,7 +84,10 @@ fn tell_parts<'a>(
     requires scope { IsSmallScope (scope_of scope.now) }
     requires few { length (domains_in scope.now.own.now) ≤ 4194304 }
     requires tables { All IsSmallTable (tables_of tables.now) }
-    ensures { OnOk result (told earliest.new ≡ first_from (told earliest.old) (domains_faults (scope_of scope.now) ++ tables_faults (scope_of scope.now) (tables_of tables.now))) }
+    ensures { OnOk result (told earliest.new
+        ≡ first_from (told earliest.old)
+        (domains_faults (scope_of scope.now)
+        ++ tables_faults (scope_of scope.now) (tables_of tables.now))) }
 {
     tell_domains(alloc, scope, earliest)?;
     tell_tables(alloc, scope, tables, earliest)
@@ -75,12 +104,12 @@ fn tell_topic<'a>(
     requires above { All IsSmallDomain (domains_in above.now) }
     requires topic { IsSmallTopic (topic_of topic.now) }
     requires few { HasFewDomains (topic_of topic.now) }
-    ensures { OnOk result (told earliest.new ≡ first_from (told earliest.old) (topic_faults (domains_in above.now) (topic_of topic.now))) }
+    ensures { OnOk result (told earliest.new
+        ≡ first_from (told earliest.old)
+        (topic_faults (domains_in above.now) (topic_of topic.now))) }
 {
-    let mut domains = Vec::new(alloc);
-    push_domains(&topic.domains, &mut domains)?;
-    let own = Level::new(alloc, above.names(), domains)?;
-    let tables = Directory::new(alloc, table_names(alloc, &topic.tables)?)?;
+    let own = own_level(alloc, above, &topic.domains)?;
+    let tables = table_directory(alloc, &topic.tables)?;
     let scope = Scope {
         above,
         own: &own,
@@ -111,7 +140,9 @@ fn tell_each<'a>(
     requires above { All IsSmallDomain (domains_in above.now) }
     requires topics { All IsSmallTopic (topics_of topics.now) }
     requires few { All HasFewDomains (topics_of topics.now) }
-    ensures { OnOk result (told earliest.new ≡ first_from (told earliest.old) (flat_map (topic_faults (domains_in above.now)) (topics_of topics.now))) }
+    ensures { OnOk result (told earliest.new
+        ≡ first_from (told earliest.old)
+        (flat_map (topic_faults (domains_in above.now)) (topics_of topics.now))) }
 {
     for topic in topics {
         tell_topic(alloc, above, topic, earliest)?;
@@ -132,7 +163,10 @@ pub fn tell_topics<'a>(
     requires above { All IsSmallDomain (domains_in above.now) }
     requires topics { All IsSmallTopic (topics_of topics.now) }
     requires few { All HasFewDomains (topics_of topics.now) }
-    ensures { OnOk result (told earliest.new ≡ first_from (told earliest.old) (twice_in (map (λ t. t.name) (topics_of topics.now)) ++ flat_map (topic_faults (domains_in above.now)) (topics_of topics.now))) }
+    ensures { OnOk result (told earliest.new
+        ≡ first_from (told earliest.old)
+        (twice_in (map (λ t. t.name) (topics_of topics.now))
+        ++ flat_map (topic_faults (domains_in above.now)) (topics_of topics.now))) }
 {
     let names = topic_names(alloc, topics)?;
     tell_twice(alloc, names, earliest)?;

@@ -21,7 +21,8 @@ use std::alloc::Global;
 pub fn meant<'a>(scope: &Scope<'_, 'a>, kind: &'a TypeSyntax) -> Option<Meaning<'a>>
     requires scope { IsModestScope (scope_of scope.now) }
     requires kind { IsModest (type_of kind.now) }
-    ensures found { option_map (meaning_of (scope_of scope.now)) result ≡ meant (scope_of scope.now) (type_of kind.now) }
+    ensures found { option_map (meaning_of (scope_of scope.now)) result
+        ≡ meant (scope_of scope.now) (type_of kind.now) }
     ensures modest { IfSome result (λ m. IsModest (type_of m.kind.now)) }
 {
     scope.meant(kind)
@@ -60,7 +61,8 @@ fn list_places(
     list: &IdentList,
 ) -> Result<Places, Memory>
     requires { length (names_in attributes.now) ≤ 4194304 }
-    ensures { IfOk result (λ p. p.places.items ≡ numbers (texts (names_in attributes.now)) (names_of list.now)) }
+    ensures { IfOk result (λ p. p.places.items
+        ≡ numbers (texts (names_in attributes.now)) (names_of list.now)) }
 {
     let mut places = Vec::new(alloc);
     for name in &list.names {
@@ -76,7 +78,8 @@ pub fn places(
     lists: &[IdentList],
 ) -> Result<Vec<Places>, Memory>
     requires { length (names_in attributes.now) ≤ 4194304 }
-    ensures { IfOk result (λ ps. places_of ps.items ≡ map (numbers (texts (names_in attributes.now))) (lists_of lists.now)) }
+    ensures { IfOk result (λ ps. places_of ps.items
+        ≡ map (numbers (texts (names_in attributes.now))) (lists_of lists.now)) }
 {
     let mut places = Vec::new(alloc);
     for list in lists {

@@ -25,7 +25,8 @@ fn one_step(alloc: Global, steps: &[Option<usize>]) -> Result<Vec<usize>, Memory
 fn jump_twice(alloc: Global, jumps: &[usize]) -> Result<Vec<usize>, Memory>
     requires { (i : ℕ) → i < length jumps.now → slice_index jumps.now i < length jumps.now }
     ensures long { IfOk result (λ far. length far.items ≡ length jumps.now) }
-    ensures lands { IfOk result (λ far. (i : ℕ) → i < length jumps.now → slice_index far.items i ≡ slice_index jumps.now (slice_index jumps.now i)) }
+    ensures lands { IfOk result (λ far. (i : ℕ) → i < length jumps.now → slice_index far.items i
+        ≡ slice_index jumps.now (slice_index jumps.now i)) }
 {
     let mut far = Vec::new(alloc);
     for jump in jumps {
@@ -38,7 +39,8 @@ fn jump_twice(alloc: Global, jumps: &[usize]) -> Result<Vec<usize>, Memory>
 /// by the domain to which each leads.
 pub fn ends(alloc: Global, steps: &[Option<usize>]) -> Result<Vec<usize>, Memory>
     requires { StepsWithin steps.now }
-    ensures { IfOk result (λ ends. IsJump (step_in steps.now) longest (length steps.now) ends.items) }
+    ensures { IfOk result
+        (λ ends. IsJump (step_in steps.now) longest (length steps.now) ends.items) }
 {
     let mut jumps = one_step(alloc, steps)?;
     for _ in 0..DOUBLINGS {

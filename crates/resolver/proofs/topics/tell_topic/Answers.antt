@@ -1,14 +1,10 @@
 use Rattle.std.proofs.Common.{◌≡◌, ◌++◌, List, ap, subst, ◌∙◌, OnOk}
-use Rattle.std.specs.Borrow.{Bor}
-use Rattle.ili_grammar.specs.declared.syntax.DomainSyntax as domain
 use Rattle.ili_grammar.specs.declared.syntax.TableSyntax as table
-use Rattle.ili_grammar.specs.Syntax.{Ident}
 use Rattle.ili_grammar.specs.Values.{domains_of, tables_of, topic_of}
 use Rattle.resolver.specs.Faults.{first_from}
 use Rattle.resolver.specs.Told.{told}
 use Rattle.resolver.specs.Scopes.{Scope, texts, table_names, inside}
 use Rattle.resolver.specs.Directories.{names_in}
-use Rattle.resolver.specs.Steps.{domains_at, steps_of}
 use Rattle.resolver.specs.Levels.{domains_in}
 use Rattle.resolver.specs.Rules.{domains_faults, tables_faults}
 use Rattle.resolver.proofs.topics.tell_topic.Goals as goal
@@ -16,17 +12,15 @@ use Rattle.resolver.proofs.topics.tell_topic.Goals as goal
 pub invariant_of-scope : goal.invariant_of-scope
 invariant_of-scope c = record {
   outer = c.requires.steps;
-  inner = c.in_ok-own.ensures.steps ∙ ap (λ (ns : List Ident). steps_of (texts ns) (domains_in c.in_ok-own.own)) c.names.ensures;
+  inner = c.in_ok-own.ensures.steps;
 }
 
 pub returns : goal.returns
 returns c =
     let own : domains_in c.in_ok-own.own ≡ domains_of c.args.topic.now.domains.items =
-    c.in_ok-own.ensures.domains ∙ c.in_ok-push_domains.ensures
-    ∙ ap (λ (l : List (Bor domain.DomainSyntax)). domains_at l ++ domains_of c.deref.result.now) c.new-domains.ensures.items
-    ∙ ap domains_of c.deref.ensures.value in
+    c.in_ok-own.ensures.domains ∙ ap domains_of c.deref.ensures.value in
     let names : names_in c.in_ok-tables.tables ≡ table_names (tables_of c.args.topic.now.tables.items) =
-    c.in_ok-tables.ensures ∙ c.in_ok-table_names.ensures ∙ ap (λ (l : List table.TableSyntax). table_names (tables_of l)) c.deref-2.ensures.value in
+    c.in_ok-tables.ensures ∙ ap (λ (l : List table.TableSyntax). table_names (tables_of l)) c.deref-2.ensures.value in
     let scope : record { above = domains_in c.args.above.now; own = domains_in c.in_ok-own.own; tables = texts (names_in c.in_ok-tables.tables) } ≡ inside (domains_in c.args.above.now) (topic_of c.args.topic.now) =
     λ z. record { above = domains_in c.args.above.now; own = own z; tables = texts (names z) } in
     subst (λ (l : List table.TableSyntax). OnOk c.tell_parts.result (told c.tell_parts.new.earliest ≡ first_from (told c.args.earliest.now)

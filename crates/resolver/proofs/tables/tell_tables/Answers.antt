@@ -9,7 +9,7 @@ use Rattle.resolver.specs.ScopeViews.{scope_of}
 use Rattle.ili_grammar.specs.Limits.{IsSmallTable}
 use Rattle.resolver.specs.Rules.{table_faults}
 use Rattle.resolver.proofs.Folds.{told_over}
-use Rattle.resolver.proofs.tables.tell_each.Goals as goal
+use Rattle.resolver.proofs.tables.tell_tables.Goals as goal
 
 pub tell_table-requires-clause-table : goal.tell_table-requires-clause-table
 tell_table-requires-clause-table c =

@@ -4,10 +4,10 @@ use Rattle.ili_grammar.specs.Values.{tables_of}
 use Rattle.resolver.specs.Faults.{first_from}
 use Rattle.resolver.specs.Told.{told}
 use Rattle.resolver.specs.ScopeViews.{scope_of}
-use Rattle.resolver.specs.Rules.{table_faults}
-use Rattle.resolver.proofs.tables.tell_each.Given as goal
+use Rattle.resolver.specs.Rules.{table_faults, tables_faults}
+use Rattle.resolver.proofs.tables.tell_tables.Given as goal
 
 abbrev pub invariant-loop-table : goal.invariant-loop-table
 invariant-loop-table l =
     first_from (told l.earliest) (flat_map (table_faults (scope_of l.scope)) (tables_of (drop l.table-index l.tables)))
-    ≡ first_from (told l.fn.earliest) (flat_map (table_faults (scope_of l.scope)) (tables_of l.tables))
+    ≡ first_from (told l.fn.earliest) (tables_faults (scope_of l.scope) (tables_of l.tables))
