@@ -1,5 +1,6 @@
 // The areas of a transfer: the AREA attributes, in the order of their tables.
-ghost use Rattle.std.specs.Prelude.{◌≡◌, ◌≤◌, ◌++◌, length, Option, IfOk, option_and_then, slice_get};
+ghost use Rattle.std.specs.Prelude.{◌≡◌, ◌≤◌, ◌++◌, length, Option, IfOk, option_and_then};
+ghost use Rattle.std.specs.Prelude.{slice_get};
 ghost use Rattle.std.specs.Option.{option_map, option_copied};
 ghost use Rattle.std.specs.Result.{OnOk};
 ghost use Rattle.table_layout.specs.Layouts.{Column, Table};
@@ -14,7 +15,8 @@ use std::alloc::Global;
 /// One area for each helper table of an AREA.
 pub fn areas(alloc: Global, tables: &[Table]) -> Result<Vec<AreaOf>, Memory>
     requires few { length tables.now ≤ 4194304 }
-    ensures { IfOk result (λ areas. areas_view areas.items ≡ areas_from (tables_view tables.now) 0 (tables_view tables.now)) }
+    ensures { IfOk result (λ areas. areas_view areas.items
+        ≡ areas_from (tables_view tables.now) 0 (tables_view tables.now)) }
 {
     let mut areas = Vec::new(alloc);
     for (number, table) in tables.iter().enumerate() {
@@ -31,7 +33,8 @@ fn add_area(
     role: Role,
     areas: &mut Vec<AreaOf>,
 ) -> Result<(), Memory>
-    ensures { OnOk result (areas_view areas.new.items ≡ areas_view areas.old.items ++ area_of (tables_view tables.now) number (role_view role)) }
+    ensures { OnOk result (areas_view areas.new.items ≡ areas_view areas.old.items
+        ++ area_of (tables_view tables.now) number (role_view role)) }
 {
     if let Role::AreaLines { main, column } = role {
         areas.push(AreaOf {
@@ -55,7 +58,8 @@ fn column_name(alloc: Global, tables: &[Table], main: TableId, column: u32) -> R
 }
 
 fn column_at(tables: &[Table], main: TableId, column: u32) -> Option<&Column>
-    ensures { option_map column_view (option_copied result) ≡ column_at (tables_view tables.now) main.0 column }
+    ensures { option_map column_view (option_copied result)
+        ≡ column_at (tables_view tables.now) main.0 column }
 {
     match tables.get(main.0 as usize) {
         Some(table) => table.columns.get(column as usize),

@@ -4,7 +4,8 @@ ghost use Rattle.std.specs.Option.{option_to_list, option_map};
 ghost use Rattle.std.specs.Result.{OnOk};
 ghost use Rattle.std.specs.List.{flat_map};
 ghost use Rattle.resolver.specs.Resolved.{an_attribute, Area, Surface, a_part};
-ghost use Rattle.resolver.specs.Values.{attribute_of, attributes_of, form_of, line_of, part_of, places_of};
+ghost use Rattle.resolver.specs.Values.{attribute_of, attributes_of, form_of, line_of, part_of};
+ghost use Rattle.resolver.specs.Values.{places_of};
 ghost use Rattle.table_layout.specs.Attributes.{form_in, columns_of, lines_of, place_of};
 ghost use Rattle.table_layout.specs.Tables.{area_count, surface_count};
 ghost use Rattle.table_layout.specs.Values.{columns_view, lines_view};
@@ -33,7 +34,8 @@ pub fn copied(alloc: Global, name: &Name) -> Result<Name, Memory>
 
 /// A copy of a line.
 pub fn copied_line(alloc: Global, line: &LineForm, optional: bool) -> Result<LineForm, Memory>
-    ensures { IfOk result (λ copy. line_of copy ≡ record (line_of line.now) { optional = optional }) }
+    ensures { IfOk result
+        (λ copy. line_of copy ≡ record (line_of line.now) { optional = optional }) }
 {
     Ok(LineForm {
         name: copied(alloc, &line.name)?,
@@ -52,7 +54,8 @@ fn add_column(
     mains: &[u32],
     columns: &mut Vec<Column>,
 ) -> Result<(), Memory>
-    ensures { OnOk result (columns_view columns.new.items ≡ columns_view columns.old.items ++ columns_of mains.now (attribute_of attribute.now)) }
+    ensures { OnOk result (columns_view columns.new.items ≡ columns_view columns.old.items
+        ++ columns_of mains.now (attribute_of attribute.now)) }
 {
     let form = match &attribute.content {
         AttributeForm::Value(form) => form_among(*form, mains),
@@ -71,7 +74,8 @@ fn add_column(
 
 /// Adds the line of a POLYLINE.
 fn add_line(alloc: Global, attribute: &Attribute, lines: &mut Vec<LineForm>) -> Result<(), Memory>
-    ensures { OnOk result (lines_view lines.new.items ≡ lines_view lines.old.items ++ lines_of (attribute_of attribute.now)) }
+    ensures { OnOk result (lines_view lines.new.items ≡ lines_view lines.old.items
+        ++ lines_of (attribute_of attribute.now)) }
 {
     if let AttributeForm::Polyline(line) = &attribute.content {
         lines.push(copied_line(alloc, line, line.optional)?)?;
@@ -94,7 +98,10 @@ pub fn place(attribute: &Attribute, all: u32, column: u32, line: u32) -> Option<
 
 /// The line and the own part of an AREA, if the attribute is one.
 pub fn area(attribute: &Attribute) -> Option<(&LineForm, &LinePart)>
-    ensures { MatchOption result (area_count (attribute_of attribute.now) ≡ 0) (λ r. attribute_of attribute.now ≡ an_attribute attribute.now.name attribute.now.optional (Area (line_of r.0.now) (part_of r.1.now))) }
+    ensures { MatchOption result (area_count (attribute_of attribute.now) ≡ 0)
+        (λ r. attribute_of attribute.now
+        ≡ an_attribute attribute.now.name attribute.now.optional
+        (Area (line_of r.0.now) (part_of r.1.now))) }
 {
     match &attribute.content {
         AttributeForm::Area(line, part) => Some((line, part)),
@@ -104,7 +111,10 @@ pub fn area(attribute: &Attribute) -> Option<(&LineForm, &LinePart)>
 
 /// The line and the own part of a SURFACE, if the attribute is one.
 pub fn surface(attribute: &Attribute) -> Option<(&LineForm, &LinePart)>
-    ensures { MatchOption result (surface_count (attribute_of attribute.now) ≡ 0) (λ r. attribute_of attribute.now ≡ an_attribute attribute.now.name attribute.now.optional (Surface (line_of r.0.now) (part_of r.1.now))) }
+    ensures { MatchOption result (surface_count (attribute_of attribute.now) ≡ 0)
+        (λ r. attribute_of attribute.now
+        ≡ an_attribute attribute.now.name attribute.now.optional
+        (Surface (line_of r.0.now) (part_of r.1.now))) }
 {
     match &attribute.content {
         AttributeForm::Surface(line, part) => Some((line, part)),
@@ -128,7 +138,8 @@ pub fn add_columns(
     mains: &[u32],
     columns: &mut Vec<Column>,
 ) -> Result<(), Memory>
-    ensures { OnOk result (columns_view columns.new.items ≡ columns_view columns.old.items ++ flat_map (columns_of mains.now) (map attribute_of attributes.now)) }
+    ensures { OnOk result (columns_view columns.new.items ≡ columns_view columns.old.items
+        ++ flat_map (columns_of mains.now) (map attribute_of attributes.now)) }
 {
     for attribute in attributes {
         add_column(alloc, attribute, mains, columns)?;
@@ -138,7 +149,8 @@ pub fn add_columns(
 
 /// The lines of all attributes in their order.
 pub fn lines(alloc: Global, attributes: &[Attribute]) -> Result<Vec<LineForm>, Memory>
-    ensures { IfOk result (λ lines. lines_view lines.items ≡ flat_map lines_of (map attribute_of attributes.now)) }
+    ensures { IfOk result (λ lines. lines_view lines.items
+        ≡ flat_map lines_of (map attribute_of attributes.now)) }
 {
     let mut lines = Vec::new(alloc);
     for attribute in attributes {

@@ -38,7 +38,8 @@ pub fn layout(alloc: Global, model: &ResolvedModel) -> Result<Layout, Memory>
 fn tables(alloc: Global, topics: &[Topic]) -> Result<Vec<Table>, Memory>
     requires few { numbers_in (topics_of topics.now) ≤ 4194304 }
     requires small { All IsSmallTopic (topics_of topics.now) }
-    ensures { IfOk result (λ tables. tables_view tables.items ≡ tables_from 0 0 (topics_of topics.now)) }
+    ensures { IfOk result (λ tables. tables_view tables.items
+        ≡ tables_from 0 0 (topics_of topics.now)) }
 {
     let mut tables = Vec::new(alloc);
     for (number, topic) in topics.iter().enumerate() {

@@ -1,5 +1,6 @@
 // The IDENT lists of a table, from attributes to columns and lines.
-ghost use Rattle.std.specs.Prelude.{◌≡◌, ◌≤◌, ◌+◌, ℕ, List, [], length, map, IfOk, slice_index_or, Option, None};
+ghost use Rattle.std.specs.Prelude.{◌≡◌, ◌≤◌, ◌+◌, ℕ, List, [], length, map, IfOk, slice_index_or};
+ghost use Rattle.std.specs.Prelude.{Option, None};
 ghost use Rattle.std.specs.Option.{option_map};
 ghost use Rattle.resolver.specs.Values.{attribute_of, places_of};
 ghost use Rattle.table_layout.specs.Attributes.{places_from, list_at, lists_at, idents_of};
@@ -19,7 +20,8 @@ pub fn idents(
 ) -> Result<Vec<Places>, Memory>
     requires shift { first ≤ 1 }
     requires few { length attributes.now ≤ 4194304 }
-    ensures { IfOk result (λ idents. places_of idents.items ≡ idents_of first (map attribute_of attributes.now) (places_of lists.now)) }
+    ensures { IfOk result (λ idents. places_of idents.items
+        ≡ idents_of first (map attribute_of attributes.now) (places_of lists.now)) }
 {
     let all = first + columns_in(attributes);
     let places = places(alloc, all, first, attributes)?;
@@ -36,7 +38,8 @@ fn places(
     requires shift { first ≤ 1 }
     requires all { all ≤ 4194305 }
     requires few { length attributes.now ≤ 4194304 }
-    ensures { IfOk result (λ places. places.items ≡ places_from all first 0 (map attribute_of attributes.now)) }
+    ensures { IfOk result (λ places. places.items
+        ≡ places_from all first 0 (map attribute_of attributes.now)) }
 {
     let mut places = Vec::new(alloc);
     let mut column = first;
@@ -58,7 +61,8 @@ fn place_at(places: &[Option<u32>], attribute: u32) -> Option<u32>
 
 // A list of attributes as a list of places, if each of them stands somewhere.
 fn located(alloc: Global, places: &[Option<u32>], list: &[u32]) -> Result<Option<Vec<u32>>, Memory>
-    ensures { IfOk result (λ located. option_map (λ l. l.items) located ≡ list_at places.now list.now) }
+    ensures { IfOk result (λ located. option_map (λ l. l.items) located
+        ≡ list_at places.now list.now) }
 {
     let mut located = Vec::new(alloc);
     for attribute in list {
@@ -76,7 +80,8 @@ fn located_lists(
     places: &[Option<u32>],
     lists: &[Places],
 ) -> Result<Vec<Places>, Memory>
-    ensures { IfOk result (λ kept. places_of kept.items ≡ lists_at places.now (places_of lists.now)) }
+    ensures { IfOk result
+        (λ kept. places_of kept.items ≡ lists_at places.now (places_of lists.now)) }
 {
     let mut kept = Vec::new(alloc);
     for list in lists {

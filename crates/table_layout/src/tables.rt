@@ -5,8 +5,11 @@ ghost use Rattle.std.specs.List.{All, flat_map};
 ghost use Rattle.resolver.specs.Values.{attribute_of, attributes_of, line_of, places_of};
 ghost use Rattle.resolver.specs.Sound.{listed};
 ghost use Rattle.table_layout.specs.Few.{HasFew, AreFew};
-ghost use Rattle.table_layout.specs.Tables.{area_count, areas_in, surface_count, surfaces_in, helper_name, boundary, area_table, area_tables, owner_column, surface_table, main_table, with_helpers};
-ghost use Rattle.table_layout.specs.Values.{column_view, lines_view, table_view, tables_view, owner_view};
+ghost use Rattle.table_layout.specs.Tables.{area_count, areas_in, surface_count, surfaces_in};
+ghost use Rattle.table_layout.specs.Tables.{helper_name, boundary, area_table, area_tables};
+ghost use Rattle.table_layout.specs.Tables.{owner_column, surface_table, main_table, with_helpers};
+ghost use Rattle.table_layout.specs.Values.{column_view, lines_view, table_view, tables_view};
+ghost use Rattle.table_layout.specs.Values.{owner_view};
 
 use super::attributes::{
     add_columns, area, columns_given, copied, copied_line, lines, own, surface,
@@ -36,7 +39,9 @@ pub fn add_tables(
     tables: &mut Vec<Table>,
 ) -> Result<(), Memory>
     requires { AreFew (map attribute_of table.now.attributes.items) }
-    ensures { OnOk result (tables_view tables.new.items ≡ tables_view tables.old.items ++ with_helpers (owner_view owner.entry) (map attribute_of table.now.attributes.items) (places_of table.now.idents.items)) }
+    ensures { OnOk result (tables_view tables.new.items ≡ tables_view tables.old.items
+        ++ with_helpers (owner_view owner.entry) (map attribute_of table.now.attributes.items)
+        (places_of table.now.idents.items)) }
 {
     add_area_tables(alloc, owner, &table.attributes, tables)?;
     tables.push(main_table(alloc, owner, table)?)?;
@@ -46,7 +51,9 @@ pub fn add_tables(
 // The declared table itself.
 fn main_table(alloc: Global, owner: Owner<'_>, table: &ModelTable) -> Result<Table, Memory>
     requires { AreFew (map attribute_of table.now.attributes.items) }
-    ensures { IfOk result (λ t. table_view t ≡ main_table (owner_view owner.entry) (map attribute_of table.now.attributes.items) (places_of table.now.idents.items)) }
+    ensures { IfOk result (λ t. table_view t
+        ≡ main_table (owner_view owner.entry) (map attribute_of table.now.attributes.items)
+        (places_of table.now.idents.items)) }
 {
     let mut columns = Vec::new(alloc);
     add_columns(alloc, &table.attributes, owner.mains, &mut columns)?;
@@ -88,7 +95,8 @@ fn add_area_tables(
     tables: &mut Vec<Table>,
 ) -> Result<(), Memory>
     requires { AreFew (map attribute_of attributes.now) }
-    ensures { OnOk result (tables_view tables.new.items ≡ tables_view tables.old.items ++ area_tables (owner_view owner.entry) 0 (map attribute_of attributes.now)) }
+    ensures { OnOk result (tables_view tables.new.items ≡ tables_view tables.old.items
+        ++ area_tables (owner_view owner.entry) 0 (map attribute_of attributes.now)) }
 {
     let mut column = 0;
     for attribute in attributes {
@@ -107,7 +115,8 @@ fn add_area_table(
     tables: &mut Vec<Table>,
 ) -> Result<(), Memory>
     requires { HasFew (attribute_of attribute.now) }
-    ensures { OnOk result (tables_view tables.new.items ≡ tables_view tables.old.items ++ area_table (owner_view owner.entry) column (attribute_of attribute.now)) }
+    ensures { OnOk result (tables_view tables.new.items ≡ tables_view tables.old.items
+        ++ area_table (owner_view owner.entry) column (attribute_of attribute.now)) }
 {
     if let Some((line, part)) = area(attribute) {
         let (attributes, lists) = own(part);
@@ -133,7 +142,8 @@ fn add_surface_tables(
     tables: &mut Vec<Table>,
 ) -> Result<(), Memory>
     requires { AreFew (map attribute_of attributes.now) }
-    ensures { OnOk result (tables_view tables.new.items ≡ tables_view tables.old.items ++ flat_map (surface_table (owner_view owner.entry)) (map attribute_of attributes.now)) }
+    ensures { OnOk result (tables_view tables.new.items ≡ tables_view tables.old.items
+        ++ flat_map (surface_table (owner_view owner.entry)) (map attribute_of attributes.now)) }
 {
     for attribute in attributes {
         add_surface_table(alloc, owner, attribute, tables)?;
@@ -149,7 +159,8 @@ fn add_surface_table(
     tables: &mut Vec<Table>,
 ) -> Result<(), Memory>
     requires { HasFew (attribute_of attribute.now) }
-    ensures { OnOk result (tables_view tables.new.items ≡ tables_view tables.old.items ++ surface_table (owner_view owner.entry) (attribute_of attribute.now)) }
+    ensures { OnOk result (tables_view tables.new.items ≡ tables_view tables.old.items
+        ++ surface_table (owner_view owner.entry) (attribute_of attribute.now)) }
 {
     if let Some((line, part)) = surface(attribute) {
         let (attributes, lists) = own(part);

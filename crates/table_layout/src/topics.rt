@@ -20,9 +20,11 @@ pub fn add_topic(
     topic: &Topic,
     tables: &mut Vec<Table>,
 ) -> Result<(), Memory>
-    requires few { length tables.old.items + tables_in (tables_of topic.now.tables.items) ≤ 4194304 }
+    requires few { length tables.old.items + tables_in (tables_of topic.now.tables.items)
+        ≤ 4194304 }
     requires small { All IsSmallTable (tables_of topic.now.tables.items) }
-    ensures { OnOk result (tables_view tables.new.items ≡ tables_view tables.old.items ++ topic_tables number (length tables.old.items) (tables_of topic.now.tables.items)) }
+    ensures { OnOk result (tables_view tables.new.items ≡ tables_view tables.old.items
+        ++ topic_tables number (length tables.old.items) (tables_of topic.now.tables.items)) }
 {
     let mains = numbers(alloc, tables.len() as u32, &topic.tables)?;
     for (at, table) in topic.tables.iter().enumerate() {
