@@ -35,6 +35,8 @@ mod labels;
 pub mod laws;
 mod links;
 mod marks;
+#[cfg(test)]
+mod number_tests;
 mod points;
 mod replaying;
 mod state;

@@ -1,8 +1,11 @@
-// A square with a point, and its certificate by hand, changed in one place after another.
+// Two drawings with their certificates, changed in one line or in one number after another.
+ghost use Rattle.std.specs.Prelude.{IsTrue};
+ghost use Rattle.plane.specs.Rule.Windows.{IsInside};
+
 use super::{Verdict, check};
-use certificate::{Certificate, HalfNote, Link, PointPlace};
+use certificate::{CertFault, read};
 use plane::{Drawing, Point, Window2};
-use ports::{Memory, Name};
+use ports::Memory;
 use std::alloc::Global;
 use std::test::Fail;
 
@@ -11,236 +14,256 @@ const WINDOW: Window2 = Window2 {
     high: Point { x: 1000, y: 1000 },
 };
 
-// The corners of the square, whose sides are delivered from A over B, C and D.
-const A: Point = Point { x: 100, y: 100 };
+// The coordinates of the ends of a straight.
+pub type Line = [i64; 4];
 
-const B: Point = Point { x: 200, y: 100 };
+// The first broken rule and its place: rule 0 with the first bad line of a text that spells no
+// certificate, and (0, 0) where all rules hold.
+pub type Broken = (u8, u32);
 
-const C: Point = Point { x: 200, y: 200 };
-
-const D: Point = Point { x: 100, y: 200 };
-
-// Where the object's point lies: inside, outside, on a side, or at a corner.
-const MIDDLE: Point = Point { x: 150, y: 150 };
-
-const OUTSIDE: Point = Point { x: 250, y: 150 };
-
-const SIDE: Point = Point { x: 150, y: 100 };
-
-#[derive(Clone, Copy)]
-enum Spot {
-    Middle,
-    Outside,
-    Side,
-    Corner,
-}
-
-// Below and above each side: the label, the link and the rank.
-type Note = (u32, Link, u32);
-
-const NOTES: [Note; 8] = [
-    (0, Link::Root, 0),
-    (1, Link::Root, 0),
-    (0, Link::Root, 0),
-    (1, Link::Next, 1),
-    (1, Link::Root, 0),
-    (0, Link::Root, 0),
-    (1, Link::Next, 1),
-    (0, Link::Root, 0),
+// A square, delivered counterclockwise.
+const SQUARE: [Line; 4] = [
+    [100, 100, 200, 100],
+    [200, 100, 200, 200],
+    [200, 200, 100, 200],
+    [100, 200, 100, 100],
 ];
 
-fn note(n: Note) -> HalfNote {
-    HalfNote {
-        label: n.0,
-        link: n.1,
-        rank: n.2,
-    }
-}
-
-/// What is changed of the certificate.
-#[derive(Clone, Copy)]
-enum Change {
-    None,
-    Level(u8),
-    Position(usize, u32),
-    Note(usize, Note),
-    Place(PointPlace),
-    NoPlace,
-    NoNote,
-}
-
-// What is changed, where the point lies, and the broken rule with its place, (0, 0) for none.
-type Row = (&'static str, Change, Spot, (u8, u32));
-
-fn verdict(broken: (u8, u32)) -> Verdict {
-    match broken {
-        (0, 0) => Verdict::Proved,
-        (rule, place) => Verdict::NotProved { rule, place },
-    }
-}
-
-const ROWS: [Row; 20] = [
-    ("as it is", Change::None, Spot::Middle, (0, 0)),
-    (
-        "another way across",
-        Change::Note(3, (1, Link::Across(4), 1)),
-        Spot::Middle,
-        (0, 0),
-    ),
-    ("level 6", Change::Level(6), Spot::Middle, (2, 0)),
-    ("no place", Change::NoPlace, Spot::Middle, (2, 0)),
-    ("a note less", Change::NoNote, Spot::Middle, (2, 0)),
-    (
-        "past the list",
-        Change::Position(0, 1),
-        Spot::Middle,
-        (4, 0),
-    ),
-    (
-        "another edge ends",
-        Change::Position(1, 0),
-        Spot::Middle,
-        (4, 1),
-    ),
-    (
-        "a label below",
-        Change::Note(0, (1, Link::Root, 0)),
-        Spot::Middle,
-        (7, 0),
-    ),
-    (
-        "a label above",
-        Change::Note(7, (1, Link::Root, 0)),
-        Spot::Middle,
-        (7, 0),
-    ),
-    (
-        "another cell",
-        Change::Place(PointPlace::Cell(2)),
-        Spot::Middle,
-        (9, 0),
-    ),
-    (
-        "the border",
-        Change::Place(PointPlace::Cell(0)),
-        Spot::Middle,
-        (9, 0),
-    ),
-    (
-        "a tube",
-        Change::Place(PointPlace::Tube {
-            curve: 0,
-            inside: true,
-        }),
-        Spot::Middle,
-        (9, 0),
-    ),
-    ("the point outside", Change::None, Spot::Outside, (9, 0)),
-    ("the point on a side", Change::None, Spot::Side, (9, 0)),
-    ("the point a corner", Change::None, Spot::Corner, (9, 0)),
-    (
-        "rank 0",
-        Change::Note(3, (1, Link::Next, 0)),
-        Spot::Middle,
-        (10, 3),
-    ),
-    (
-        "no root there",
-        Change::Note(3, (1, Link::Root, 0)),
-        Spot::Middle,
-        (10, 3),
-    ),
-    (
-        "a circle of links",
-        Change::Note(4, (1, Link::Prev, 2)),
-        Spot::Middle,
-        (10, 3),
-    ),
-    (
-        "no half-edge",
-        Change::Note(3, (1, Link::Across(9), 1)),
-        Spot::Middle,
-        (10, 3),
-    ),
-    (
-        "a root with a rank",
-        Change::Note(1, (1, Link::Root, 1)),
-        Spot::Middle,
-        (10, 1),
-    ),
+// A triangle with its height, which ends on the first side.
+const TOUCHED: [Line; 4] = [
+    [100, 100, 200, 100],
+    [200, 100, 150, 200],
+    [150, 200, 100, 100],
+    [150, 100, 150, 200],
 ];
 
-fn square(alloc: Global, point: Spot) -> Result<Drawing, Memory> {
+// The square with its first side in place of its second one.
+const DOUBLED: [Line; 4] = [
+    [100, 100, 200, 100],
+    [100, 100, 200, 100],
+    [200, 200, 100, 200],
+    [100, 200, 100, 100],
+];
+
+// A triangle with a line from its first corner that ends in it.
+const SPLIT: [Line; 4] = [
+    [100, 100, 200, 100],
+    [200, 100, 150, 200],
+    [150, 200, 100, 100],
+    [100, 100, 150, 130],
+];
+
+// The certificate of the square with a point in it.
+const LINES: [&[u8]; 14] = [
+    b"ITFCERT 1\n",
+    b"AREAS 1\n",
+    b"AREA Cover Parcel Form\n",
+    b"SIZES 0 4 4 1\n",
+    b"V 0\n",
+    b"V 1\n",
+    b"V 0\n",
+    b"V 0\n",
+    b"E 0 R 0 1 R 0\n",
+    b"E 0 R 0 1 N 1\n",
+    b"E 1 R 0 0 R 0\n",
+    b"E 1 N 1 0 R 0\n",
+    b"P 1\n",
+    b"END\n",
+];
+
+const MIDDLE: [i64; 2] = [150, 150];
+
+// The lines from the first to the last number are replaced by the text; what is broken then.
+type Change = (usize, usize, &'static [u8], Broken);
+
+const CHANGES: [Change; 28] = [
+    // another way across
+    (10, 10, b"E 0 R 0 1 C4 1\n", (0, 0)),
+    // names are not judged here
+    (3, 3, b"AREA Cover Parcel Shape\n", (0, 0)),
+    // texts that spell no list
+    (2, 2, b"AREAS 0\n", (0, 3)),
+    (4, 4, b"SIZES 0 4294967295 4 1\n", (0, 13)),
+    (5, 5, b"V 00\n", (0, 5)),
+    (13, 13, b"P 01\n", (0, 13)),
+    (14, 14, b"", (0, 14)),
+    // the level, an event too many, and an edge too few
+    (4, 4, b"SIZES 6 4 4 1\n", (2, 0)),
+    (4, 5, b"SIZES 0 4 5 1\nV 0\nV 0\n", (2, 0)),
+    (4, 9, b"SIZES 0 3 4 1\nV 0\nV 1\nV 0\nV 0\n", (2, 0)),
+    // past the list, and where another edge ends
+    (5, 5, b"V 1\n", (4, 0)),
+    (6, 6, b"V 0\n", (4, 1)),
+    // a label below the list, above it, and between two edges
+    (9, 9, b"E 1 R 0 1 R 0\n", (7, 0)),
+    (12, 12, b"E 1 N 1 1 R 0\n", (7, 0)),
+    (11, 11, b"E 0 R 0 0 R 0\n", (7, 1)),
+    // the label of a second point, where there is one
+    (
+        9,
+        12,
+        b"E 0 R 0 2 R 0\nE 0 R 0 2 N 1\nE 2 R 0 0 R 0\nE 2 N 1 0 R 0\n",
+        (8, 0),
+    ),
+    // another cell, below and above the list, far past it, and a tube
+    (13, 13, b"P 0\n", (9, 0)),
+    (13, 13, b"P 2\n", (9, 0)),
+    (13, 13, b"P 4294967295\n", (9, 0)),
+    (13, 13, b"P T 0 I\n", (9, 0)),
+    // a root with a rank, one that is none, and a rank that does not fall
+    (9, 9, b"E 0 R 0 1 R 1\n", (10, 1)),
+    (10, 10, b"E 0 R 0 1 R 0\n", (10, 3)),
+    (10, 10, b"E 0 R 0 1 N 0\n", (10, 3)),
+    // a circle of links
+    (11, 11, b"E 1 P 2 0 R 0\n", (10, 3)),
+    // a half-edge that is not there, one that is not across, and the half-edge itself
+    (10, 10, b"E 0 R 0 1 C9 1\n", (10, 3)),
+    (10, 10, b"E 0 R 0 1 C1 1\n", (10, 3)),
+    (10, 10, b"E 0 R 0 1 C3 1\n", (10, 3)),
+    (10, 10, b"E 0 R 0 1 C4294967295 1\n", (10, 3)),
+];
+
+// Other straights or other points; the lines 5 to 12, those of the square where there is none; and
+// what is broken.
+type Other = (
+    &'static [Line; 4],
+    &'static [[i64; 2]],
+    &'static [u8],
+    Broken,
+);
+
+const OTHERS: [Other; 8] = [
+    (&SQUARE, &[MIDDLE], b"", (0, 0)),
+    // a point without a place
+    (&SQUARE, &[MIDDLE, MIDDLE], b"", (2, 0)),
+    // an event on the edge before its block
+    (&TOUCHED, &[MIDDLE], b"", (5, 1)),
+    // two edges of one direction
+    (&DOUBLED, &[MIDDLE], b"", (6, 0)),
+    // two labels that meet where an edge ends and none starts
+    (
+        &SPLIT,
+        &[[140, 110]],
+        b"V 0\nV 1\nV 1\nV 0\nE 0 R 0 1 R 0\nE 1 N 1 0 R 0\nE 2 R 0 0 R 0\nE 1 R 0 2 R 0\n",
+        (7, 1),
+    ),
+    // the point outside, on a side, and at a corner
+    (&SQUARE, &[[250, 150]], b"", (9, 0)),
+    (&SQUARE, &[[150, 100]], b"", (9, 0)),
+    (&SQUARE, &[[200, 100]], b"", (9, 0)),
+];
+
+fn is_inside(window: &Window2, p: Point) -> bool
+    ensures { IsTrue result → IsInside window.now.low window.now.high p }
+{
+    if window.low.x <= p.x && p.x <= window.high.x && window.low.y <= p.y && p.y <= window.high.y {
+        return true;
+    }
+    false
+}
+
+fn add_line(drawing: &mut Drawing, line: &Line) -> Result<(), Memory> {
+    let from = Point {
+        x: line[0],
+        y: line[1],
+    };
+    let to = Point {
+        x: line[2],
+        y: line[3],
+    };
+    if from != to
+        && drawing.curves.len() < 10
+        && is_inside(&drawing.window, from)
+        && is_inside(&drawing.window, to)
+    {
+        drawing.add_straight(from, to, 0)?;
+    }
+    Ok(())
+}
+
+fn add_point(drawing: &mut Drawing, point: [i64; 2]) -> Result<(), Memory> {
+    let at = Point {
+        x: point[0],
+        y: point[1],
+    };
+    if drawing.points.len() < 10 && is_inside(&drawing.window, at) {
+        drawing.add_point(at, 0)?;
+    }
+    Ok(())
+}
+
+pub fn drawing(alloc: Global, straights: &[Line], points: &[[i64; 2]]) -> Result<Drawing, Memory> {
     let mut drawing = Drawing::new(alloc, WINDOW);
-    drawing.add_straight(A, B, 1)?;
-    drawing.add_straight(B, C, 2)?;
-    drawing.add_straight(C, D, 3)?;
-    drawing.add_straight(D, A, 4)?;
-    match point {
-        Spot::Middle => drawing.add_point(MIDDLE, 5)?,
-        Spot::Outside => drawing.add_point(OUTSIDE, 5)?,
-        Spot::Side => drawing.add_point(SIDE, 5)?,
-        Spot::Corner => drawing.add_point(B, 5)?,
+    for straight in straights {
+        add_line(&mut drawing, straight)?;
+    }
+    for point in points {
+        add_point(&mut drawing, *point)?;
     }
     Ok(drawing)
 }
 
-fn apply(certificate: &mut Certificate, change: Change) {
-    match change {
-        Change::None => {}
-        Change::Level(level) => certificate.level = level,
-        Change::Position(event, position) => {
-            if event < certificate.positions.len() {
-                certificate.positions[event] = position;
-            }
+// The text of the square's certificate with the lines from the first to the last one replaced.
+fn text(alloc: Global, first: usize, last: usize, with: &[u8]) -> Result<Vec<u8>, Memory> {
+    let mut bytes = Vec::new(alloc);
+    let mut number: usize = 1;
+    for line in &LINES {
+        if number == first {
+            bytes.extend_from_slice(with)?;
         }
-        Change::Note(half, changed) => {
-            if half < certificate.notes.len() {
-                certificate.notes[half] = note(changed);
-            }
+        if number < first || number > last {
+            bytes.extend_from_slice(line)?;
         }
-        Change::Place(place) => {
-            if !certificate.places.is_empty() {
-                certificate.places[0] = place;
-            }
-        }
-        Change::NoPlace => certificate.places.clear(),
-        Change::NoNote => {
-            let _ = certificate.notes.pop();
-        }
+        number = number.saturating_add(1);
+    }
+    Ok(bytes)
+}
+
+pub fn broken(verdict: Verdict) -> Broken {
+    match verdict {
+        Verdict::Proved => (0, 0),
+        Verdict::NotProved { rule, place } => (rule, place),
     }
 }
 
-fn certificate(alloc: Global) -> Result<Certificate, Memory> {
-    let positions: &[u32] = &[0, 1, 0, 0];
-    let mut notes = Vec::new(alloc);
-    for n in NOTES {
-        notes.push(note(n))?;
+// What is broken of the first certificate of a text, rule 1 where there is none.
+fn judge(alloc: Global, drawing: &Drawing, bytes: &[u8]) -> Result<Broken, Memory> {
+    if bytes.len() > 1 << 30 {
+        return Err(Memory);
     }
-    let places: &[PointPlace] = &[PointPlace::Cell(1)];
-    Ok(Certificate {
-        topic: Name::new(alloc, b"Cover")?,
-        table: Name::new(alloc, b"Parcel")?,
-        attribute: Name::new(alloc, b"Form")?,
-        level: 0,
-        positions: positions.to_vec(alloc)?,
-        notes,
-        places: places.to_vec(alloc)?,
-    })
+    match read(alloc, bytes) {
+        Ok(list) => match list.first() {
+            Some(certificate) => Ok(broken(check(alloc, drawing, certificate)?)),
+            None => Ok((1, 0)),
+        },
+        Err(CertFault::Memory) => Err(Memory),
+        Err(CertFault::Line(n) | CertFault::Number(n) | CertFault::Short(n)) => Ok((0, n)),
+    }
 }
 
-fn verdict_of(alloc: Global, changed: Change, point: Spot) -> Result<Verdict, Memory> {
-    let drawing = square(alloc, point)?;
-    let mut certificate = certificate(alloc)?;
-    apply(&mut certificate, changed);
-    check(alloc, &drawing, &certificate)
+fn judge_change(alloc: Global, change: &Change) -> Result<Broken, Memory> {
+    let drawing = drawing(alloc, &SQUARE, &[MIDDLE])?;
+    let bytes = text(alloc, change.0, change.1, change.2)?;
+    judge(alloc, &drawing, &bytes)
+}
+
+fn judge_other(alloc: Global, other: &Other) -> Result<Broken, Memory> {
+    let (straights, points, lines, _) = *other;
+    let drawing = drawing(alloc, straights, points)?;
+    let last = if lines.is_empty() { 4 } else { 12 };
+    let bytes = text(alloc, 5, last, lines)?;
+    judge(alloc, &drawing, &bytes)
 }
 
 #[test]
 fn each_change_breaks_its_rule_at_its_place(rt: HostRuntime) -> Result<(), Fail> {
-    for (name, changed, point, broken) in ROWS {
-        let answer = verdict_of(rt.alloc(), changed, point)?;
-        assert_eq!(rt; answer, verdict(broken), "{name}");
+    for change in &CHANGES {
+        let answer = judge_change(rt.alloc(), change)?;
+        assert_eq!(rt; answer, change.3, "from line {}", change.0);
+    }
+    for other in &OTHERS {
+        let answer = judge_other(rt.alloc(), other)?;
+        assert_eq!(rt; answer, other.3, "straights {}", other.0[3][0]);
     }
     Ok(())
 }
