@@ -1,15 +1,14 @@
--- Findings of references, column by column.
+-- References, column by column.
 use Rattle.std.proofs.Common.{◌≡◌, ℕ, ◌+◌, ◌<◌, ◌≤◌, List, ◌++◌, length, take, drop, get_or, sym, ap, ◌∙◌, arith, append_assoc, length-drop}
 use Rattle.ili_grammar.specs.Syntax.{Codes}
 use Rattle.resolver.specs.Values.{form_of}
 use Rattle.table_layout.specs.declared.layouts.Column.{Column as CodeColumn}
 use Rattle.table_layout.specs.Layouts.{Column}
 use Rattle.table_layout.specs.Values.{column_view, columns_view}
-use Rattle.itf_reader.specs.Forms.{Row}
-use Rattle.itf_reader.specs.Findings.{Finding}
 use Rattle.field_values.specs.Fields.{width}
 use Rattle.itf_reader.specs.RowFindings.{widths}
-use Rattle.ident_refs.specs.KeyFindings.{referred, reference_finding, columns_references}
+use Rattle.ident_refs.specs.KeyFindings.{referred}
+use Rattle.ident_refs.specs.KeptRows.{Ref, column_refs, columns_refs}
 use Rattle.ident_refs.proofs.Splits.{split}
 
 -- the words of a column and of those behind it
@@ -25,18 +24,18 @@ pub rest_counted : (i : ℕ) (columns : List CodeColumn) (c : CodeColumn) (words
     → length words ≡ widths (drop i (columns_view columns)) → length (drop w words) ≡ widths (drop (i + 1) (columns_view columns))
 rest_counted i columns c words w lt at v e = let h = width_at i columns c (length words) lt at e in length-drop w words ∙ omega (arith, h, v)
 
--- the findings of a column are told
-pub columns_step : (codes : Codes) (rows : List (List Row)) (line i : ℕ) (columns : List CodeColumn) (c : CodeColumn) (words own left : List (List ℕ)) (w : ℕ) (found new start : List Finding)
+-- the references of a column are added
+pub columns_step : (codes : Codes) (line i : ℕ) (columns : List CodeColumn) (c : CodeColumn) (words own left : List (List ℕ)) (w : ℕ) (refs new start : List Ref)
     → i < length columns → c ≡ get_or columns i c → w ≡ width (form_of c.form) → own ≡ take w words → left ≡ drop w words
-    → new ≡ found ++ reference_finding codes rows line (i + 1) (referred (form_of c.form)) own
-    → found ++ columns_references codes rows line (i + 1) (drop i (columns_view columns)) words ≡ start
-    → new ++ columns_references codes rows line (i + 1 + 1) (drop (i + 1) (columns_view columns)) left ≡ start
-columns_step codes rows line i columns c words own left w found new start lt at v o l n inv =
+    → new ≡ refs ++ column_refs codes line (i + 1) (referred (form_of c.form)) own
+    → refs ++ columns_refs codes line (i + 1) (drop i (columns_view columns)) words ≡ start
+    → new ++ columns_refs codes line (i + 1 + 1) (drop (i + 1) (columns_view columns)) left ≡ start
+columns_step codes line i columns c words own left w refs new start lt at v o l n inv =
     let s = split column_view i columns c lt at in
-    let rest = columns_references codes rows line (i + 1 + 1) (drop (i + 1) (columns_view columns)) in
-    let first = reference_finding codes rows line (i + 1) (referred (form_of c.form)) in
-    ap (λ (fs : List Finding). fs ++ rest left) n ∙ append_assoc found (first own) (rest left)
-    ∙ ap (λ (ws : List (List ℕ)). found ++ (first ws ++ rest left)) o
-    ∙ ap (λ (ws : List (List ℕ)). found ++ (first (take w words) ++ rest ws)) l
-    ∙ ap (λ (u : ℕ). found ++ (first (take u words) ++ rest (drop u words))) v
-    ∙ ap (λ (cs : List Column). found ++ columns_references codes rows line (i + 1) cs words) (sym s.0) ∙ inv
+    let rest = columns_refs codes line (i + 1 + 1) (drop (i + 1) (columns_view columns)) in
+    let first = column_refs codes line (i + 1) (referred (form_of c.form)) in
+    ap (λ (fs : List Ref). fs ++ rest left) n ∙ append_assoc refs (first own) (rest left)
+    ∙ ap (λ (ws : List (List ℕ)). refs ++ (first ws ++ rest left)) o
+    ∙ ap (λ (ws : List (List ℕ)). refs ++ (first (take w words) ++ rest ws)) l
+    ∙ ap (λ (u : ℕ). refs ++ (first (take u words) ++ rest (drop u words))) v
+    ∙ ap (λ (cs : List Column). refs ++ columns_refs codes line (i + 1) cs words) (sym s.0) ∙ inv

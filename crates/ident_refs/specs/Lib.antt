@@ -1,8 +1,9 @@
 pub mod Rows
 pub mod ListValues
 pub mod KeyFindings
-pub mod NamedRows
 pub mod Compared
-pub mod Firsts
+pub mod KeyBytes
+pub mod KeptRows
+pub mod KeptViews
+pub mod FedRows
 pub mod Spans
-pub mod Notes

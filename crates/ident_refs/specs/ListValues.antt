@@ -2,8 +2,7 @@
 use Rattle.std.specs.Prelude.{ℕ, ℤ, Bool, true, false, ◌&&◌, nat_eq, is_none, if◌then◌else◌, List, [], ◌∷◌, ◌++◌, take, drop, map, slice_index_or, Option, Some, None}
 use Rattle.std.specs.Cmp.Lexicographic.{pointwise}
 use Rattle.ili_grammar.specs.Syntax.{Codes}
-use Rattle.resolver.specs.Resolved as model
-use Rattle.resolver.specs.Resolved.{Limits, Form, LineForm}
+use Rattle.resolver.specs.Resolved.{Form, LineForm}
 use Rattle.table_layout.specs.Layouts.{Role, Column, Table}
 use Rattle.itf_reader.specs.Forms.{Kind, Start, Straight, OnArc, Vertex, Row}
 use Rattle.field_values.specs.Fields.{width, field_fault, line_axes}

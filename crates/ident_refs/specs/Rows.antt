@@ -1,6 +1,5 @@
 -- Identifications of rows, and the rows that stand before another.
-use Rattle.std.specs.Prelude.{ℕ, Bool, false, nat_eq, if◌then◌else◌, List, [], ◌∷◌, Option, Some, None}
-use Rattle.std.specs.Cmp.Lexicographic.{pointwise}
+use Rattle.std.specs.Prelude.{ℕ, Bool, if◌then◌else◌, List, [], ◌∷◌, Option, Some, None}
 use Rattle.ports.specs.SortedKeys.{is_key}
 use Rattle.itf_reader.specs.Forms.{Row}
 use Rattle.itf_reader.specs.RowKeys.{first_field}

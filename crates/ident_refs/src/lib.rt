@@ -15,31 +15,43 @@
 //!   stands in the column of the list's first place.
 //! - **References.** A word that is not the undefined word must be the identification of a row of
 //!   the table that its column refers to, before or behind it.
+//! - **Row by row.** A `KeyFeed` takes the rows of all tables one after another and keeps of each
+//!   its line, its identification, the key of each IDENT list, and its references. `finish` tells
+//!   what is wrong with all of them. `check_keys` is one feed over the rows of a transfer.
+//! - **Keys** are bytes: a word with one byte before it, the numbers of a value in eight bytes each,
+//!   and of several values each with an end mark. Rows have one key exactly where they demand the
+//!   same.
 //! - **What is proved.** The answer is `key_findings` of `specs/KeyFindings.antt`, which goes over
-//!   rows and the rows before them, and knows no map. The map of an IDENT list compares values by
-//!   the code's own equality, and that this is the defined one is a lemma of `proofs/Sameness.antt`.
+//!   rows and the rows before them, and knows no key. That equal keys are equal values is a lemma
+//!   of `proofs/Injective.antt`. Who feeds each row when it is closed has the findings of the whole
+//!   transfer (`fed_transfer`).
 //! - **Not here:** whether values meet their domains (`domain_rules`), and whether a table must
 //!   have rows.
 //! - **Degenerate cases:** a row without fields has no identification. Two lists with one first
 //!   place give two findings. A list without places is the same for all rows. Where a transfer has
 //!   fewer tables than the layout, the others have no rows.
 //!
-//! Cost: the identifications of each table are sorted, and found by binary search, in n log n
-//! comparisons for every input and 16 bytes for each row. For each IDENT list there is one map of
-//! what its rows demand, filled once: expected linear time, which a file that aims its values at
-//! the map makes quadratic. A map borrows the words, and owns the numbers of vertices. The order
-//! of the findings takes what a sort takes.
+//! Cost: the keys of each column are sorted, and found by binary search, in n log n comparisons for
+//! every input. A feed keeps 20 bytes for each row, 16 for each IDENT list of its table and 32 for
+//! each reference, and the bytes of keys of more than 14 bytes; while a list is looked at, 16
+//! further ones for each row. The words of IDENT lists are read once more. The order of the
+//! findings takes what a sort takes.
 #![tactic(auto)]
 
 mod compared;
-mod firsts;
-mod found;
-mod ids;
+mod feed;
+mod key_bytes;
+mod key_cell;
 mod keys;
+mod laws;
 mod references;
+mod repeats;
 mod sheet;
+mod table_keys;
 #[cfg(test)]
 mod tests;
 mod values;
 
+pub use feed::KeyFeed;
 pub use keys::check_keys;
+pub use laws::fed_transfer;

@@ -1,135 +1,163 @@
-// References that name no row.
-ghost use Rattle.std.specs.Prelude.{◌≡◌, ◌≤◌, ◌+◌, ◌++◌, ◌&&◌, [], not, drop, length, slice_index_or, List, ℕ, IfOk, OnOk};
+// Words that name rows of other tables.
+ghost use Rattle.std.specs.Prelude.{◌≡◌, ◌≤◌, ◌<◌, ◌++◌, [], drop, length, slice_index_or, OnOk, IfOk};
+ghost use Rattle.std.specs.List.{list_any};
+ghost use Rattle.ports.specs.SortedKeys.{is_key};
 ghost use Rattle.ili_grammar.specs.Values.{codes_of};
 ghost use Rattle.resolver.specs.Values.{form_of};
 ghost use Rattle.table_layout.specs.Values.{columns_view, table_view};
+ghost use Rattle.field_values.specs.Fields.{width};
 ghost use Rattle.itf_reader.specs.Findings.{findings_of};
-ghost use Rattle.itf_reader.specs.Views.{row_of, transfer_of};
-ghost use Rattle.field_values.specs.Fields.{is_undefined, width};
 ghost use Rattle.itf_reader.specs.RowFindings.{widths};
-ghost use Rattle.ident_refs.specs.KeyFindings.{names_a_row, referred, reference_finding, columns_references, row_references};
+ghost use Rattle.itf_reader.specs.Views.{row_of};
+ghost use Rattle.ident_refs.specs.KeptRows.{column_refs, columns_refs, ref_findings, row_refs};
+ghost use Rattle.ident_refs.specs.KeptViews.{ref_view, refs_view, ids_in};
+ghost use Rattle.ident_refs.specs.KeyFindings.{referred};
 
-use super::ids::Names;
+use super::key_bytes::word_key;
+use super::key_cell::KeyCell;
+use super::repeats::KeyColumn;
 use field_values::{is_undefined, width};
 use ili_grammar::Codes;
 use itf_lines::Field;
-use itf_reader::{Code, Finding, Other, Row, Transfer, is_counted};
-use ports::Memory;
+use itf_reader::{Code, Finding, Other, Row, is_counted};
+use ports::{Keyed, Memory};
 use resolver::Form;
 use std::alloc::Global;
 use table_layout::{Column, Table};
 
-/// The rows of all tables by their identifications, in the order of the layout.
+/// A reference: the line of its row, its column, its table, and the key of the identification
+/// that it names.
 #[derive(Drop)]
-pub struct NamedRows<'a> {
-    alloc: Global,
-    pub codes: &'a Codes,
-    pub tables: Vec<Names<'a>>,
+pub struct KeptRef {
+    pub line: u32,
+    pub column: u32,
+    pub table: u32,
+    pub word: KeyCell,
 }
 
-impl<'a> NamedRows<'a> {
-    ghost use Rattle.ident_refs.specs.NamedRows.{rows_in};
-
-    /// The rows of a transfer.
-    pub fn new(
-        alloc: Global,
-        codes: &'a Codes,
-        transfer: &'a Transfer,
-    ) -> Result<NamedRows<'a>, Memory>
-        ensures codes { IfOk result (λ named. named.codes.now ≡ codes.now) }
-        ensures rows { IfOk result (λ named. rows_in named ≡ transfer_of transfer.now) }
-    {
-        let mut tables = Vec::new(alloc);
-        for table in &transfer.tables {
-            tables.push(Names::new(alloc, &table.rows)?)?;
+// Adds the reference of a column, if it refers to a table and its word is defined.
+fn add_column(
+    alloc: Global,
+    codes: &Codes,
+    form: &Form,
+    line: u32,
+    number: u32,
+    words: &[Field],
+    refs: &mut Vec<KeptRef>,
+) -> Result<(), Memory>
+    requires { length words.now ≡ width (form_of form.now) }
+    ensures { OnOk result (refs_view refs.new.items ≡ refs_view refs.old.items ++ column_refs
+        (codes_of codes.now) line number (referred (form_of form.now)) words.now) }
+{
+    match (form, words) {
+        (Form::Reference(table), [word]) if !is_undefined(codes, word.bytes()) => {
+            refs.push(KeptRef {
+                line,
+                column: number,
+                table: *table,
+                word: word_key(alloc, word.bytes())?,
+            })?;
         }
-        Ok(NamedRows {
+        _ => {}
+    }
+    Ok(())
+}
+
+// Adds the references of some columns.
+fn add_columns(
+    alloc: Global,
+    codes: &Codes,
+    columns: &[Column],
+    line: u32,
+    words: &[Field],
+    refs: &mut Vec<KeptRef>,
+) -> Result<(), Memory>
+    requires few { length columns.now ≤ 4194306 }
+    requires counted { length words.now ≡ widths (columns_view columns.now) }
+    ensures { OnOk result (refs_view refs.new.items ≡ refs_view refs.old.items ++ columns_refs
+        (codes_of codes.now) line 1 (columns_view columns.now) words.now) }
+{
+    let mut left = words;
+    for (place, column) in columns.iter().enumerate() {
+        let (own, rest) = left.split_at(width(&column.form));
+        add_column(
             alloc,
             codes,
-            tables,
-        })
+            &column.form,
+            line,
+            place as u32 + 1,
+            own,
+            refs,
+        )?;
+        left = rest;
     }
+    Ok(())
+}
 
-    // Whether a row of the table of that number has the identification.
-    fn has(&self, table: u32, word: &[u8]) -> bool
-        ensures { result ≡ names_a_row word.now (slice_index_or (rows_in self.now) table []) }
-    {
-        match self.tables.get(table as usize) {
-            Some(names) => names.has(word),
-            None => false,
+/// Adds the references of a row. One with a wrong number of words refers to nothing.
+pub fn add_refs(
+    alloc: Global,
+    codes: &Codes,
+    table: &Table,
+    row: &Row,
+    refs: &mut Vec<KeptRef>,
+) -> Result<(), Memory>
+    requires few { length table.now.columns.items ≤ 4194306 }
+    ensures { OnOk result (refs_view refs.new.items ≡ refs_view refs.old.items ++ row_refs
+        (codes_of codes.now) (table_view table.now) (row_of row.now)) }
+{
+    if is_counted(table, row) {
+        add_columns(
+            alloc,
+            codes,
+            &table.columns,
+            row.line,
+            &row.fields[1..],
+            refs,
+        )?;
+    }
+    Ok(())
+}
+
+// Whether a row of the table of that number has the key.
+fn is_named(ids: &[KeyColumn], table: u32, key: &[u8]) -> bool
+    ensures { result ≡ list_any (is_key key.now) (slice_index_or (ids_in ids.now) table []) }
+{
+    match ids.get(table as usize) {
+        Some(column) => column.has(key),
+        None => false,
+    }
+}
+
+// The word of a key.
+fn word_of(key: &[u8]) -> &[u8]
+    ensures { result.now ≡ drop 1 key.now }
+{
+    match key {
+        [_, word @ ..] => word,
+        [] => &[],
+    }
+}
+
+/// Adds a finding for a reference that names no row, by the identifications of all tables.
+pub fn add_dangling(
+    alloc: Global,
+    ids: &[KeyColumn],
+    reference: &KeptRef,
+    found: &mut Vec<Finding>,
+) -> Result<(), Memory>
+    ensures { OnOk result (findings_of found.new.items ≡ findings_of found.old.items ++ ref_findings
+        (ids_in ids.now) (ref_view reference.now)) }
+{
+    if let Some(key) = reference.word.key() {
+        if !is_named(ids, reference.table, key) {
+            found.push(Finding {
+                line: reference.line,
+                column: reference.column,
+                code: Code::Reference,
+                other: Other::Word(Field::new(alloc, word_of(key))?),
+            })?;
         }
     }
-
-    // Whether the word of a reference should name a row, and names none.
-    fn is_dangling(&self, table: u32, word: &[u8]) -> bool
-        ensures { result ≡ (not (is_undefined (codes_of self.now.codes.now) word.now) && not
-            (names_a_row word.now (slice_index_or (rows_in self.now) table []))) }
-    {
-        !is_undefined(self.codes, word) && !self.has(table, word)
-    }
-
-    // Adds what is wrong with the words of a column, if it refers to a table.
-    fn add_column(
-        &self,
-        form: &Form,
-        line: u32,
-        number: u32,
-        words: &[Field],
-        found: &mut Vec<Finding>,
-    ) -> Result<(), Memory>
-        requires { length words.now ≡ width (form_of form.now) }
-        ensures { OnOk result (findings_of found.new.items ≡ findings_of found.old.items ++
-            reference_finding (codes_of self.now.codes.now) (rows_in self.now) line number
-            (referred (form_of form.now)) words.now) }
-    {
-        match (form, words) {
-            (Form::Reference(table), [word]) if self.is_dangling(*table, word.bytes()) => {
-                found.push(Finding {
-                    line,
-                    column: number,
-                    code: Code::Reference,
-                    other: Other::Word(Field::new(self.alloc, word.bytes())?),
-                })?;
-            }
-            _ => {}
-        }
-        Ok(())
-    }
-
-    // Adds what is wrong with the words of some columns.
-    fn add_columns(
-        &self,
-        columns: &[Column],
-        line: u32,
-        words: &[Field],
-        found: &mut Vec<Finding>,
-    ) -> Result<(), Memory>
-        requires few { length columns.now ≤ 4194306 }
-        requires counted { length words.now ≡ widths (columns_view columns.now) }
-        ensures { OnOk result (findings_of found.new.items ≡ findings_of found.old.items ++
-            columns_references (codes_of self.now.codes.now) (rows_in self.now) line 1
-            (columns_view columns.now) words.now) }
-    {
-        let mut left = words;
-        for (place, column) in columns.iter().enumerate() {
-            let (own, rest) = left.split_at(width(&column.form));
-            self.add_column(&column.form, line, place as u32 + 1, own, found)?;
-            left = rest;
-        }
-        Ok(())
-    }
-
-    /// Adds a finding for each word of a row that should name a row of another table, and names
-    /// none.
-    pub fn add_row(&self, table: &Table, row: &Row, found: &mut Vec<Finding>) -> Result<(), Memory>
-        requires few { length table.now.columns.items ≤ 4194306 }
-        ensures { OnOk result (findings_of found.new.items ≡ findings_of found.old.items ++
-            row_references (codes_of self.now.codes.now) (rows_in self.now) (table_view table.now)
-            (row_of row.now)) }
-    {
-        if is_counted(table, row) {
-            self.add_columns(&table.columns, row.line, &row.fields[1..], found)?;
-        }
-        Ok(())
-    }
+    Ok(())
 }

@@ -5,27 +5,22 @@ ghost use Rattle.std.specs.Option.{option_map};
 ghost use Rattle.ili_grammar.specs.Values.{codes_of};
 ghost use Rattle.resolver.specs.Values.{line_of};
 ghost use Rattle.table_layout.specs.Values.{columns_view, role_view, table_view};
-ghost use Rattle.itf_reader.specs.declared.findings.Code.TheVariants.{Ident};
-ghost use Rattle.itf_reader.specs.Findings.{findings_of};
-ghost use Rattle.itf_reader.specs.Forms.{Row as GivenRow};
-ghost use Rattle.itf_reader.specs.Views.{row_of, rows_of, strokes_of};
+ghost use Rattle.itf_reader.specs.Views.{row_of, strokes_of};
 ghost use Rattle.itf_reader.specs.RowFindings.{widths, is_counted};
 ghost use Rattle.ident_refs.specs.Compared.{value_view, demand_view};
-ghost use Rattle.ident_refs.specs.KeyFindings.{clash, column_of, ident_findings};
-ghost use Rattle.ident_refs.specs.ListValues.{demand, is_same_demand, lines_values, row_values};
-ghost use Rattle.ident_refs.specs.Notes.{Notes};
-ghost use Rattle.ident_refs.specs.Rows.{first_such};
+ghost use Rattle.ident_refs.specs.KeptRows.{list_key};
+ghost use Rattle.ident_refs.specs.KeyFindings.{column_of};
+ghost use Rattle.ident_refs.specs.ListValues.{demand, lines_values, row_values};
 ghost use Rattle.ident_refs.specs.Spans.{span_view, spans_from};
 
 use super::compared::{Demand, Value};
-use super::firsts::note_first;
-use super::found::add_clash;
+use super::key_bytes::demand_key;
+use super::key_cell::KeyCell;
 use super::values::{form_value, line_value};
 use field_values::width;
 use ili_grammar::Codes;
-use indexmap::IndexMap;
 use itf_lines::Field;
-use itf_reader::{Code, Finding, Row, Stroke};
+use itf_reader::{Row, Stroke};
 use ports::Memory;
 use resolver::Form;
 use std::alloc::Global;
@@ -60,6 +55,7 @@ pub struct Sheet<'a> {
     fields: usize,
     ghost spread: { map span_view spans.items ≡ spans_from 1 (columns_view table.now.columns.items) },
     ghost wide: { fields ≡ 1 + widths (columns_view table.now.columns.items) },
+    ghost few: { length table.now.columns.items ≤ 4194306 },
 }
 
 // Where the words of some columns stand, behind the identification, and where they end.
@@ -83,8 +79,8 @@ fn spans_of<'a>(alloc: Global, columns: &'a [Column]) -> Result<(Vec<Span<'a>>, 
     Ok((spans, start))
 }
 
-// The column of a finding of an IDENT list: that of its first place, counted from 1.
-fn column_of(places: &[u32]) -> u32
+/// The column of a finding of an IDENT list: that of its first place, counted from 1.
+pub fn column_of(places: &[u32]) -> u32
     requires { All (λ p. p < 4194306) places.now }
     ensures { result ≡ column_of places.now }
 {
@@ -158,53 +154,14 @@ impl<'a> Sheet<'a> {
         Ok(Some(Demand { values }))
     }
 
-    // Adds a finding for a row, if a row before it demanded the same, and notes what it demands.
-    fn add_row<'b>(
-        &self,
-        places: &[u32],
-        column: u32,
-        row: &'b Row,
-        lines: &mut IndexMap<Demand<'b>, u32>,
-        found: &mut Vec<Finding>,
-    ) -> Result<(), Memory>
-        ensures noted { OnOk result ((before : List GivenRow)
-            → Notes (codes_of self.now.codes.now) (table_view self.now.table.now) places.now before
-            lines.old → Notes (codes_of self.now.codes.now) (table_view self.now.table.now)
-            places.now (before ++ row_of row.now ∷ []) lines.new) }
-        ensures told { OnOk result ((before : List GivenRow)
-            → Notes (codes_of self.now.codes.now) (table_view self.now.table.now) places.now before
-            lines.old → findings_of found.new.items ≡ findings_of found.old.items ++ clash Ident
-            column (row_of row.now) (first_such (λ other. is_same_demand (demand
-            (codes_of self.now.codes.now) (table_view self.now.table.now) places.now
-            (row_of row.now)) (demand (codes_of self.now.codes.now) (table_view self.now.table.now)
-            places.now other)) before)) }
+    /// The key of a row by a list, none where the row demands nothing.
+    pub fn key(&self, places: &[u32], row: &Row) -> Result<KeyCell, Memory>
+        ensures { IfOk result (λ key. key ≡ list_key (codes_of self.now.codes.now)
+            (table_view self.now.table.now) places.now (row_of row.now)) }
     {
         match self.demand(places, row)? {
-            Some(demand) => {
-                let first = note_first(lines, demand, row.line)?;
-                add_clash(found, Code::Ident, column, row, first)
-            }
-            None => Ok(()),
+            Some(demand) => demand_key(self.alloc, &demand),
+            None => KeyCell::new(self.alloc, &[]),
         }
-    }
-
-    /// Adds a finding for each row that demands by a list what a row before it demands.
-    pub fn add_clashes(
-        &self,
-        places: &[u32],
-        rows: &[Row],
-        found: &mut Vec<Finding>,
-    ) -> Result<(), Memory>
-        requires { All (λ p. p < 4194306) places.now }
-        ensures { OnOk result (findings_of found.new.items ≡ findings_of found.old.items ++
-            ident_findings (codes_of self.now.codes.now) (table_view self.now.table.now) places.now
-            [] (rows_of rows.now)) }
-    {
-        let column = column_of(places);
-        let mut lines = IndexMap::new(self.alloc);
-        for row in rows {
-            self.add_row(places, column, row, &mut lines, found)?;
-        }
-        Ok(())
     }
 }

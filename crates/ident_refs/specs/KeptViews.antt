@@ -1,0 +1,48 @@
+-- What the code keeps of rows, without where it lies in memory.
+use Rattle.std.specs.Prelude.{◌≡◌, ℕ, List, map, Option}
+use Rattle.ili_grammar.specs.Values.{codes_of}
+use Rattle.table_layout.specs.Layouts.{Layout}
+use Rattle.table_layout.specs.Values.{table_view}
+use Rattle.itf_reader.specs.Forms.{Row}
+use Rattle.ident_refs.specs.declared.references.KeptRef.{KeptRef}
+use Rattle.ident_refs.specs.declared.repeats.KeyColumn.{KeyColumn}
+use Rattle.ident_refs.specs.declared.table_keys.KeptList.{KeptList as CodeList}
+use Rattle.ident_refs.specs.declared.table_keys.TableKeys.{TableKeys}
+use Rattle.ident_refs.specs.declared.feed.KeyFeed.{KeyFeed}
+use Rattle.ident_refs.specs.KeptRows.{Ref, KeptList, Kept, kept_rows}
+
+abbrev pub ref_view : KeptRef → Ref
+ref_view r = record { line = r.line; column = r.column; table = r.table; word = r.word }
+
+abbrev pub refs_view : List KeptRef → List Ref
+refs_view rs = map ref_view rs
+
+abbrev pub list_view : CodeList → KeptList
+list_view l = record { column = l.column; places = l.places.now; keys = l.keys.items }
+
+abbrev pub lists_view : List CodeList → List KeptList
+lists_view ls = map list_view ls
+
+abbrev pub kept_of : TableKeys → Kept
+kept_of t = record {
+  codes = codes_of t.sheet.codes.now;
+  table = table_view t.sheet.table.now;
+  lines = t.lines.items;
+  ids = t.ids.items;
+  lists = lists_view t.lists.items;
+  refs = refs_view t.refs.items;
+}
+
+abbrev pub kept_in : List TableKeys → List Kept
+kept_in ts = map kept_of ts
+
+-- the identifications of all tables
+abbrev pub ids_in : List KeyColumn → List (List (Option (List ℕ)))
+ids_in columns = map (λ (c : KeyColumn). c.keys.now) columns
+
+abbrev pub lines_in : List KeyColumn → List (List ℕ)
+lines_in columns = map (λ (c : KeyColumn). c.lines.now) columns
+
+-- the feed has taken these rows of a layout's tables, each with the number of its table
+abbrev pub HasRows : Layout → KeyFeed → List (ℕ × Row) → Type 0
+HasRows l feed rows = kept_in feed.tables.items ≡ kept_rows l rows

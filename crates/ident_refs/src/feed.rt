@@ -1,0 +1,143 @@
+// The keys and references of a transfer whose rows come one after another.
+ghost use Rattle.std.specs.Prelude.{◌≡◌, ◌≤◌, ◌++◌, ◌∷◌, ℕ, List, [], length, map, IfOk, OnOk};
+ghost use Rattle.std.specs.List.{All};
+ghost use Rattle.ili_grammar.specs.Values.{codes_of};
+ghost use Rattle.table_layout.specs.Layouts.{Layout as GivenLayout};
+ghost use Rattle.table_layout.specs.Valid.{IsValid};
+ghost use Rattle.table_layout.specs.Values.{layout_view, tables_view};
+ghost use Rattle.itf_reader.specs.Few.{HasFew};
+ghost use Rattle.itf_reader.specs.Findings.{findings_of};
+ghost use Rattle.itf_reader.specs.Forms.{Row as GivenRow};
+ghost use Rattle.itf_reader.specs.Views.{row_of, rows_of, tables_seen};
+ghost use Rattle.ident_refs.specs.FedRows.{HasPlaces, fed_keys, fed_rows, fed_tables, row_at};
+ghost use Rattle.ident_refs.specs.KeptRows.{all_ids, all_lines, all_told, no_rows};
+ghost use Rattle.ident_refs.specs.KeptViews.{HasRows, ids_in, kept_in, lines_in};
+
+use super::repeats::KeyColumn;
+use super::table_keys::TableKeys;
+use ili_grammar::Codes;
+use itf_reader::{Finding, Row, TableRows};
+use ports::Memory;
+use std::alloc::Global;
+use table_layout::{Layout, Table, TableId};
+
+/// What is kept of the rows of a transfer: for each row its line and its identification, the key
+/// of each IDENT list of its table, and its references.
+#[derive(Drop)]
+pub struct KeyFeed<'a> {
+    alloc: Global,
+    pub tables: Vec<TableKeys<'a>>,
+}
+
+// The tables of a layout, without rows.
+fn empty_tables<'a>(
+    alloc: Global,
+    codes: &'a Codes,
+    tables: &'a [Table],
+) -> Result<Vec<TableKeys<'a>>, Memory>
+    requires few { All HasFew (tables_view tables.now) }
+    requires places { All HasPlaces (tables_view tables.now) }
+    ensures { IfOk result (λ kept. kept_in kept.items ≡ map (no_rows (codes_of codes.now))
+        (tables_view tables.now)) }
+{
+    let mut kept = Vec::with_capacity(alloc, tables.len())?;
+    for table in tables {
+        kept.push(TableKeys::new(alloc, codes, table)?)?;
+    }
+    Ok(kept)
+}
+
+// Adds a row to the table at that place, if there is one.
+fn add_at(tables: &mut [TableKeys], place: usize, row: &Row) -> Result<(), Memory>
+    ensures { OnOk result (kept_in tables.new ≡ row_at place (row_of row.now) (kept_in tables.old)) }
+{
+    if place < tables.len() {
+        tables[place].add_row(row)?;
+    }
+    Ok(())
+}
+
+// Adds rows to the table at that place.
+fn add_rows(tables: &mut [TableKeys], place: usize, rows: &[Row]) -> Result<(), Memory>
+    ensures { OnOk result (kept_in tables.new ≡ fed_rows place (rows_of rows.now)
+        (kept_in tables.old)) }
+{
+    for row in rows {
+        add_at(tables, place, row)?;
+    }
+    Ok(())
+}
+
+// The identifications of each table in order.
+fn id_columns<'a>(alloc: Global, tables: &'a [TableKeys<'a>]) -> Result<Vec<KeyColumn<'a>>, Memory>
+    ensures keys { IfOk result (λ columns. ids_in columns.items ≡ all_ids (kept_in tables.now)) }
+    ensures lines { IfOk result (λ columns. lines_in columns.items ≡ all_lines (kept_in tables.now)) }
+{
+    let mut columns = Vec::with_capacity(alloc, tables.len())?;
+    for table in tables {
+        columns.push(KeyColumn::new(alloc, &table.lines, &table.ids)?)?;
+    }
+    Ok(columns)
+}
+
+// Adds what is wrong with the keys and references of each table.
+fn add_findings(
+    tables: &[TableKeys],
+    ids: &[KeyColumn],
+    found: &mut Vec<Finding>,
+) -> Result<(), Memory>
+    requires keys { ids_in ids.now ≡ all_ids (kept_in tables.now) }
+    requires lines { lines_in ids.now ≡ all_lines (kept_in tables.now) }
+    ensures { OnOk result (findings_of found.new.items ≡ findings_of found.old.items ++ all_told
+        (kept_in tables.now)) }
+{
+    for (place, table) in tables.iter().enumerate() {
+        table.add_findings(&ids[place], ids, found)?;
+    }
+    Ok(())
+}
+
+impl<'a> KeyFeed<'a> {
+    /// No row.
+    pub fn new(alloc: Global, layout: &'a Layout) -> Result<KeyFeed<'a>, Memory>
+        requires { IsValid (layout_view layout.now) }
+        ensures { IfOk result (λ feed. HasRows (layout_view layout.now) feed []) }
+    {
+        let tables = empty_tables(alloc, &layout.codes, &layout.tables)?;
+        Ok(KeyFeed { alloc, tables })
+    }
+
+    /// Adds a row of that table. Nothing is kept of a row whose table the layout lacks. After an
+    /// error, which is out of memory, nothing is said of the feed.
+    pub fn add_row(&mut self, table: TableId, row: &Row) -> Result<(), Memory>
+        ensures { OnOk result ((l : GivenLayout) (rows : List (ℕ × GivenRow)) → HasRows l self.old
+            rows → HasRows l self.new (rows ++ (table.0, row_of row.now) ∷ [])) }
+    {
+        add_at(&mut self.tables, table.0 as usize, row)?;
+        Ok(())
+    }
+
+    // Adds the rows of all tables, in the order of the layout.
+    pub fn add_tables(&mut self, transfer: &[TableRows]) -> Result<(), Memory>
+        ensures { OnOk result (kept_in self.new.tables.items ≡ fed_tables 0
+            (tables_seen transfer.now) (kept_in self.old.tables.items)) }
+    {
+        for (place, table) in transfer.iter().enumerate() {
+            add_rows(&mut self.tables, place, &table.rows)?;
+        }
+        Ok(())
+    }
+
+    /// Adds what is wrong with the keys and references of all rows that were added: the findings of
+    /// each table in the order of the layout, those of identifications and of each IDENT list in
+    /// the order of its rows, then those of references.
+    pub fn finish(self, found: &mut Vec<Finding>) -> Result<(), Memory>
+        ensures { OnOk result ((l : GivenLayout) (rows : List (ℕ × GivenRow)) → HasRows l self.entry rows
+            → findings_of found.new.items ≡ findings_of found.old.items ++ fed_keys l rows) }
+    {
+        let tables = self.tables.as_slice();
+        let ids = id_columns(self.alloc, tables)?;
+        add_findings(tables, &ids, found)?;
+        Ok(())
+    }
+}

@@ -1,0 +1,192 @@
+// The values that an IDENT list demands, as the bytes of one key.
+ghost use Rattle.std.specs.Prelude.{◌≡◌, ◌+◌, ◌++◌, ◌∷◌, [], length, map, Some, IfOk, OnOk};
+ghost use Rattle.std.specs.List.{flat_map};
+ghost use Rattle.std.specs.Option.{option_to_list};
+ghost use Rattle.ident_refs.specs.Compared.{corner_view, demand_view, rank_of, value_view, values_view};
+ghost use Rattle.ident_refs.specs.KeptRows.{id_key};
+ghost use Rattle.ident_refs.specs.KeyBytes.{byte_code, corner_code, corners_code, ended, list_code, number_code, numbers_code, part_code, value_code, word_code};
+ghost use Rattle.itf_reader.specs.Views.{row_of};
+
+use super::compared::{Corner, Demand, Value};
+use super::key_cell::KeyCell;
+use itf_reader::{Row, VertexKind};
+use ports::{Keyed, Memory};
+use std::alloc::Global;
+
+fn add_byte(into: &mut Vec<u8>, byte: u8) -> Result<(), Memory>
+    ensures { OnOk result (into.new.items ≡ into.old.items ++ byte_code byte) }
+{
+    if byte == 0 {
+        into.push(0)?;
+        into.push(1)?;
+    } else {
+        into.push(byte)?;
+    }
+    Ok(())
+}
+
+// Adds bytes, so that they are told from what stands behind them.
+fn add_ended(into: &mut Vec<u8>, bytes: &[u8]) -> Result<(), Memory>
+    ensures { OnOk result (into.new.items ≡ into.old.items ++ ended bytes.now) }
+{
+    for byte in bytes {
+        add_byte(into, *byte)?;
+    }
+    into.push(0)?;
+    into.push(0)?;
+    Ok(())
+}
+
+#[tactic(auto, unfolding(crate::specs::KeyBytes::number_code))]
+fn add_number(into: &mut Vec<u8>, number: &i64) -> Result<(), Memory>
+    ensures { OnOk result (into.new.items ≡ into.old.items ++ number_code number.now) }
+{
+    into.extend_from_slice(&number.to_be_bytes())?;
+    Ok(())
+}
+
+fn add_height(into: &mut Vec<u8>, height: Option<i64>) -> Result<(), Memory>
+    ensures { OnOk result (into.new.items ≡ into.old.items ++ numbers_code (option_to_list height)) }
+{
+    match height {
+        Some(number) => add_number(into, &number),
+        None => Ok(()),
+    }
+}
+
+fn add_place(into: &mut Vec<u8>, x: &i64, y: &i64) -> Result<(), Memory>
+    ensures { OnOk result (into.new.items ≡ into.old.items ++ numbers_code (x.now ∷ y.now ∷ [])) }
+{
+    add_number(into, x)?;
+    add_number(into, y)
+}
+
+// The number of a kind.
+fn rank(kind: VertexKind) -> u8
+    ensures { result ≡ rank_of kind }
+{
+    match kind {
+        VertexKind::Start => 0,
+        VertexKind::Straight => 1,
+        VertexKind::OnArc => 2,
+    }
+}
+
+fn axes(height: Option<i64>) -> u8
+    ensures { result ≡ 2 + length (option_to_list height) }
+{
+    match height {
+        Some(_) => 3,
+        None => 2,
+    }
+}
+
+// Adds a vertex: its kind, how many numbers it has, and these.
+fn add_corner(into: &mut Vec<u8>, corner: &Corner) -> Result<(), Memory>
+    ensures { OnOk result (into.new.items ≡ into.old.items ++ corner_code (corner_view corner.now)) }
+{
+    into.push(rank(corner.kind))?;
+    into.push(axes(corner.height))?;
+    add_place(into, &corner.x, &corner.y)?;
+    add_height(into, corner.height)
+}
+
+fn add_corners(into: &mut Vec<u8>, corners: &[Corner]) -> Result<(), Memory>
+    ensures { OnOk result (into.new.items ≡ into.old.items ++ corners_code
+        (map corner_view corners.now)) }
+{
+    for corner in corners {
+        add_corner(into, corner)?;
+    }
+    Ok(())
+}
+
+// Adds a value: what it is told by, and its numbers, bytes or vertices.
+fn add_value(into: &mut Vec<u8>, value: &Value) -> Result<(), Memory>
+    ensures { OnOk result (into.new.items ≡ into.old.items ++ value_code (value_view value.now)) }
+{
+    match value {
+        Value::Number(n) => {
+            into.push(0)?;
+            add_number(into, n)
+        }
+        Value::Plane(x, y) => {
+            into.push(0)?;
+            add_place(into, x, y)
+        }
+        Value::Space(x, y, z) => {
+            into.push(0)?;
+            add_place(into, x, y)?;
+            add_number(into, z)
+        }
+        Value::Word(word) => {
+            into.push(1)?;
+            into.extend_from_slice(word)?;
+            Ok(())
+        }
+        Value::Line(corners) => {
+            into.push(2)?;
+            add_corners(into, corners)
+        }
+    }
+}
+
+// Adds one of several values.
+fn add_part(alloc: Global, into: &mut Vec<u8>, value: &Value) -> Result<(), Memory>
+    ensures { OnOk result (into.new.items ≡ into.old.items ++ part_code (value_view value.now)) }
+{
+    let mut own = Vec::new(alloc);
+    add_value(&mut own, value)?;
+    add_ended(into, &own)
+}
+
+fn add_parts(alloc: Global, into: &mut Vec<u8>, values: &[Value]) -> Result<(), Memory>
+    ensures { OnOk result (into.new.items ≡ into.old.items ++ flat_map part_code
+        (values_view values.now)) }
+{
+    for value in values {
+        add_part(alloc, into, value)?;
+    }
+    Ok(())
+}
+
+fn add_list(alloc: Global, into: &mut Vec<u8>, values: &[Value]) -> Result<(), Memory>
+    ensures { OnOk result (into.new.items ≡ into.old.items ++ list_code (values_view values.now)) }
+{
+    match values {
+        [value] => add_value(into, value),
+        _ => {
+            into.push(3)?;
+            add_parts(alloc, into, values)
+        }
+    }
+}
+
+/// The key of what a row demands.
+pub fn demand_key(alloc: Global, demand: &Demand) -> Result<KeyCell, Memory>
+    ensures { IfOk result (λ key. key ≡ Some (list_code (demand_view demand.now))) }
+{
+    let mut bytes = Vec::new(alloc);
+    add_list(alloc, &mut bytes, &demand.values)?;
+    KeyCell::new(alloc, &bytes)
+}
+
+/// The key of a word as an identification.
+pub fn word_key(alloc: Global, word: &[u8]) -> Result<KeyCell, Memory>
+    ensures { IfOk result (λ key. key ≡ Some (word_code word.now)) }
+{
+    let mut bytes = Vec::with_capacity(alloc, word.len().saturating_add(1))?;
+    bytes.push(1)?;
+    bytes.extend_from_slice(word)?;
+    KeyCell::new(alloc, &bytes)
+}
+
+/// The key of a row by its identification.
+pub fn row_key(alloc: Global, row: &Row) -> Result<KeyCell, Memory>
+    ensures { IfOk result (λ key. key ≡ id_key (row_of row.now)) }
+{
+    match row.key() {
+        Some(word) => word_key(alloc, word),
+        None => KeyCell::new(alloc, &[]),
+    }
+}

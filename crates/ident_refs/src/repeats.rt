@@ -1,0 +1,100 @@
+// Rows that repeat a key of their table.
+ghost use Rattle.std.specs.Prelude.{◌≡◌, ◌≤◌, ◌++◌, [], None, IfOk, OnOk, get_or, length, map, take};
+ghost use Rattle.std.specs.List.{list_any};
+ghost use Rattle.ports.specs.SortedKeys.{IsSortedKeys, is_key};
+ghost use Rattle.itf_reader.specs.Findings.{findings_of};
+ghost use Rattle.ident_refs.specs.KeptRows.{cell_key, first_line, repeat, repeats, zipped};
+
+use super::key_cell::KeyCell;
+use itf_reader::{Code, Finding, Other};
+use ports::{Keyed, Memory, SortedKeys};
+use std::alloc::Global;
+
+/// The lines of the rows of a table, a key of each, and these keys in order.
+#[derive(Drop)]
+pub struct KeyColumn<'a> {
+    pub lines: &'a [u32],
+    pub keys: &'a [KeyCell],
+    pub sorted: SortedKeys,
+    ghost told: { IsSortedKeys (map cell_key keys.now) sorted },
+}
+
+// Adds a finding for a row whose key a row before it has.
+fn add_repeat(
+    found: &mut Vec<Finding>,
+    code: Code,
+    column: u32,
+    line: u32,
+    first: Option<u32>,
+) -> Result<(), Memory>
+    ensures { OnOk result (findings_of found.new.items ≡ findings_of found.old.items ++ repeat
+        code column line first) }
+{
+    if let Some(first) = first {
+        found.push(Finding {
+            line,
+            column,
+            code,
+            other: Other::Line(first),
+        })?;
+    }
+    Ok(())
+}
+
+impl<'a> KeyColumn<'a> {
+    /// Sorts the keys, in n log n comparisons for every input.
+    pub fn new(
+        alloc: Global,
+        lines: &'a [u32],
+        keys: &'a [KeyCell],
+    ) -> Result<KeyColumn<'a>, Memory>
+        ensures lines { IfOk result (λ column. column.lines.now ≡ lines.now) }
+        ensures keys { IfOk result (λ column. column.keys.now ≡ keys.now) }
+    {
+        let sorted = SortedKeys::new(alloc, keys)?;
+        Ok(KeyColumn {
+            lines,
+            keys,
+            sorted,
+        })
+    }
+
+    /// Whether some row has that key, by binary search.
+    pub fn has(&self, key: &[u8]) -> bool
+        ensures { result ≡ list_any (is_key key.now) self.now.keys.now }
+    {
+        self.sorted.first(self.keys, key).is_some()
+    }
+
+    // The line of the first row before that place which has the key of the row there.
+    fn first_before(&self, place: usize) -> Option<u32>
+        requires { place ≤ length self.now.lines.now }
+        ensures { result ≡ first_line (get_or self.now.keys.now place None) (take place
+            (zipped self.now.lines.now self.now.keys.now)) }
+    {
+        let key = self.keys.get(place)?.key()?;
+        let first = self.sorted.first(self.keys, key)?;
+        if first < place {
+            Some(*self.lines.get(first)?)
+        } else {
+            None
+        }
+    }
+
+    /// Adds a finding for each row whose key a row before it has, with the line of the first of
+    /// these.
+    pub fn add_repeats(
+        &self,
+        code: Code,
+        column: u32,
+        found: &mut Vec<Finding>,
+    ) -> Result<(), Memory>
+        ensures { OnOk result (findings_of found.new.items ≡ findings_of found.old.items ++ repeats
+            code column [] (zipped self.now.lines.now self.now.keys.now)) }
+    {
+        for (place, line) in self.lines.iter().enumerate() {
+            add_repeat(found, code, column, *line, self.first_before(place))?;
+        }
+        Ok(())
+    }
+}

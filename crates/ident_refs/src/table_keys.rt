@@ -1,0 +1,180 @@
+// What is kept of the rows of a table.
+ghost use Rattle.std.specs.Prelude.{◌≡◌, ◌≤◌, ◌<◌, ◌++◌, [], length, map, OnOk, IfOk};
+ghost use Rattle.std.specs.List.{All, flat_map};
+ghost use Rattle.ili_grammar.specs.Syntax.{Codes as GivenCodes};
+ghost use Rattle.ili_grammar.specs.Values.{codes_of};
+ghost use Rattle.resolver.specs.Values.{places_of};
+ghost use Rattle.table_layout.specs.Layouts.{Table as GivenTable};
+ghost use Rattle.table_layout.specs.Values.{table_view};
+ghost use Rattle.itf_reader.specs.Findings.{findings_of};
+ghost use Rattle.itf_reader.specs.Views.{row_of};
+ghost use Rattle.ident_refs.specs.KeptRows.{all_ids, kept, kept_lists, list_findings, ref_findings, table_told, with_key, with_row};
+ghost use Rattle.ident_refs.specs.KeptViews.{ids_in, kept_of, list_view, lists_view, refs_view};
+
+use super::key_bytes::row_key;
+use super::key_cell::KeyCell;
+use super::references::{KeptRef, add_dangling, add_refs};
+use super::repeats::KeyColumn;
+use super::sheet::{Sheet, column_of};
+use ili_grammar::Codes;
+use itf_reader::{Code, Finding, Row};
+use ports::Memory;
+use resolver::Places;
+use std::alloc::Global;
+use table_layout::Table;
+
+/// An IDENT list: the column of its findings, its places, and the key of each row.
+#[derive(Drop)]
+pub struct KeptList<'a> {
+    pub column: u32,
+    pub places: &'a [u32],
+    pub keys: Vec<KeyCell>,
+}
+
+/// What is kept of the rows of a table: their lines and identifications, the keys of its IDENT
+/// lists, and the references.
+#[derive(Drop)]
+pub struct TableKeys<'a> {
+    alloc: Global,
+    pub sheet: Sheet<'a>,
+    pub lines: Vec<u32>,
+    pub ids: Vec<KeyCell>,
+    pub lists: Vec<KeptList<'a>>,
+    pub refs: Vec<KeptRef>,
+}
+
+// The lists of a table, without rows.
+fn empty_lists<'a>(alloc: Global, lists: &'a [Places]) -> Result<Vec<KeptList<'a>>, Memory>
+    requires { All (All (λ p. p < 4194306)) (places_of lists.now) }
+    ensures { IfOk result (λ kept. (codes : GivenCodes) (t : GivenTable) → lists_view kept.items ≡ kept_lists
+        codes t [] (places_of lists.now)) }
+{
+    let mut kept = Vec::with_capacity(alloc, lists.len())?;
+    for list in lists {
+        kept.push(KeptList {
+            column: column_of(&list.places),
+            places: &list.places,
+            keys: Vec::new(alloc),
+        })?;
+    }
+    Ok(kept)
+}
+
+// Adds the key of a row by a list.
+fn add_key(sheet: &Sheet, list: &mut KeptList, row: &Row) -> Result<(), Memory>
+    ensures { OnOk result (list_view list.new ≡ with_key (codes_of sheet.now.codes.now)
+        (table_view sheet.now.table.now) (row_of row.now) (list_view list.old)) }
+{
+    let key = sheet.key(list.places, row)?;
+    list.keys.push(key)?;
+    Ok(())
+}
+
+// Adds the keys of a row by all lists.
+fn add_keys(sheet: &Sheet, lists: &mut [KeptList], row: &Row) -> Result<(), Memory>
+    ensures { OnOk result (lists_view lists.new ≡ map (with_key (codes_of sheet.now.codes.now)
+        (table_view sheet.now.table.now) (row_of row.now)) (lists_view lists.old)) }
+{
+    for place in 0..lists.len() {
+        add_key(sheet, &mut lists[place], row)?;
+    }
+    Ok(())
+}
+
+// Adds what repeats a key of an IDENT list.
+fn add_list(
+    alloc: Global,
+    lines: &[u32],
+    list: &KeptList,
+    found: &mut Vec<Finding>,
+) -> Result<(), Memory>
+    ensures { OnOk result (findings_of found.new.items ≡ findings_of found.old.items ++
+        list_findings lines.now (list_view list.now)) }
+{
+    let column = KeyColumn::new(alloc, lines, &list.keys)?;
+    column.add_repeats(Code::Ident, list.column, found)
+}
+
+fn add_lists(
+    alloc: Global,
+    lines: &[u32],
+    lists: &[KeptList],
+    found: &mut Vec<Finding>,
+) -> Result<(), Memory>
+    ensures { OnOk result (findings_of found.new.items ≡ findings_of found.old.items ++ flat_map
+        (list_findings lines.now) (lists_view lists.now)) }
+{
+    for list in lists {
+        add_list(alloc, lines, list, found)?;
+    }
+    Ok(())
+}
+
+fn add_references(
+    alloc: Global,
+    ids: &[KeyColumn],
+    refs: &[KeptRef],
+    found: &mut Vec<Finding>,
+) -> Result<(), Memory>
+    ensures { OnOk result (findings_of found.new.items ≡ findings_of found.old.items ++ flat_map
+        (ref_findings (ids_in ids.now)) (refs_view refs.now)) }
+{
+    for reference in refs {
+        add_dangling(alloc, ids, reference, found)?;
+    }
+    Ok(())
+}
+
+impl<'a> TableKeys<'a> {
+    /// No row of a table.
+    pub fn new(alloc: Global, codes: &'a Codes, table: &'a Table) -> Result<TableKeys<'a>, Memory>
+        requires few { length table.now.columns.items ≤ 4194306 }
+        requires places { All (All (λ p. p < 4194306)) (places_of table.now.idents.items) }
+        ensures { IfOk result (λ keys. kept_of keys ≡ kept (codes_of codes.now)
+            (table_view table.now) []) }
+    {
+        let lists = empty_lists(alloc, &table.idents)?;
+        Ok(TableKeys {
+            alloc,
+            sheet: Sheet::new(alloc, codes, table)?,
+            lines: Vec::new(alloc),
+            ids: Vec::new(alloc),
+            lists,
+            refs: Vec::new(alloc),
+        })
+    }
+
+    /// Adds a row.
+    pub fn add_row(&mut self, row: &Row) -> Result<(), Memory>
+        ensures { OnOk result (kept_of self.new ≡ with_row (row_of row.now) (kept_of self.old)) }
+    {
+        self.lines.push(row.line)?;
+        self.ids.push(row_key(self.alloc, row)?)?;
+        add_keys(&self.sheet, &mut self.lists, row)?;
+        add_refs(
+            self.alloc,
+            self.sheet.codes,
+            self.sheet.table,
+            row,
+            &mut self.refs,
+        )
+    }
+
+    /// Adds what is wrong with the keys and references of the table, by the identifications of its
+    /// rows and of those of all tables.
+    pub fn add_findings(
+        &self,
+        own: &KeyColumn,
+        ids: &[KeyColumn],
+        found: &mut Vec<Finding>,
+    ) -> Result<(), Memory>
+        requires lines { own.now.lines.now ≡ self.now.lines.items }
+        requires keys { own.now.keys.now ≡ self.now.ids.items }
+        ensures { OnOk result (findings_of found.new.items ≡ findings_of found.old.items ++
+            table_told (ids_in ids.now) (kept_of self.now)) }
+    {
+        own.add_repeats(Code::Tid, 0, found)?;
+        add_lists(self.alloc, &self.lines, &self.lists, found)?;
+        add_references(self.alloc, ids, &self.refs, found)
+    }
+}
