@@ -1,3 +1,4 @@
 pub mod FieldCodes
 pub mod Places
 pub mod Zipped
+pub mod FedValues

@@ -1,2 +1,3 @@
 pub mod CleanPlaces
 pub mod ValueFindings
+pub mod FedFindings

@@ -21,7 +21,8 @@
 //! - **What is proved.** The answer of `check_values` is `value_findings`, which goes over tables
 //!   and rows (`row_findings` of `itf_reader`). `field_ok` answers none exactly where no word is
 //!   undefined and the words are a value of the form (`Meets`). Where nothing is found, each vertex
-//!   and each point of an area lies in its window, and each arc is one (`clean_places`).
+//!   and each point of an area lies in its window, and each arc is one (`clean_places`). Rows that
+//!   are judged one after another have the findings of the whole transfer (`fed_values`).
 //! - **What it asks.** `check_values` takes a valid layout, as `layout` gives it, and a transfer
 //!   that was read for it. Rows of tables that the layout lacks are not looked at.
 //! - **Not here:** whether identifications and IDENT lists tell rows apart, and whether a reference
@@ -42,5 +43,5 @@ mod value_tests;
 mod values;
 
 pub use field::field_ok;
-pub use laws::clean_places;
+pub use laws::{clean_places, fed_values};
 pub use values::check_values;
