@@ -15,7 +15,7 @@ pub const SQUARE: &str =
     "SCNT\n////\nMTID Rows\nMODL Land\nTOPI Cover\nTABL Parcel_Form\nOBJE 1\nSTPT 100.000 100.000\nLIPT 200.000 100.000\nLIPT 200.000 200.000\nLIPT 100.000 200.000\nLIPT 100.000 100.000\nELIN\nETAB\nTABL Parcel\nOBJE 1 77 150.000 150.000\nETAB\nETOP\nEMOD\nENDE\n";
 
 // What is changed, into what, and the report.
-const CHANGES: [(&str, &str, &str); 12] = [
+const CHANGES: [(&str, &str, &str); 14] = [
     (
         "SCNT",
         "SCNT",
@@ -42,6 +42,13 @@ const CHANGES: [(&str, &str, &str); 12] = [
         "STRUCTURE 21 word\nVERDICT REJECTED\n",
     ),
     ("SCNT\n", "SCN\n", "STRUCTURE 1 word\nVERDICT REJECTED\n"),
+    // The last line has no LF, or also lacks its last letter.
+    (
+        "ENDE\n",
+        "ENDE",
+        "AREA Cover Parcel Form PROVED 0 4 1\nVERDICT ACCEPTED 2\n",
+    ),
+    ("ENDE\n", "END", "STRUCTURE 20 word\nVERDICT REJECTED\n"),
     (
         "LIPT 200.000 100.000\n",
         "LIPT 200.000 x\n",

@@ -10,7 +10,8 @@ use std::test::Fail;
 
 const VERIFY: &[&str] = &["verify", "M", "T", "C"];
 
-const FILED: &str = "ITFCERT 1\nAREAS 1\nAREA Cover Parcel Form\nSIZES 0 4 4 1\nV 0\nV 1\nV 0\nV 0\n\
+const FILED: &str =
+    "ITFCERT 1\nAREAS 1\nAREA Cover Parcel Form\nSIZES 0 4 4 1\nV 0\nV 1\nV 0\nV 0\n\
     E 0 R 0 1 R 0\nE 0 R 0 1 N 1\nE 1 R 0 0 R 0\nE 1 N 1 0 R 0\nP 1\nEND\n";
 
 const PROVED: &str = "AREA Cover Parcel Form PROVED 0 4 1\nVERDICT ACCEPTED 2\n";
@@ -24,7 +25,12 @@ const SAME: Change = ("SCNT", "SCNT");
 const CASES: [(Change, Change, &str, Status); 24] = [
     (SAME, SAME, PROVED, Status::Accepted),
     // Another link, and another true certificate.
-    (SAME, ("1 N 1\nE 1 R", "1 C4 1\nE 1 R"), PROVED, Status::Accepted),
+    (
+        SAME,
+        ("1 N 1\nE 1 R", "1 C4 1\nE 1 R"),
+        PROVED,
+        Status::Accepted,
+    ),
     (
         SAME,
         ("AREAS 1\n", "AREAS 0\n"),
@@ -161,7 +167,10 @@ const CASES: [(Change, Change, &str, Status); 24] = [
     ),
     // An area with an arc leaves the certificates for later.
     (
-        ("LIPT 200.000 200.000\nLIPT 100", "ARCP 210.000 200.000\nLIPT 100"),
+        (
+            "LIPT 200.000 200.000\nLIPT 100",
+            "ARCP 210.000 200.000\nLIPT 100",
+        ),
         ("END\n", ""),
         "AREA Cover Parcel Form LATER\nVERDICT UNDECIDED\n",
         Status::Undecided,
@@ -176,7 +185,10 @@ fn answers(
     let (transfer, filed, report, status) = case;
     let mut shelf = MemoryShelf::new(alloc);
     shelf.with_file("M", PARCELS.as_bytes())?;
-    shelf.with_file("T", SQUARE.replace(alloc, transfer.0, transfer.1)?.as_bytes())?;
+    shelf.with_file(
+        "T",
+        SQUARE.replace(alloc, transfer.0, transfer.1)?.as_bytes(),
+    )?;
     shelf.with_file("C", FILED.replace(alloc, filed.0, filed.1)?.as_bytes())?;
     let mut out = MemorySink::new(alloc);
     let answer = run(alloc, &words_of(alloc, VERIFY)?, &mut shelf, &mut out);
@@ -193,16 +205,40 @@ fn filed_certificates_are_verified(rt: HostRuntime) -> Result<(), Fail> {
     Ok(())
 }
 
+// Calls over the files of the square, where `C` is what a call before has left.
+fn answer(
+    rt: &impl Abort,
+    alloc: Global,
+    words: &[&str],
+    shelf: &mut MemoryShelf,
+) -> Result<bool, Fail> {
+    let mut out = MemorySink::new(alloc);
+    out.make_room(256)?;
+    let status = run(alloc, &words_of(alloc, words)?, shelf, &mut out);
+    if status == Status::Memory {
+        assert_eq!(rt; out.bytes(), b"".as_slice());
+        return Ok(false);
+    }
+    assert_eq!(rt; status, Status::Accepted);
+    assert_eq!(rt; out.bytes(), PROVED.as_bytes());
+    Ok(true)
+}
+
+// Where a growth is refused, the answer is the defined one, or out of memory with nothing done.
 #[test]
-fn the_certificate_of_a_square_is_filed(rt: HostRuntime) -> Result<(), Fail> {
+fn the_certificate_of_a_square_is_filed_and_verified(rt: HostRuntime) -> Result<(), Fail> {
     let alloc = rt.alloc();
     let mut shelf = MemoryShelf::new(alloc);
     shelf.with_file("M", PARCELS.as_bytes())?;
     shelf.with_file("T", SQUARE.as_bytes())?;
-    let mut out = MemorySink::new(alloc);
-    let status = run(alloc, &words_of(alloc, CHECK)?, &mut shelf, &mut out);
-    assert_eq!(rt; status, Status::Accepted);
-    assert_eq!(rt; out.bytes(), PROVED.as_bytes());
+    let accepted = answer(&rt, alloc, CHECK, &mut shelf)?;
+    let text = certificate(alloc, &mut shelf)?;
+    if !accepted {
+        assert_eq!(rt; text.as_deref(), None);
+        return Ok(());
+    }
+    assert_eq!(rt; text.as_deref(), Some(FILED));
+    let _verified = answer(&rt, alloc, VERIFY, &mut shelf)?;
     let text = certificate(alloc, &mut shelf)?;
     assert_eq!(rt; text.as_deref(), Some(FILED));
     Ok(())

@@ -44,7 +44,7 @@ const USAGE: &str =
 
 const EMPTY_LIST: &str = "ITFCERT 1\nAREAS 0\n";
 
-const ROWS: [Row; 15] = [
+const ROWS: [Row; 16] = [
     Row {
         name: "a number within its bounds",
         words: CHECK,
@@ -153,6 +153,17 @@ const ROWS: [Row; 15] = [
         failing_puts: &[],
         report: USAGE,
         status: Status::Usage,
+        certificate: None,
+    },
+    Row {
+        name: "there is no file of certificates to verify",
+        words: &["verify", "M", "T", "C"],
+        model: MODEL,
+        transfer: ELEVEN,
+        failing_shelf_calls: &[],
+        failing_puts: &[],
+        report: "FAULT READ certificate\n",
+        status: Status::ReadFault,
         certificate: None,
     },
     Row {
