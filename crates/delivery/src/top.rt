@@ -31,9 +31,9 @@ pub fn run<S: Shelf, K: Sink>(alloc: Global, words: &[Word], shelf: &mut S, out:
 
     // After an accepted check the file of the certificates holds a list that shows by itself that
     // the areas are partitions.
-    ensures certified { result ≡ Status.Accepted
-        → Certifies (S.held shelf.old) (ReadRose (S.read_faults shelf.old) (S.read_faults shelf.new))
-        words.now (S.held shelf.new) }
+    ensures certified { result ≡ Status.Accepted → Certifies (S.held shelf.old)
+        (ReadRose (S.read_faults shelf.old) (S.read_faults shelf.new)) words.now
+        (S.held shelf.new) }
 
     // The answer, the output and every file are those of an outcome of the words and the files.
     ensures does { result ≢ Status.Memory
