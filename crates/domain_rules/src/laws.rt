@@ -9,8 +9,8 @@ ghost use Rattle.itf_reader.specs.Layouts.{form_of};
 ghost use Rattle.itf_reader.specs.RowFindings.{row_findings};
 ghost use Rattle.itf_reader.specs.TransferText.{TransferText};
 ghost use Rattle.domain_rules.specs.CleanPlaces.{HavePlaces};
-ghost use Rattle.domain_rules.specs.FedFindings.{all_findings, fed_findings, no_findings};
-ghost use Rattle.domain_rules.specs.FedFindings.{with_findings};
+ghost use Rattle.domain_rules.specs.FedFindings.{all_findings, fed_findings};
+ghost use Rattle.domain_rules.specs.FedFindings.{no_findings, with_findings};
 ghost use Rattle.domain_rules.specs.ValueFindings.{value_findings};
 
 /// Where no value is at fault, each row has the words of its columns, each vertex is read without a

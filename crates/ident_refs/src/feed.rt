@@ -49,7 +49,8 @@ fn empty_tables<'a>(
 
 // Adds a row to the table at that place, if there is one.
 fn add_at(tables: &mut [TableKeys], place: usize, row: &Row) -> Result<(), Memory>
-    ensures { OnOk result (kept_in tables.new ≡ row_at place (row_of row.now) (kept_in tables.old)) }
+    ensures { OnOk result (kept_in tables.new ≡ row_at place (row_of row.now)
+        (kept_in tables.old)) }
 {
     if place < tables.len() {
         tables[place].add_row(row)?;
@@ -71,7 +72,8 @@ fn add_rows(tables: &mut [TableKeys], place: usize, rows: &[Row]) -> Result<(), 
 // The identifications of each table in order.
 fn id_columns<'a>(alloc: Global, tables: &'a [TableKeys<'a>]) -> Result<Vec<KeyColumn<'a>>, Memory>
     ensures keys { IfOk result (λ columns. ids_in columns.items ≡ all_ids (kept_in tables.now)) }
-    ensures lines { IfOk result (λ columns. lines_in columns.items ≡ all_lines (kept_in tables.now)) }
+    ensures lines { IfOk result (λ columns. lines_in columns.items ≡ all_lines
+        (kept_in tables.now)) }
 {
     let mut columns = Vec::with_capacity(alloc, tables.len())?;
     for table in tables {
@@ -110,8 +112,9 @@ impl<'a> KeyFeed<'a> {
     /// Adds a row of that table. Nothing is kept of a row whose table the layout lacks. After an
     /// error, which is out of memory, nothing is said of the feed.
     pub fn add_row(&mut self, table: TableId, row: &Row) -> Result<(), Memory>
-        ensures { OnOk result ((l : GivenLayout) (rows : List (ℕ × GivenRow)) → HasRows l self.old
-            rows → HasRows l self.new (rows ++ (table.0, row_of row.now) ∷ [])) }
+        ensures { OnOk result ((l : GivenLayout) (rows : List (ℕ × GivenRow))
+            → HasRows l self.old rows
+            → HasRows l self.new (rows ++ (table.0, row_of row.now) ∷ [])) }
     {
         add_at(&mut self.tables, table.0 as usize, row)?;
         Ok(())
@@ -132,7 +135,8 @@ impl<'a> KeyFeed<'a> {
     /// each table in the order of the layout, those of identifications and of each IDENT list in
     /// the order of its rows, then those of references.
     pub fn finish(self, found: &mut Vec<Finding>) -> Result<(), Memory>
-        ensures { OnOk result ((l : GivenLayout) (rows : List (ℕ × GivenRow)) → HasRows l self.entry rows
+        ensures { OnOk result ((l : GivenLayout) (rows : List (ℕ × GivenRow))
+            → HasRows l self.entry rows
             → findings_of found.new.items ≡ findings_of found.old.items ++ fed_keys l rows) }
     {
         let tables = self.tables.as_slice();

@@ -2,9 +2,12 @@
 ghost use Rattle.std.specs.Prelude.{◌≡◌, ◌+◌, ◌++◌, ◌∷◌, [], length, map, Some, IfOk, OnOk};
 ghost use Rattle.std.specs.List.{flat_map};
 ghost use Rattle.std.specs.Option.{option_to_list};
-ghost use Rattle.ident_refs.specs.Compared.{corner_view, demand_view, rank_of, value_view, values_view};
+ghost use Rattle.ident_refs.specs.Compared.{corner_view, demand_view, rank_of};
+ghost use Rattle.ident_refs.specs.Compared.{value_view, values_view};
 ghost use Rattle.ident_refs.specs.KeptRows.{id_key};
-ghost use Rattle.ident_refs.specs.KeyBytes.{byte_code, corner_code, corners_code, ended, list_code, number_code, numbers_code, part_code, value_code, word_code};
+ghost use Rattle.ident_refs.specs.KeyBytes.{byte_code, corner_code, corners_code, ended};
+ghost use Rattle.ident_refs.specs.KeyBytes.{list_code, number_code, numbers_code, part_code};
+ghost use Rattle.ident_refs.specs.KeyBytes.{value_code, word_code};
 ghost use Rattle.itf_reader.specs.Views.{row_of};
 
 use super::compared::{Corner, Demand, Value};
@@ -46,7 +49,8 @@ fn add_number(into: &mut Vec<u8>, number: &i64) -> Result<(), Memory>
 }
 
 fn add_height(into: &mut Vec<u8>, height: Option<i64>) -> Result<(), Memory>
-    ensures { OnOk result (into.new.items ≡ into.old.items ++ numbers_code (option_to_list height)) }
+    ensures { OnOk result (into.new.items ≡ into.old.items ++ numbers_code
+        (option_to_list height)) }
 {
     match height {
         Some(number) => add_number(into, &number),
@@ -83,7 +87,8 @@ fn axes(height: Option<i64>) -> u8
 
 // Adds a vertex: its kind, how many numbers it has, and these.
 fn add_corner(into: &mut Vec<u8>, corner: &Corner) -> Result<(), Memory>
-    ensures { OnOk result (into.new.items ≡ into.old.items ++ corner_code (corner_view corner.now)) }
+    ensures { OnOk result (into.new.items ≡ into.old.items ++ corner_code
+        (corner_view corner.now)) }
 {
     into.push(rank(corner.kind))?;
     into.push(axes(corner.height))?;

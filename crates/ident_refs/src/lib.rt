@@ -18,9 +18,9 @@
 //! - **Row by row.** A `KeyFeed` takes the rows of all tables one after another and keeps of each
 //!   its line, its identification, the key of each IDENT list, and its references. `finish` tells
 //!   what is wrong with all of them. `check_keys` is one feed over the rows of a transfer.
-//! - **Keys** are bytes: a word with one byte before it, the numbers of a value in eight bytes each,
-//!   and of several values each with an end mark. Rows have one key exactly where they demand the
-//!   same.
+//! - **Keys** are bytes: a word with one byte before it, the numbers of a value in eight bytes
+//!   each, and of several values each with an end mark. Rows have one key exactly where they demand
+//!   the same.
 //! - **What is proved.** The answer is `key_findings` of `specs/KeyFindings.antt`, which goes over
 //!   rows and the rows before them, and knows no key. That equal keys are equal values is a lemma
 //!   of `proofs/Injective.antt`. Who feeds each row when it is closed has the findings of the whole

@@ -1,5 +1,5 @@
 // Words that name rows of other tables.
-ghost use Rattle.std.specs.Prelude.{◌≡◌, ◌≤◌, ◌<◌, ◌++◌, [], drop, length, slice_index_or, OnOk, IfOk};
+ghost use Rattle.std.specs.Prelude.{◌≡◌, ◌≤◌, ◌++◌, [], drop, length, slice_index_or, OnOk};
 ghost use Rattle.std.specs.List.{list_any};
 ghost use Rattle.ports.specs.SortedKeys.{is_key};
 ghost use Rattle.ili_grammar.specs.Values.{codes_of};

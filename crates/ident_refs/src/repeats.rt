@@ -1,5 +1,6 @@
 // Rows that repeat a key of their table.
-ghost use Rattle.std.specs.Prelude.{◌≡◌, ◌≤◌, ◌++◌, [], None, IfOk, OnOk, get_or, length, map, take};
+ghost use Rattle.std.specs.Prelude.{◌≡◌, ◌≤◌, ◌++◌, [], None, IfOk, OnOk, get_or, length};
+ghost use Rattle.std.specs.Prelude.{map, take};
 ghost use Rattle.std.specs.List.{list_any};
 ghost use Rattle.ports.specs.SortedKeys.{IsSortedKeys, is_key};
 ghost use Rattle.itf_reader.specs.Findings.{findings_of};

@@ -8,7 +8,8 @@ ghost use Rattle.table_layout.specs.Layouts.{Table as GivenTable};
 ghost use Rattle.table_layout.specs.Values.{table_view};
 ghost use Rattle.itf_reader.specs.Findings.{findings_of};
 ghost use Rattle.itf_reader.specs.Views.{row_of};
-ghost use Rattle.ident_refs.specs.KeptRows.{all_ids, kept, kept_lists, list_findings, ref_findings, table_told, with_key, with_row};
+ghost use Rattle.ident_refs.specs.KeptRows.{kept, kept_lists, list_findings, ref_findings};
+ghost use Rattle.ident_refs.specs.KeptRows.{table_told, with_key, with_row};
 ghost use Rattle.ident_refs.specs.KeptViews.{ids_in, kept_of, list_view, lists_view, refs_view};
 
 use super::key_bytes::row_key;
@@ -46,7 +47,8 @@ pub struct TableKeys<'a> {
 // The lists of a table, without rows.
 fn empty_lists<'a>(alloc: Global, lists: &'a [Places]) -> Result<Vec<KeptList<'a>>, Memory>
     requires { All (All (λ p. p < 4194306)) (places_of lists.now) }
-    ensures { IfOk result (λ kept. (codes : GivenCodes) (t : GivenTable) → lists_view kept.items ≡ kept_lists
+    ensures { IfOk result (λ kept. (codes : GivenCodes) (t : GivenTable)
+        → lists_view kept.items ≡ kept_lists
         codes t [] (places_of lists.now)) }
 {
     let mut kept = Vec::with_capacity(alloc, lists.len())?;
