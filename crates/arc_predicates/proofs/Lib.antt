@@ -1,0 +1,5 @@
+pub mod Sums
+pub mod CircleNumbers
+pub mod TestParts
+pub mod PlaceNumbers
+pub mod TrialSides
