@@ -29,9 +29,6 @@ ghost use Rattle.decimals.specs.Counted.{counted, parts_of, settled};
 ghost use Rattle.decimals.specs.Numerals.{minus, sign_of, after_sign};
 ghost use Rattle.decimals.specs.Scaled.{unsigned_of, scaled_of, HasValue, SpellsNone, IsTooLong, HasMoreDecimals};
 
-#[cfg(test)]
-mod tests;
-
 use thiserror::Error;
 
 /// Why a text has no value at a scale. Where several are true the first is told.

@@ -36,8 +36,6 @@ mod numbers;
 mod parsing;
 mod source;
 mod syntax;
-#[cfg(test)]
-mod tests;
 mod types;
 
 pub use laws::{one_fault, one_model};

@@ -27,8 +27,6 @@ mod keywords;
 mod laws;
 mod lexing;
 mod places;
-#[cfg(test)]
-mod tests;
 mod tokens;
 
 pub use keywords::Keyword;

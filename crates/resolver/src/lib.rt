@@ -50,8 +50,6 @@ mod rules;
 mod scope;
 mod shape;
 mod tables;
-#[cfg(test)]
-mod tests;
 mod topics;
 mod values;
 mod ways;

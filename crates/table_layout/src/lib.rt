@@ -20,9 +20,10 @@
 //! - **What a contract sees.** `layout_view` is the layout without memory, with lists in place of
 //!   vectors; `layout_of` is the function of the model that `layout` computes.
 //! - **What later layers may use** (`IsValid`): there are at most 4,194,304 tables; a table has at
-//!   most 4,194,306 columns and lines; every number of a topic, a table, a column and a place is in range; the helper table of an AREA or a SURFACE
-//!   has one line, and its main table is a declared one; the column of an area is the point of
-//!   that line's window, which is less than 2^40 units wide in each axis.
+//!   most 4,194,306 columns and lines; every number of a topic, a table, a column and a place is
+//!   in range; the helper table of an AREA or a SURFACE has one line, and its main table is a
+//!   declared one; the column of an area is the point of that line's window, which is less than
+//!   2^40 units wide in each axis.
 //! - **Not checked here.** `layout` takes a model as `resolve` gives it (`IsSound`): few names,
 //!   numbers in range, no lines in LINEATTR, narrow windows of areas. That names differ is for the
 //!   resolver. The definition is total: a reference that names no table would name table 0, a
@@ -43,8 +44,6 @@ mod finding;
 mod idents;
 mod layouts;
 mod tables;
-#[cfg(test)]
-mod tests;
 mod topics;
 
 pub use building::layout;

@@ -1,60 +1,8 @@
 // Models, each a text with what the rules say of its names and types.
-ghost use Rattle.std.specs.Prelude.{◌≤◌, length};
-ghost use Rattle.ili_lexer.specs.Tokens.{AreTokens};
-ghost use Rattle.ili_grammar.specs.Values.{model_of};
-ghost use Rattle.ili_grammar.specs.Limits.{IsWithinLimits};
-
-use super::{ModelCode, ModelFault, ResolvedModel, resolve};
-use ili_grammar::{ModelSyntax, parse};
-use ili_lexer::{Token, lex};
+use super::texts::{resolved, syntax_of, text_of};
+use resolver::{ModelCode, ModelFault, ModelTable, ResolvedModel, resolve};
 use std::alloc::Global;
 use std::process::Abort;
-
-// A model with these domains, and with this text in its one topic.
-fn text_of(rt: &impl Abort, alloc: Global, domains: &str, topic: &str) -> Vec<u8> {
-    let parts = [
-        "TRANSFER One; ",
-        domains,
-        "\nMODEL M TOPIC T =\n",
-        topic,
-        "\nEND T. END M. FORMAT FREE; CODE BLANK = DEFAULT, UNDEFINED = DEFAULT, CONTINUE = DEFAULT; TID = ANY; END.\n",
-    ];
-    let mut text = Vec::new(alloc);
-    for part in parts {
-        text.extend_from_slice(part.as_bytes()).expect(rt, "memory");
-    }
-    text
-}
-
-fn tokens_of(rt: &impl Abort, alloc: Global, text: &[u8]) -> Vec<Token>
-    ensures short { length text.now ≤ 4194304 }
-    ensures tokens { AreTokens text.now result.items }
-{
-    assert!(rt; text.len() <= 4194304);
-    match lex(alloc, text) {
-        Ok(tokens) => tokens,
-        Err(fault) => panic!(rt; "{fault}"),
-    }
-}
-
-fn syntax_of(rt: &impl Abort, alloc: Global, text: &[u8]) -> ModelSyntax
-    ensures { IsWithinLimits (model_of result) }
-{
-    let tokens = tokens_of(rt, alloc, text);
-    match parse(alloc, text, &tokens) {
-        Ok(syntax) => syntax,
-        Err(fault) => panic!(rt; "{fault}"),
-    }
-}
-
-fn resolved(rt: &impl Abort, alloc: Global, domains: &str, topic: &str) -> ResolvedModel {
-    let text = text_of(rt, alloc, domains, topic);
-    let syntax = syntax_of(rt, alloc, &text);
-    match resolve(alloc, &syntax) {
-        Ok(model) => model,
-        Err(_) => panic!(rt; "a fault in {topic}"),
-    }
-}
 
 // What is wrong: the code, the line and the column of the name, and the name. The domains stand
 // in line 1 from column 15 on, the topic from line 3 on.
@@ -183,7 +131,8 @@ const FAULTS: [(&str, &str, ModelCode, u32, u32, &[u8]); 20] = [
     ),
     (
         "DOMAIN K = COORD2 0 0 9 9;",
-        "TABLE A = N: AREA WITH (ARCS) VERTEX K LINEATTR = L: POLYLINE WITH (ARCS) VERTEX K; END; NO IDENT END A;",
+        "TABLE A = N: AREA WITH (ARCS) VERTEX K LINEATTR = L: POLYLINE WITH (ARCS) VERTEX K; \
+            END; NO IDENT END A;",
         ModelCode::LineAttr,
         3,
         51,
@@ -207,20 +156,38 @@ const FAULTS: [(&str, &str, ModelCode, u32, u32, &[u8]); 20] = [
     ),
 ];
 
+fn fault_holds(rt: &impl Abort, alloc: Global, row: &(&str, &str, ModelCode, u32, u32, &[u8])) {
+    let (domains, topic, code, line, column, word) = row;
+    let text = text_of(rt, alloc, domains, topic);
+    let syntax = syntax_of(rt, alloc, &text);
+    match resolve(alloc, &syntax) {
+        Err(ModelFault::At { code: told, name }) => {
+            let found = (told, name.line, name.column, name.text.bytes());
+            assert_eq!(rt; found, (*code, *line, *column, *word), "{topic}");
+        }
+        _ => panic!(rt; "no fault in {topic}"),
+    }
+}
+
 #[test]
 fn the_first_fault_of_names_and_types_is_named(rt: HostRuntime) {
-    for (domains, topic, code, line, column, word) in &FAULTS {
-        let text = text_of(&rt, rt.alloc(), domains, topic);
-        let syntax = syntax_of(&rt, rt.alloc(), &text);
-        match resolve(rt.alloc(), &syntax) {
-            Err(ModelFault::At { code: told, name }) => {
-                assert_eq!(rt; told, *code, "{topic}");
-                assert_eq!(rt; (name.line, name.column), (*line, *column), "{topic}");
-                assert_eq!(rt; name.text.bytes(), *word, "{topic}");
-            }
-            _ => panic!(rt; "no fault in {topic}"),
-        }
+    for row in &FAULTS {
+        fault_holds(&rt, rt.alloc(), row);
     }
+}
+
+fn table_holds(rt: &impl Abort, table: &ModelTable) {
+    assert_eq!(rt; table.attributes.len(), 3);
+    assert!(rt; table.attributes[1].optional);
+    assert_eq!(rt; table.idents.len(), 1);
+    assert_eq!(rt; table.idents[0].places.as_slice(), [1].as_slice());
+}
+
+fn model_holds(rt: &impl Abort, model: &ResolvedModel) {
+    assert_eq!(rt; model.topics.len(), 1);
+    let tables = &model.topics[0].tables;
+    assert_eq!(rt; tables.len(), 2);
+    table_holds(rt, &tables[0]);
 }
 
 #[test]
@@ -229,13 +196,8 @@ fn a_model_without_fault_is_resolved(rt: HostRuntime) {
         &rt,
         rt.alloc(),
         "DOMAIN Later = Zahl; Zahl = [0.0 .. 99.5];",
-        "TABLE A = N: Later; K: OPTIONAL (a, b (c, d), e); R: -> B; IDENT K; END A;\nTABLE B = NO IDENT END B;",
+        "TABLE A = N: Later; K: OPTIONAL (a, b (c, d), e); R: -> B; IDENT K; END A;\n\
+            TABLE B = NO IDENT END B;",
     );
-    assert_eq!(rt; model.topics.len(), 1);
-    assert_eq!(rt; model.topics[0].tables.len(), 2);
-    let table = &model.topics[0].tables[0];
-    assert_eq!(rt; table.attributes.len(), 3);
-    assert!(rt; table.attributes[1].optional);
-    assert_eq!(rt; table.idents.len(), 1);
-    assert_eq!(rt; table.idents[0].places.as_slice(), [1].as_slice());
+    model_holds(&rt, &model);
 }

@@ -1,0 +1,18 @@
+//! Tests of the crates that read a model, by their public items alone: numbers with a point,
+//! tokens, the grammar, the rules on names and types, and the layout of tables.
+//!
+//! They stand in a crate of their own since a library with tests is proved once more with them.
+#![tactic(auto)]
+
+#[cfg(test)]
+mod grammar;
+#[cfg(test)]
+mod layouts;
+#[cfg(test)]
+mod names;
+#[cfg(test)]
+mod numbers;
+#[cfg(test)]
+mod texts;
+#[cfg(test)]
+mod tokens;

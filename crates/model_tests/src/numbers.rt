@@ -1,0 +1,85 @@
+// Numbers with a point.
+use decimals::DecimalFault::{MoreDecimals, NotNumber, TooLong};
+use decimals::{DecimalFault, read_scaled};
+
+const NINES: i64 = 999_999_999_999_999_999;
+
+// A text, a scale, and its value at that scale or its fault.
+const ROWS: [(&str, u8, Result<i64, DecimalFault>); 55] = [
+    ("", 0, Err(NotNumber)),
+    ("+", 0, Err(NotNumber)),
+    ("-", 0, Err(NotNumber)),
+    (".", 0, Err(NotNumber)),
+    ("-.", 2, Err(NotNumber)),
+    (".5", 1, Err(NotNumber)),
+    ("5.", 0, Err(NotNumber)),
+    ("5.", 1, Err(NotNumber)),
+    ("--5", 0, Err(NotNumber)),
+    ("+-5", 0, Err(NotNumber)),
+    ("5-", 0, Err(NotNumber)),
+    ("1.-5", 1, Err(NotNumber)),
+    ("1.2.3", 1, Err(NotNumber)),
+    ("1..2", 1, Err(NotNumber)),
+    ("1e5", 0, Err(NotNumber)),
+    ("1,5", 1, Err(NotNumber)),
+    ("1 5", 0, Err(NotNumber)),
+    (" 5", 0, Err(NotNumber)),
+    ("5 ", 0, Err(NotNumber)),
+    ("/", 0, Err(NotNumber)),
+    (":", 0, Err(NotNumber)),
+    ("1.5x", 1, Err(NotNumber)),
+    ("9999999999999999999x", 0, Err(NotNumber)),
+    ("1.57x", 1, Err(NotNumber)),
+    ("0", 0, Ok(0)),
+    ("-0", 0, Ok(0)),
+    ("+5", 0, Ok(5)),
+    ("-5", 0, Ok(-5)),
+    ("-5", 2, Ok(-500)),
+    ("007", 0, Ok(7)),
+    ("1.5", 0, Err(MoreDecimals)),
+    ("1.5", 1, Ok(15)),
+    ("-1.5", 3, Ok(-1500)),
+    ("1.50", 1, Ok(15)),
+    ("1.05", 1, Err(MoreDecimals)),
+    ("1.000", 0, Ok(1)),
+    ("1.0001", 3, Err(MoreDecimals)),
+    ("-0.1", 1, Ok(-1)),
+    ("0.123456789", 9, Ok(123_456_789)),
+    ("1", 9, Ok(1_000_000_000)),
+    ("999999999", 9, Ok(999_999_999_000_000_000)),
+    ("1000000000", 9, Err(TooLong)),
+    ("999999999999999999", 0, Ok(NINES)),
+    ("-999999999999999999", 0, Ok(-NINES)),
+    ("999999999999999999", 1, Err(TooLong)),
+    ("1000000000000000000", 0, Err(TooLong)),
+    ("-1000000000000000000", 0, Err(TooLong)),
+    ("000000000000000000000999999999999999999", 0, Ok(NINES)),
+    ("00000000000000000000.5", 1, Ok(5)),
+    ("12345678901234567.89", 1, Err(MoreDecimals)),
+    ("12345678901234567.80", 1, Ok(123_456_789_012_345_678)),
+    ("123456789012345678.9", 1, Err(TooLong)),
+    ("123456789012345678.9", 0, Err(MoreDecimals)),
+    ("1234567890123456789.1", 0, Err(TooLong)),
+    ("99999999999999999999999999999999999999999", 0, Err(TooLong)),
+];
+
+#[test]
+fn a_text_has_its_value_or_its_first_fault(rt: HostRuntime) {
+    for (text, scale, want) in &ROWS {
+        assert!(rt; *scale <= 9, "a scale");
+        let got = read_scaled(text.as_bytes(), *scale);
+        assert_eq!(rt; got, *want, "{text} at {scale}");
+    }
+}
+
+#[test]
+fn a_text_of_any_length_is_read(rt: HostRuntime) {
+    for (digit, want) in [(b'0', Ok(7)), (b'9', Err(TooLong)), (b'x', Err(NotNumber))] {
+        let mut text = Vec::new(rt.alloc());
+        for _ in 0..3000 {
+            text.push(digit).expect(&rt, "memory");
+        }
+        text.push(b'7').expect(&rt, "memory");
+        assert_eq!(rt; read_scaled(&text, 0), want);
+    }
+}
