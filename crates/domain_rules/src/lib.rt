@@ -36,10 +36,6 @@
 
 mod field;
 mod laws;
-#[cfg(test)]
-mod tests;
-#[cfg(test)]
-mod value_tests;
 mod values;
 
 pub use field::field_ok;

@@ -41,8 +41,6 @@ mod partial;
 mod pass;
 mod reading;
 mod short;
-#[cfg(test)]
-mod tests;
 mod word;
 
 pub use feed::LineFeed;

@@ -38,8 +38,6 @@ mod shelf;
 mod sink;
 mod sorted_keys;
 mod stored;
-#[cfg(test)]
-mod tests;
 
 pub use key::Key;
 pub use memory_shelf::MemoryShelf;

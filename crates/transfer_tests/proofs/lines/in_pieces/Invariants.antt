@@ -1,5 +1,5 @@
 use Rattle.std.proofs.Common.{◌-◌, ◌≤◌, length}
-use Rattle.itf_lines.proofs.tests.in_pieces.Given as goal
+use Rattle.transfer_tests.proofs.lines.in_pieces.Given as goal
 
 abbrev pub invariant-loop-at : goal.invariant-loop-at
 invariant-loop-at l = record {

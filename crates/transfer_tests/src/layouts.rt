@@ -1,0 +1,57 @@
+// The layout of a model's text, as far as a test wants it.
+ghost use Rattle.std.specs.Prelude.{◌≤◌, length};
+ghost use Rattle.ili_lexer.specs.Tokens.{AreTokens};
+ghost use Rattle.ili_grammar.specs.Values.{model_of};
+ghost use Rattle.ili_grammar.specs.Limits.{IsWithinLimits};
+ghost use Rattle.resolver.specs.Sound.{IsSound};
+ghost use Rattle.resolver.specs.Values.{model_of as resolved_of};
+ghost use Rattle.table_layout.specs.Valid.{IsValid};
+ghost use Rattle.table_layout.specs.Values.{layout_view};
+
+use ili_grammar::{ModelSyntax, parse};
+use ili_lexer::{Token, lex};
+use resolver::{ResolvedModel, resolve};
+use std::alloc::Global;
+use std::process::Abort;
+use table_layout::{Layout, layout};
+
+fn tokens_of(rt: &impl Abort, alloc: Global, text: &[u8]) -> Vec<Token>
+    ensures short { length text.now ≤ 4194304 }
+    ensures tokens { AreTokens text.now result.items }
+{
+    assert!(rt; text.len() <= 4194304);
+    match lex(alloc, text) {
+        Ok(tokens) => tokens,
+        Err(fault) => panic!(rt; "{fault}"),
+    }
+}
+
+fn syntax_of(rt: &impl Abort, alloc: Global, text: &[u8]) -> ModelSyntax
+    ensures { IsWithinLimits (model_of result) }
+{
+    let tokens = tokens_of(rt, alloc, text);
+    match parse(alloc, text, &tokens) {
+        Ok(syntax) => syntax,
+        Err(fault) => panic!(rt; "{fault}"),
+    }
+}
+
+fn resolved(rt: &impl Abort, alloc: Global, text: &[u8]) -> ResolvedModel
+    ensures { IsSound (resolved_of result) }
+{
+    let syntax = syntax_of(rt, alloc, text);
+    match resolve(alloc, &syntax) {
+        Ok(model) => model,
+        Err(_) => panic!(rt; "a fault in the model"),
+    }
+}
+
+pub fn laid(rt: &impl Abort, alloc: Global, text: &str) -> Layout
+    ensures { IsValid (layout_view result) }
+{
+    let model = resolved(rt, alloc, text.as_bytes());
+    match layout(alloc, &model) {
+        Ok(layout) => layout,
+        Err(_) => panic!(rt; "memory"),
+    }
+}
