@@ -31,8 +31,6 @@ mod meshing;
 mod owners;
 mod points;
 mod sides;
-#[cfg(test)]
-mod tests;
 mod writing;
 
 pub use finding::find_area;

@@ -35,8 +35,6 @@ mod notes;
 mod page;
 mod parts;
 mod reading;
-#[cfg(test)]
-mod tests;
 mod text;
 mod words;
 mod writing;

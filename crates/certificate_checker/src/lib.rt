@@ -35,13 +35,9 @@ mod labels;
 pub mod laws;
 mod links;
 mod marks;
-#[cfg(test)]
-mod number_tests;
 mod points;
 mod replaying;
 mod state;
-#[cfg(test)]
-mod tests;
 mod verdict;
 
 pub use checking::check;

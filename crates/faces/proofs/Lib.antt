@@ -13,4 +13,3 @@ pub mod RankPasses
 pub mod Rankings
 pub mod RootRanks
 pub mod Searches
-pub mod TestMeshes

@@ -33,8 +33,6 @@ mod ranks;
 mod searching;
 mod sides;
 mod spreading;
-#[cfg(test)]
-mod tests;
 
 pub use labelled::Labelled;
 pub use labelling::label;

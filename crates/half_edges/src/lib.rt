@@ -49,8 +49,6 @@
 mod ids;
 pub mod laws;
 mod mesh;
-#[cfg(test)]
-mod tests;
 
 pub use ids::{FaceId, HalfEdgeId, VertexId};
 pub use mesh::Mesh;

@@ -29,8 +29,6 @@ mod keeping;
 mod kinds;
 mod state;
 mod sweeping;
-#[cfg(test)]
-mod tests;
 
 pub use kinds::{Cell, Event, SweepRefusal, Swept};
 pub use sweeping::sweep;

@@ -24,8 +24,6 @@ mod numbered;
 mod places;
 mod placing;
 mod replaying;
-#[cfg(test)]
-mod tests;
 
 pub use locating::locate;
 pub use places::Place;

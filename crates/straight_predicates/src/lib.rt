@@ -33,8 +33,6 @@
 mod between;
 mod cutting;
 mod directions;
-#[cfg(test)]
-mod drawing_tests;
 mod edge_events;
 mod events;
 mod live_row;
@@ -44,8 +42,6 @@ mod order;
 mod rays;
 mod slopes;
 mod slots;
-#[cfg(test)]
-mod tests;
 mod timetable;
 mod turning;
 mod turns;

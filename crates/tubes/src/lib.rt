@@ -17,8 +17,6 @@
 mod kinds;
 pub mod laws;
 mod listing;
-#[cfg(test)]
-mod tests;
 
 pub use kinds::{EdgeList, Owner, Part};
 pub use listing::edge_list;

@@ -1,0 +1,32 @@
+//! Tests of the crates of the plane, by their public items alone: predicates and small drawings,
+//! meshes, the sweep, places of points, faces, certificates, their checker, and whole areas.
+//!
+//! They stand in a crate of their own since a library with tests is proved once more with them.
+#![tactic(auto)]
+
+#[cfg(test)]
+mod areas;
+#[cfg(test)]
+mod certificates;
+#[cfg(test)]
+mod changed_certificates;
+#[cfg(test)]
+mod changed_numbers;
+#[cfg(test)]
+mod drawings;
+#[cfg(test)]
+mod edge_lists;
+#[cfg(test)]
+mod labels;
+#[cfg(test)]
+mod meetings_of_edges;
+#[cfg(test)]
+mod meshes;
+#[cfg(test)]
+mod point_places;
+#[cfg(test)]
+mod small_edges;
+#[cfg(test)]
+mod stars;
+#[cfg(test)]
+mod sweeps;

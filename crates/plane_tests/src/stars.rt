@@ -1,0 +1,132 @@
+// Meshes from lists of edges and of stars. What `link` asks of a star is checked as a test runs.
+ghost use Rattle.std.specs.Prelude.{◌≡◌, ◌≢◌, ℕ, ◌<◌, length, slice_index};
+ghost use Rattle.std.specs.Prelude.{IsTrue, IfOk, OnOk, false};
+ghost use Rattle.half_edges.specs.HalfEdges.{size};
+ghost use Rattle.half_edges.specs.Stars.{IsOnce, IsStar, IsLoose};
+
+use half_edges::{HalfEdgeId, Mesh, VertexId};
+use ports::Memory;
+use std::alloc::Global;
+use std::process::Abort;
+
+/// The mesh of these edges, whose vertices have these stars.
+pub fn built(
+    rt: &impl Abort,
+    alloc: Global,
+    vertices: u32,
+    edges: &[(u32, u32)],
+    stars: &[&[u32]],
+) -> Result<Mesh, Memory>
+    ensures { IfOk result (λ mesh. mesh.vertices ≡ vertices) }
+{
+    let mut mesh = Mesh::new(alloc, vertices)?;
+    for &(low, high) in edges {
+        assert!(rt; low < vertices && high < vertices);
+        add(rt, &mut mesh, low, high)?;
+    }
+    for star in stars {
+        let around: Vec<HalfEdgeId> = star.iter().map(|h| HalfEdgeId(*h)).collect(alloc)?;
+        link(rt, &mut mesh, &around);
+    }
+    Ok(mesh)
+}
+
+pub fn add(rt: &impl Abort, mesh: &mut Mesh, low: u32, high: u32) -> Result<(), Memory>
+    requires low { low < mesh.old.vertices }
+    requires high { high < mesh.old.vertices }
+    ensures { OnOk result (mesh.new.vertices ≡ mesh.old.vertices) }
+{
+    assert!(rt; low != high);
+    let edges = mesh.edges();
+    assert!(rt; edges < 100);
+    let down = mesh.add_edge(VertexId(low), VertexId(high))?;
+    assert_eq!(rt; down, HalfEdgeId(2 * edges));
+    Ok(())
+}
+
+// Links the half-edges that begin at one vertex, whose numbers are given.
+pub fn link(rt: &impl Abort, mesh: &mut Mesh, around: &[HalfEdgeId])
+    ensures { mesh.new.vertices ≡ mesh.old.vertices }
+{
+    assert!(rt; is_star(mesh, around));
+    assert!(rt; is_loose(mesh, around));
+    mesh.link(around);
+}
+
+fn is_star(mesh: &Mesh, around: &[HalfEdgeId]) -> bool
+    ensures { IsTrue result → IsStar mesh.now around.now }
+{
+    let Some(first) = around.first() else {
+        return false;
+    };
+    if first.0 >= 2 * mesh.edges() {
+        return false;
+    }
+    let vertex = mesh.origin(*first);
+    all_begin_at(mesh, around, vertex) && is_once(around) && holds_all(mesh, around, vertex)
+}
+
+fn all_begin_at(mesh: &Mesh, around: &[HalfEdgeId], vertex: VertexId) -> bool
+    ensures within { IsTrue result → (k : ℕ) → k < length around.now
+        → slice_index around.now k < size mesh.now }
+    ensures start { IsTrue result → (k : ℕ) → k < length around.now
+        → slice_index mesh.now.origin (slice_index around.now k) ≡ vertex }
+{
+    for h in around {
+        if h.0 >= 2 * mesh.edges() || mesh.origin(*h) != vertex {
+            return false;
+        }
+    }
+    true
+}
+
+fn is_once(around: &[HalfEdgeId]) -> bool
+    ensures { IsTrue result → IsOnce around.now }
+{
+    for k in 0..around.len() {
+        if is_among(&around[..k], around[k]) {
+            return false;
+        }
+    }
+    true
+}
+
+pub fn is_among(around: &[HalfEdgeId], h: HalfEdgeId) -> bool
+    ensures there { IsTrue result → (k : ℕ) × (k < length around.now)
+        × (slice_index around.now k ≡ h) }
+    ensures nowhere { result ≡ false → (k : ℕ) → k < length around.now
+        → slice_index around.now k ≢ h }
+{
+    for x in around {
+        if *x == h {
+            return true;
+        }
+    }
+    false
+}
+
+fn holds_all(mesh: &Mesh, around: &[HalfEdgeId], vertex: VertexId) -> bool
+    ensures { IsTrue result → (h : ℕ) → h < size mesh.now
+        → slice_index mesh.now.origin h ≡ vertex
+        → (k : ℕ) × (k < length around.now) × (slice_index around.now k ≡ h) }
+{
+    for h in 0..2 * mesh.edges() {
+        if mesh.origin(HalfEdgeId(h)) == vertex && !is_among(around, HalfEdgeId(h)) {
+            return false;
+        }
+    }
+    true
+}
+
+fn is_loose(mesh: &Mesh, around: &[HalfEdgeId]) -> bool
+    requires { IsStar mesh.now around.now }
+    ensures { IsTrue result → IsLoose mesh.now around.now }
+{
+    let _ = mesh.edges();
+    for h in around {
+        if mesh.next(mesh.twin(*h)) != *h {
+            return false;
+        }
+    }
+    true
+}

@@ -1,7 +1,0 @@
-use Rattle.std.proofs.Common.{ℕ, ◌<◌, get_or}
-use Rattle.plane.specs.declared.kinds.Point.{Point}
-use Rattle.line_sweep.specs.TestEdges.{IsMiddle}
-use Rattle.point_location.proofs.tests.are_middle.Given as goal
-
-abbrev pub invariant-loop-p : goal.invariant-loop-p
-invariant-loop-p l = (k : ℕ) (d : Point) → k < l.p-index → IsMiddle (get_or l.points k d)
