@@ -1,5 +1,6 @@
 // The values that an IDENT list demands, as the bytes of one key.
-ghost use Rattle.std.specs.Prelude.{◌≡◌, ◌+◌, ◌++◌, ◌∷◌, [], length, map, Some, IfOk, OnOk};
+ghost use Rattle.std.specs.Prelude.{◌≡◌, ◌<◌, ◌+◌, ◌++◌, ◌∷◌, [], length, map, Some};
+ghost use Rattle.std.specs.Prelude.{IfOk, OnOk};
 ghost use Rattle.std.specs.List.{flat_map};
 ghost use Rattle.std.specs.Option.{option_to_list};
 ghost use Rattle.ident_refs.specs.Compared.{corner_view, demand_view, rank_of};
@@ -15,6 +16,9 @@ use super::key_cell::KeyCell;
 use itf_reader::{Row, VertexKind};
 use ports::{Keyed, Memory};
 use std::alloc::Global;
+
+// So many bytes of a key are kept in its value.
+const ROOM: usize = 14;
 
 fn add_byte(into: &mut Vec<u8>, byte: u8) -> Result<(), Memory>
     ensures { OnOk result (into.new.items ≡ into.old.items ++ byte_code byte) }
@@ -176,14 +180,46 @@ pub fn demand_key(alloc: Global, demand: &Demand) -> Result<KeyCell, Memory>
     KeyCell::new(alloc, &bytes)
 }
 
+// The key of a word for which a value has room, which needs no memory.
+fn short_key(alloc: Global, word: &[u8]) -> Result<KeyCell, Memory>
+    requires { length word.now < 14 }
+    ensures { IfOk result (λ key. key ≡ Some (word_code word.now)) }
+{
+    let mut bytes = [1; ROOM];
+    bytes[1..1 + word.len()].copy_from_slice(word);
+    KeyCell::new(alloc, &bytes[..1 + word.len()])
+}
+
 /// The key of a word as an identification.
 pub fn word_key(alloc: Global, word: &[u8]) -> Result<KeyCell, Memory>
     ensures { IfOk result (λ key. key ≡ Some (word_code word.now)) }
 {
+    if word.len() < ROOM {
+        return short_key(alloc, word);
+    }
     let mut bytes = Vec::with_capacity(alloc, word.len().saturating_add(1))?;
     bytes.push(1)?;
     bytes.extend_from_slice(word)?;
     KeyCell::new(alloc, &bytes)
+}
+
+// The key of a value that is no word.
+fn other_key(alloc: Global, value: &Value) -> Result<KeyCell, Memory>
+    ensures { IfOk result (λ key. key ≡ Some (value_code (value_view value.now))) }
+{
+    let mut bytes = Vec::with_capacity(alloc, 25)?;
+    add_value(&mut bytes, value)?;
+    KeyCell::new(alloc, &bytes)
+}
+
+/// The key of a row by a list with one place, from its value there.
+pub fn value_key(alloc: Global, value: &Value) -> Result<KeyCell, Memory>
+    ensures { IfOk result (λ key. key ≡ Some (value_code (value_view value.now))) }
+{
+    match value {
+        Value::Word(word) => word_key(alloc, word),
+        _ => other_key(alloc, value),
+    }
 }
 
 /// The key of a row by its identification.

@@ -14,7 +14,7 @@ ghost use Rattle.ident_refs.specs.ListValues.{demand, lines_values, row_values};
 ghost use Rattle.ident_refs.specs.Spans.{span_view, spans_from};
 
 use super::compared::{Demand, Value};
-use super::key_bytes::demand_key;
+use super::key_bytes::{demand_key, value_key};
 use super::key_cell::KeyCell;
 use super::values::{form_value, line_value};
 use field_values::width;
@@ -154,14 +154,39 @@ impl<'a> Sheet<'a> {
         Ok(Some(Demand { values }))
     }
 
-    /// The key of a row by a list, none where the row demands nothing.
-    pub fn key(&self, places: &[u32], row: &Row) -> Result<KeyCell, Memory>
+    // The key of a row by one place.
+    fn place_key(&self, place: u32, row: &Row) -> Result<KeyCell, Memory>
+        ensures { IfOk result (λ key. key ≡ list_key (codes_of self.now.codes.now)
+            (table_view self.now.table.now) (place ∷ []) (row_of row.now)) }
+    {
+        if row.fields.len() != self.fields {
+            return KeyCell::new(self.alloc, &[]);
+        }
+        match self.value_at(row, place as usize)? {
+            Some(value) => value_key(self.alloc, &value),
+            None => KeyCell::new(self.alloc, &[]),
+        }
+    }
+
+    // The key of a row by any list.
+    fn places_key(&self, places: &[u32], row: &Row) -> Result<KeyCell, Memory>
         ensures { IfOk result (λ key. key ≡ list_key (codes_of self.now.codes.now)
             (table_view self.now.table.now) places.now (row_of row.now)) }
     {
         match self.demand(places, row)? {
             Some(demand) => demand_key(self.alloc, &demand),
             None => KeyCell::new(self.alloc, &[]),
+        }
+    }
+
+    /// The key of a row by a list, none where the row demands nothing.
+    pub fn key(&self, places: &[u32], row: &Row) -> Result<KeyCell, Memory>
+        ensures { IfOk result (λ key. key ≡ list_key (codes_of self.now.codes.now)
+            (table_view self.now.table.now) places.now (row_of row.now)) }
+    {
+        match places {
+            [place] => self.place_key(*place, row),
+            _ => self.places_key(places, row),
         }
     }
 }
