@@ -6,7 +6,7 @@ use Rattle.ports.specs.Output.{Adds}
 use Rattle.itf_reader.proofs.Readings.{one_transfer, one_refusal as one_fault, never_both}
 use Rattle.itf_reader.specs.Forms.{Row}
 use Rattle.itf_reader.specs.Layouts.{form_of}
-use Rattle.table_layout.specs.Layouts.{AreaOf, Layout}
+use Rattle.table_layout.specs.Layouts.{Layout}
 use Rattle.delivery.specs.declared.files.File.{File}
 use Rattle.delivery.specs.declared.status.Status.{Status}
 use Rattle.delivery.specs.declared.status.Status.TheVariants.{ReadFault, WriteFault}
@@ -15,7 +15,6 @@ use Rattle.delivery.specs.AreaAnswers.{AreAnswers}
 use Rattle.delivery.specs.Verifying.{IsVerification}
 use Rattle.plane.specs.Rule.Plans.{Plan}
 use Rattle.delivery.proofs.Windows.{same_drawings}
-use Rattle.delivery.specs.AreaLimits.{has_too_large}
 use Rattle.delivery.specs.Commands.{Command, Source, compile, check, verify, limit_of, model_of, further_files}
 use Rattle.delivery.specs.Deciding.{Decides, formless, formed}
 use Rattle.delivery.specs.FiledTexts as filed_texts

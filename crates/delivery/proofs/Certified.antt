@@ -1,8 +1,7 @@
 -- An accepted check leaves certificates that prove its areas.
-use Rattle.std.proofs.Common.{◌≡◌, ℕ, Bool, true, false, ◌||◌, List, [], ◌∷◌, ◌++◌, Option, Some, refl, sym, ap, ◌∙◌, subst}
-use Rattle.std.specs.Prelude.{codes}
-use Rattle.ports.specs.Files.{Files, Puts}
-use Rattle.certificate.specs.Spelling.{Plain, spelling}
+use Rattle.std.proofs.Common.{◌≡◌, ℕ, Bool, true, false, List, [], ◌∷◌, ◌++◌, Option, Some, refl, sym, ap, ◌∙◌, subst}
+use Rattle.ports.specs.Files.{Files}
+use Rattle.certificate.specs.Spelling.{Plain}
 use Rattle.itf_reader.specs.Forms.{Row}
 use Rattle.table_layout.specs.Layouts.{AreaOf, Layout}
 use Rattle.plane.specs.Rule.Plans.{Plan}
@@ -10,17 +9,16 @@ use Rattle.delivery.specs.Amounting.{Amounts}
 use Rattle.delivery.specs.AreaAnswers.{IsAnswer, later, faulty, proved, AreAnswers, is_fault, is_left, has_fault, has_left}
 use Rattle.delivery.specs.AreaCertificates.{IsCertificateOf, AreCertificatesOf}
 use Rattle.delivery.specs.Certified.{AreCertified, Certifies}
-use Rattle.delivery.specs.Commands.{FileNames, Command, check, IsSpelled}
+use Rattle.delivery.specs.Commands.{FileNames, Command, check}
 use Rattle.delivery.specs.Deciding.{Decides, formless, formed}
 use Rattle.delivery.specs.Effects.{Filed}
 use Rattle.delivery.specs.Gathering as gathering
 use Rattle.delivery.specs.Gathering.{Gathered, Gathers}
 use Rattle.delivery.specs.Judging as judging
 use Rattle.delivery.specs.Judging.{Tells, IsClean, objects, AreJudged, IsRowsChecked, IsChecked}
-use Rattle.delivery.specs.Outcomes.{Outcome, Filing, areas_told}
+use Rattle.delivery.specs.Outcomes.{Outcome, Filing}
 use Rattle.delivery.specs.declared.report.lines.AreaAnswer.{AreaAnswer}
-use Rattle.delivery.specs.declared.status.Status.{Status}
-use Rattle.delivery.specs.declared.status.Status.TheVariants.{Accepted, Rejected, Undecided, ModelRefused, Usage, ReadFault, OverLimit}
+use Rattle.delivery.specs.declared.status.Status.TheVariants.{Accepted}
 use Rattle.delivery.proofs.AreaLemmas.{told_by, differ, neither, fault_is_fault}
 use Rattle.delivery.proofs.CommandLemmas.{one_command}
 

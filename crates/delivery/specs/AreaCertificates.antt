@@ -1,5 +1,5 @@
 -- The certificates of areas.
-use Rattle.std.specs.Prelude.{◌≡◌, ℕ, List, [], ◌∷◌, ⊤}
+use Rattle.std.specs.Prelude.{◌≡◌, List, [], ◌∷◌, ⊤}
 use Rattle.certificate.specs.Spelling.{Plain}
 use Rattle.certificate.specs.declared.notes.HalfNote.{HalfNote}
 use Rattle.certificate_checker.specs.Subjects.{Claims}

@@ -1,6 +1,6 @@
 -- The drawing of an area: from the rows of a transfer to curves and points of the plane.
 use Rattle.std.specs.Prelude.{◌≡◌, ℕ, ◌+◌, if◌then◌else◌, List, [], ◌∷◌, ◌++◌, take, drop, map, Option, Some, None, Result, Ok, pos, slice_get, slice_index_or}
-use Rattle.std.specs.List.{All, AllZip, flat_map}
+use Rattle.std.specs.List.{AllZip, flat_map}
 use Rattle.ili_grammar.specs.Syntax.{Codes}
 use Rattle.resolver.specs.Resolved.{LineForm, Window}
 use Rattle.table_layout.specs.Layouts.{Column, Table, AreaOf, Layout}

@@ -1,5 +1,5 @@
 -- What the text of a transfer amounts to.
-use Rattle.std.specs.Prelude.{◌≡◌, ◌≢◌, ℕ, ◌+◌, true, false, List, [], ◌∷◌, ◌++◌, length, ◌⊎◌, ⊤}
+use Rattle.std.specs.Prelude.{◌≡◌, ◌≢◌, ℕ, ◌+◌, true, false, List, [], ◌∷◌, ◌++◌, length}
 use Rattle.itf_lines.specs.LogicalLines.{LogicalLines, logical}
 use Rattle.itf_reader.specs.Findings.{Finding, in_order}
 use Rattle.itf_reader.specs.Forms.{Row}

@@ -1,5 +1,5 @@
 -- Outcomes: what a call answers, reports and writes.
-use Rattle.std.specs.Prelude.{ℕ, if◌then◌else◌, List, [], ◌∷◌, ◌++◌, map, length, Option, Some, None, slice_get, slice_index_or}
+use Rattle.std.specs.Prelude.{ℕ, if◌then◌else◌, List, [], ◌∷◌, ◌++◌, map, length, Option, Some, None, slice_index_or}
 use Rattle.std.specs.List.{flat_map}
 use Rattle.plane.specs.Rule.Plans.{Plan}
 use Rattle.certificate.specs.Spelling.{Plain}
@@ -9,7 +9,7 @@ use Rattle.table_layout.specs.Layouts.{Table, AreaOf, Layout}
 use Rattle.delivery.specs.AreaAnswers.{has_fault, has_left, has_half_arc, proof_told}
 use Rattle.delivery.specs.AreaNames.{topic_name, table_name}
 use Rattle.delivery.specs.Lines as lines
-use Rattle.delivery.specs.Lines.{TableLine, AreaLine, Line, line_text}
+use Rattle.delivery.specs.Lines.{Line, line_text}
 use Rattle.delivery.specs.ModelTexts.{Refusal}
 use Rattle.delivery.specs.Verifying.{Verification, proved, not_proved}
 use Rattle.delivery.specs.declared.files.File.{File}

@@ -1,10 +1,10 @@
 // Outcomes of a call, fixed before anything is written.
-ghost use Rattle.std.specs.Prelude.{◌≡◌, ◌++◌, [], length, map, slice_get, slice_index_or, IfOk, OnOk, Some, None};
+ghost use Rattle.std.specs.Prelude.{◌≡◌, ◌++◌, map, IfOk, OnOk, Some, None};
 ghost use Rattle.certificate.specs.Spelling.{views};
 ghost use Rattle.itf_reader.specs.Findings.{findings_of};
 ghost use Rattle.itf_reader.specs.Refusals.{fault_of};
 ghost use Rattle.table_layout.specs.Values.{area_view, areas_view, layout_view, table_view, tables_view};
-ghost use Rattle.delivery.specs.Outcomes.{reported, usage, unread, too_long, area_too_large};
+ghost use Rattle.delivery.specs.Outcomes.{reported, usage, area_too_large};
 ghost use Rattle.delivery.specs.Outcomes.{refused, compiled, misbuilt, rejected, areas_told};
 ghost use Rattle.delivery.specs.Outcomes.{accepted, area_line, area_lines, table_line};
 ghost use Rattle.delivery.specs.Outcomes.{with_verdict};

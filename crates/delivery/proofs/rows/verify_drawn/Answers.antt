@@ -1,4 +1,4 @@
-use Rattle.std.proofs.Common.{◌≡◌, List, ℕ, length, ap, sym, ◌∙◌, subst}
+use Rattle.std.proofs.Common.{◌≡◌, List, ℕ, length, ap, ◌∙◌, subst}
 use Rattle.itf_reader.specs.Views.{tables_seen, transfer_of}
 use Rattle.itf_reader.specs.declared.transfer.TableRows.{TableRows}
 use Rattle.plane.specs.declared.drawing.Drawing.{Drawing}
@@ -8,7 +8,6 @@ use Rattle.delivery.specs.AnswerViews.{has_arc_seen}
 use Rattle.delivery.specs.AreaAnswers.{plans}
 use Rattle.delivery.specs.Judging.{objects}
 use Rattle.delivery.specs.Outcomes.{arcs_left, verified}
-use Rattle.delivery.specs.OutcomeViews.{outcome_of}
 use Rattle.delivery.specs.RowsRead.{arcs, judged}
 use Rattle.delivery.specs.VerificationViews.{verification_of}
 use Rattle.delivery.specs.Verifying.{IsVerification}

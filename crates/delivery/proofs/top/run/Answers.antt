@@ -1,4 +1,4 @@
-use Rattle.std.proofs.Common.{◌≡◌, ℕ, List, Option, inl, inr, sym, ◌∙◌, subst}
+use Rattle.std.proofs.Common.{ℕ, List, Option, inl, inr, sym, ◌∙◌, subst}
 use Rattle.std.specs.Prelude.{◌≢◌}
 use Rattle.delivery.specs.declared.status.Status.TheVariants.{WriteFault}
 use Rattle.delivery.proofs.Certified.{certifies}
