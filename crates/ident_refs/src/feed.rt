@@ -26,7 +26,7 @@ use table_layout::{Layout, Table, TableId};
 #[derive(Drop)]
 pub struct KeyFeed<'a> {
     alloc: Global,
-    pub tables: Vec<TableKeys<'a>>,
+    tables: Vec<TableKeys<'a>>,
 }
 
 // The tables of a layout, without rows.
@@ -120,7 +120,7 @@ impl<'a> KeyFeed<'a> {
         Ok(())
     }
 
-    // Adds the rows of all tables, in the order of the layout.
+    /// Adds the rows of all tables, in the order of the layout, one after another.
     pub fn add_tables(&mut self, transfer: &[TableRows]) -> Result<(), Memory>
         ensures { OnOk result (kept_in self.new.tables.items ≡ fed_tables 0
             (tables_seen transfer.now) (kept_in self.old.tables.items)) }
