@@ -166,6 +166,12 @@ def fail(folder, what, got, want):
     sys.exit(1)
 
 
+def proved(certificate, line):
+    """The line of the report, with the level that the certificate tells: straights prove at each."""
+    level = certificate.split(b"\nSIZES ")[1].split(b" ")[0].decode()
+    return line.replace("PROVED 0 ", "PROVED %s " % level)
+
+
 def compare(program, folder, chance, tally):
     straights, placed = drawing(chance)
     text, curves, objects = transfer(straights, placed)
@@ -186,7 +192,7 @@ def compare(program, folder, chance, tally):
         broken = second_checker.verify(areas, certificate)
         if turn == 0 and broken is not None:
             fail(folder, "the certificate", "written", broken)
-        line = lines[0] if broken is None else "NOTPROVED %d %d %d" % broken
+        line = "NOTPROVED %d %d %d" % broken if broken else proved(certificate, lines[0])
         report = run(program, folder, "verify")
         if report[:1] != [line]:
             fail(folder, "verify", report, line)
