@@ -1,1 +1,2 @@
 pub mod DrawnEdges
+pub mod HalfArcTubes

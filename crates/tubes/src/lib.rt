@@ -5,8 +5,11 @@
 //!   list as a function of the drawing (`edges_of`), which the layers above speak of.
 //! - **The rule that it serves.** Two straights meet badly exactly where their edges do; the edge
 //!   of each number is that of the curve of that number (`laws::edges_of_drawing`).
-//! - **Not here yet: half arcs.** A half arc is to be covered by a tube, a band of triangles whose
-//!   edges stand for it at a level from 0 to 5. As long as none is made, `edge_list` answers `None`
+//! - **Half arcs: what stands.** A half arc is to be covered by a tube, a band of triangles whose
+//!   edges stand for it at a level from 0 to 5. `specs/HalfArcTubes.antt` says which corners the
+//!   tube has and when there is none (`IsTubeOf`, `HasNoTube`); what it says is a tube in the sense
+//!   of the laws of `plane::arcs`, so it covers the half arc (`laws::tubes_of_half_arcs`).
+//! - **Not here yet: the making of tubes.** As long as none is made, `edge_list` answers `None`
 //!   exactly where the drawing has a half arc, whatever the level.
 //! - **Degenerate cases.** No curve, upright straights, straights that are delivered backwards and
 //!   equal straights are all taken.
