@@ -1,0 +1,183 @@
+#!/usr/bin/env bash
+# Refuses each growth of the built program in turn: a library in front of the C library's `malloc`,
+# `calloc` and `realloc` refuses the N-th of their calls, or the N-th and all behind it, for N from 1
+# until a run asks for fewer. `realloc` counts where it asks for more. Each run has to end with
+# status 8, nothing written and no certificate file made or changed, or with what the run with no
+# refusal answers, byte for byte. It measures nothing, and stops at the first run that does neither.
+#
+# usage: bench/growths.sh [ITFCHECK]      (crates/itfcheck/out/itfcheck where none is given)
+set -euo pipefail
+top=$(cd "$(dirname "${BASH_SOURCE[0]}")/.." && pwd)
+itfcheck=$(realpath "${1:-$top/crates/itfcheck/out/itfcheck}")
+work=$(mktemp -d)
+trap 'rm -rf "$work"' EXIT
+cd "$work"
+
+cat > refuse.c <<'C'
+/* Refuses the allocation of the number REFUSE, and with REFUSE_ON all behind it; where it did so
+   first, a byte goes to descriptor 9. */
+#include <errno.h>
+#include <malloc.h>
+#include <stddef.h>
+#include <stdlib.h>
+#include <unistd.h>
+
+extern void *__libc_malloc(size_t);
+extern void *__libc_calloc(size_t, size_t);
+extern void *__libc_realloc(void *, size_t);
+
+static long left;
+static int on, begun;
+
+static int refused(void) {
+    if (!begun) {
+        const char *number = getenv("REFUSE");
+        begun = 1;
+        left = number ? atol(number) : 0;
+        on = getenv("REFUSE_ON") != NULL;
+    }
+    if (left < 0) {
+        errno = on ? ENOMEM : errno;
+        return on;
+    }
+    if (left == 0 || --left > 0) return 0;
+    left = -1;
+    (void)!write(9, "r", 1);
+    errno = ENOMEM;
+    return 1;
+}
+
+void *malloc(size_t size) { return refused() ? NULL : __libc_malloc(size); }
+
+void *calloc(size_t count, size_t size) { return refused() ? NULL : __libc_calloc(count, size); }
+
+void *realloc(void *old, size_t size) {
+    if ((old == NULL || size > malloc_usable_size(old)) && refused()) return NULL;
+    return __libc_realloc(old, size);
+}
+C
+cc -O2 -shared -fPIC -o refuse.so refuse.c
+
+python3 - "$itfcheck" <<'PY'
+import os, subprocess, sys
+
+MODEL = """TRANSFER Rows; DOMAIN Koord = COORD2 0.000 0.000 1000.000 1000.000;
+MODEL Land TOPIC Cover =
+TABLE Owner = Name: TEXT*12; Art: (private, public (town, state)); NO IDENT END Owner;
+TABLE Parcel = Nr: TEXT*12; Zu: -> Owner;
+Form: AREA WITH (STRAIGHTS) VERTEX Koord WITHOUT OVERLAPS > 0.050; IDENT Nr; END Parcel;
+END Cover. END Land.
+FORMAT FREE; CODE BLANK = DEFAULT, UNDEFINED = DEFAULT, CONTINUE = DEFAULT; TID = ANY; END.
+"""
+RING = """OBJE 1
+STPT 100.000 100.000
+LIPT 200.000 100.000
+LIPT 200.000 200.000
+LIPT 100.000 200.000
+LIPT 100.000 100.000
+ELIN
+"""
+HOLE = """OBJE 2
+STPT 140.000 140.000
+LIPT 160.000 140.000
+LIPT 160.000 160.000
+LIPT 140.000 160.000
+LIPT 140.000 140.000
+ELIN
+OBJE 3
+STPT 120.000 120.000
+LIPT 130.000 120.000
+ELIN
+"""
+
+
+def transfer(lines, parcels):
+    return ("SCNT\n////\nMTID Rows\nMODL Land\nTOPI Cover\nTABL Owner\nOBJE o1 Ann 1\nOBJE o2 Bob 2\n"
+            "ETAB\nTABL Parcel_Form\n" + lines + "ETAB\nTABL Parcel\n" + parcels
+            + "ETAB\nETOP\nEMOD\nENDE\n")
+
+
+SQUARE = transfer(RING, "OBJE 1 77 o1 110.000 150.000\n")
+HOLED = transfer(RING + HOLE, "OBJE 1 77 o1 110.000 150.000\nOBJE 2 78 o2 150.000 150.000\n")
+CROSSED = transfer(RING + RING.replace("STPT 100", "STPT 300"), "OBJE 1 77 o1 110.000 150.000\n")
+WRONG = transfer(RING, "OBJE 1 77 o3 110.000 150.000\nOBJE 2 77 o1 x 1.000\n")
+
+# the command, the model, the transfer, the certificates filed before, and the status
+CHECKS = [
+    ("a square", "check", MODEL, SQUARE, None, 0),
+    ("a square, filed before", "check", MODEL, SQUARE, b"as it was", 0),
+    ("a ring with a hole and a line that ends inside", "check", MODEL, HOLED, None, 0),
+    ("two lines that meet", "check", MODEL, CROSSED, None, 1),
+    ("wrong rows", "check", MODEL, WRONG, None, 1),
+    ("a transfer that ends too soon", "check", MODEL, SQUARE[:150], None, 1),
+    ("a refused model", "check", MODEL.replace("-> Owner", "-> Nobody"), SQUARE, None, 3),
+]
+
+
+def put(name, content):
+    if content is None:
+        if os.path.exists(name):
+            os.unlink(name)
+        return
+    with open(name, "wb") as file:
+        file.write(content)
+
+
+def held(name):
+    if not os.path.exists(name):
+        return None
+    with open(name, "rb") as file:
+        return file.read()
+
+
+def run(command, before, number, on):
+    """Status, output, certificates, and whether a growth was refused."""
+    put("C", before)
+    put("refused", b"")
+    settings = {"LD_PRELOAD": os.path.abspath("refuse.so"), "REFUSE": str(number)}
+    if on:
+        settings["REFUSE_ON"] = "1"
+    done = subprocess.run(
+        ["sh", "-c", 'exec "$@" 9> refused', "sh", "env", *("%s=%s" % s for s in settings.items()),
+         sys.argv[1], command, "M", "T", "C"],
+        stdout=subprocess.PIPE, stderr=subprocess.STDOUT, check=False)
+    return done.returncode, done.stdout, held("C"), held("refused") != b""
+
+
+def refuse_all(name, command, model, text, before, status):
+    """Refuses each growth; gives the certificates that the run with no refusal leaves."""
+    put("M", model.encode())
+    put("T", text.encode())
+    *wanted, refused = run(command, before, 0, False)
+    if wanted[0] != status or refused:
+        sys.exit("%s, %s: no refusal, yet %s" % (command, name, wanted))
+    for on in (False, True):
+        number, memory, same = 0, 0, 0
+        while True:
+            number += 1
+            *got, refused = run(command, before, number, on)
+            if got == wanted:
+                same += refused
+            elif got == [8, b"", before]:
+                memory += 1
+            else:
+                sys.exit("%s, %s: growth %d refused%s: %s" % (
+                    command, name, number, " and all behind it" if on else "", got))
+            if not refused:
+                break
+        print("%s, %s, status %d: %d growths%s refused in turn: %d times out of memory, %d times the"
+              " same answer" % (command, name, status, number - 1,
+                                " and all behind each" if on else "", memory, same))
+    return wanted[2]
+
+
+made = []
+for case in CHECKS:
+    made.append(refuse_all(*case))
+name, _, model, text, _, _ = CHECKS[2]
+refuse_all(name, "verify", model, text, made[2], 0)
+name, _, model, text, _, _ = CHECKS[0]
+refuse_all(name, "verify", model, text, made[0], 0)
+refuse_all("a square, a label changed", "verify", model, text, made[0].replace(b"R 0 1 R", b"R 0 2 R", 1), 9)
+refuse_all("a square, a text cut off", "verify", model, text, made[0][:40], 9)
+PY
