@@ -151,6 +151,12 @@ def changed(chance, text):
     return b"".join(parts)
 
 
+def filed(line, certificate):
+    """The line of `verify` for a certificate that proves: it tells the level that was filed."""
+    level = certificate.split(b"\n")[3].split()[1].decode()
+    return line.replace("PROVED 0 ", "PROVED %s " % level)
+
+
 def run(program, folder, command):
     done = subprocess.run(
         [os.path.abspath(program), command, "M", "T", "C"],
@@ -164,12 +170,6 @@ def run(program, folder, command):
 def fail(folder, what, got, want):
     print("%s\n  the program: %s\n  the plain way: %s\n  files: %s" % (what, got, want, folder))
     sys.exit(1)
-
-
-def proved(certificate, line):
-    """The line of the report, with the level that the certificate tells: straights prove at each."""
-    level = certificate.split(b"\nSIZES ")[1].split(b" ")[0].decode()
-    return line.replace("PROVED 0 ", "PROVED %s " % level)
 
 
 def compare(program, folder, chance, tally):
@@ -192,7 +192,7 @@ def compare(program, folder, chance, tally):
         broken = second_checker.verify(areas, certificate)
         if turn == 0 and broken is not None:
             fail(folder, "the certificate", "written", broken)
-        line = "NOTPROVED %d %d %d" % broken if broken else proved(certificate, lines[0])
+        line = filed(lines[0], certificate) if broken is None else "NOTPROVED %d %d %d" % broken
         report = run(program, folder, "verify")
         if report[:1] != [line]:
             fail(folder, "verify", report, line)
