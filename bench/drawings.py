@@ -4,10 +4,12 @@
 usage: drawings.py grid N FOLDER        N by N squares, two N (N + 1) straights
        drawings.py parcels N FOLDER     about N parcels with crooked borders of three straights each,
                                         a building of six straights in every second one
+       drawings.py strokes N FOLDER     N straights that all lie above one another, in no order, and
+                                        no object: a sweep has all of them live at once
 
-FOLDER gets `model` and `transfer`, which `check` accepts, and `straights`, the same straights as
-32-bit numbers: x and y of the start, x and y of the end, in units of a millimetre. The same
-arguments give the same bytes.
+FOLDER gets `model` and `transfer`, which `check` accepts, and the same as 32-bit numbers in units
+of a millimetre: `straights`, x and y of the start, x and y of the end, and `points`, x and y. The
+same arguments give the same bytes.
 """
 import os
 import random
@@ -78,13 +80,23 @@ def parcels(count):
     return lines, points
 
 
+def strokes(count):
+    """Level straights with a pace of 50 mm, each from the left half of the window into the right."""
+    chance = random.Random(1)
+    starts, ends = list(range(count)), list(range(count))
+    chance.shuffle(starts)
+    chance.shuffle(ends)
+    lines = [[(50 * starts[i], 50 * i), (50_000_000 + 50 * ends[i], 50 * i)] for i in range(count)]
+    return lines, []
+
+
 def metres(point):
     return "%d.%03d %d.%03d" % (*divmod(point[0], 1000), *divmod(point[1], 1000))
 
 
 def main():
     kind, count, folder = sys.argv[1], int(sys.argv[2]), sys.argv[3]
-    lines, points = {"grid": grid, "parcels": parcels}[kind](count)
+    lines, points = {"grid": grid, "parcels": parcels, "strokes": strokes}[kind](count)
     os.makedirs(folder, exist_ok=True)
     with open(f"{folder}/model", "w") as file:
         file.write(MODEL)
@@ -92,6 +104,9 @@ def main():
         for line in lines:
             for a, b in zip(line, line[1:]):
                 file.write(struct.pack("<4i", *a, *b))
+    with open(f"{folder}/points", "wb") as file:
+        for point in points:
+            file.write(struct.pack("<2i", *point))
     with open(f"{folder}/transfer", "w") as file:
         file.write("SCNT\n////\nMTID Bench\nMODL Bench\nTOPI Land\nTABL Parcel_Form\n")
         for number, line in enumerate(lines, 1):

@@ -1,0 +1,228 @@
+#!/usr/bin/env bash
+# Runs `certificate_checker::check` alone over a drawing and its filed certificate: 501,000 straights
+# of a square grid and 900,600 of a drawing of parcels, beside a plain C++ sweep over the same
+# numbers. What reading the numbers and the certificate takes is measured by itself and taken away,
+# and what reading the numbers takes from the plain sweep. Memory is what `check` takes above the
+# drawing and the certificate, which are held before it begins. Then it runs over level strokes that
+# are all live at once, at two sizes: each event moves the part of the live list that is above it.
+# The certificates are made by `check` of the built program that is named, else by
+# plain_certificate.py; the program over `certificate_checker` is built in a scratch folder. Prints
+# ratios, no absolute times.
+#
+# usage: bench/verify.sh [ITFCHECK]      (building proves `certificate_checker` and the crates below
+#                                         it: some minutes)
+set -euo pipefail
+top=$(cd "$(dirname "${BASH_SOURCE[0]}")/.." && pwd)
+itfcheck=${1:+$(realpath "$1")}
+. "$top/bench/measure.sh"
+work=$(mktemp -d)
+trap 'rm -rf "$work"' EXIT
+below='ports plane half_edges straight_predicates event_mesh tubes certificate certificate_checker'
+for crate in $below; do
+    mkdir -p "$work/crates/$crate"
+    cp -r "$top/crates/$crate/src" "$top/crates/$crate/specs" "$top/crates/$crate/proofs" "$work/crates/$crate" 2> /dev/null || true
+    grep -E "^$crate:" "$top/crates.txt" >> "$work/crates.txt"
+done
+echo 'verify_bench: ports plane certificate certificate_checker' >> "$work/crates.txt"
+bench="$work/crates/verify_bench"
+mkdir -p "$bench/src"
+cat > "$bench/src/main.rt" <<'END'
+// Reads straights and points as 32-bit numbers and a certificate, and checks it. With a word that
+// begins with r it only reads; with one that begins with w it opens the files `held` and `go` before
+// it checks, which are pipes that stop it there.
+#![tactic(auto)]
+
+ghost use Rattle.std.specs.Prelude.{IsTrue};
+ghost use Rattle.plane.specs.Rule.Windows.{IsInside};
+
+use certificate::{Certificate, read};
+use certificate_checker::{Verdict, check};
+use plane::{Drawing, Point, Window2};
+use ports::{Memory, RealShelf, Shelf};
+use std::alloc::Global;
+use std::env::Env;
+
+const LEAST: i64 = -2_147_483_648;
+const GREATEST: i64 = 2_147_483_647;
+const WINDOW: Window2 = Window2 {
+    low: Point { x: LEAST, y: LEAST },
+    high: Point { x: GREATEST, y: GREATEST },
+};
+
+/// The number that four bytes spell, the lowest first.
+fn number(bytes: Option<&[u8]>) -> i64 {
+    match bytes {
+        Some([a, b, c, d]) => i32::from_le_bytes([*a, *b, *c, *d]) as i64,
+        _ => 0,
+    }
+}
+
+fn is_inside(window: &Window2, p: Point) -> bool
+    ensures { IsTrue result → IsInside window.now.low window.now.high p }
+{
+    if window.low.x <= p.x
+        && p.x <= window.high.x
+        && window.low.y <= p.y
+        && p.y <= window.high.y
+    {
+        return true;
+    }
+    false
+}
+
+fn add_straight(drawing: &mut Drawing, from: Point, to: Point) {
+    if from != to
+        && drawing.curves.len() < 1_000_000
+        && is_inside(&drawing.window, from)
+        && is_inside(&drawing.window, to)
+    {
+        let _ = drawing.add_straight(from, to, 0);
+    }
+}
+
+fn add_point(drawing: &mut Drawing, at: Point) {
+    if drawing.points.len() < 1_000_000 && is_inside(&drawing.window, at) {
+        let _ = drawing.add_point(at, 0);
+    }
+}
+
+fn drawing_of(alloc: Global, straights: &[u8], points: &[u8]) -> Drawing {
+    let mut drawing = Drawing::new(alloc, WINDOW);
+    for line in straights.chunks_exact(16) {
+        let from = Point { x: number(line.get(..4)), y: number(line.get(4..8)) };
+        let to = Point { x: number(line.get(8..12)), y: number(line.get(12..)) };
+        add_straight(&mut drawing, from, to);
+    }
+    for place in points.chunks_exact(8) {
+        add_point(&mut drawing, Point { x: number(place.get(..4)), y: number(place.get(4..)) });
+    }
+    drawing
+}
+
+fn drawing_in(alloc: Global, shelf: &mut RealShelf) -> Result<Drawing, Memory> {
+    let straights = whole_file(alloc, shelf, "straights")?;
+    let points = whole_file(alloc, shelf, "points")?;
+    Ok(drawing_of(alloc, &straights, &points))
+}
+
+/// The certificates that a file has; none where it is no list of certificates.
+fn certificates_in(alloc: Global, shelf: &mut RealShelf) -> Result<Vec<Certificate>, Memory> {
+    let bytes = whole_file(alloc, shelf, "certificate")?;
+    if bytes.len() <= 1 << 30 {
+        if let Ok(list) = read(alloc, &bytes) {
+            return Ok(list);
+        }
+    }
+    Ok(Vec::new(alloc))
+}
+
+fn main(rt: HostRuntime) {
+    let alloc = rt.alloc();
+    let mut word = [0u8; 16];
+    let _ = rt.arg(1, &mut word);
+    let mut shelf = RealShelf::new(rt);
+    let Ok(drawing) = drawing_in(alloc, &mut shelf) else {
+        return;
+    };
+    let Ok(certificates) = certificates_in(alloc, &mut shelf) else {
+        return;
+    };
+    let Some(certificate) = certificates.first() else {
+        let _ = println!(rt; "no certificate");
+        return;
+    };
+    if word[0] == b'r' {
+        let _ = println!(rt; "{} straights", drawing.curves.len());
+        return;
+    }
+    if word[0] == b'w' {
+        let _ = whole_file(alloc, &mut shelf, "held");
+        let _ = whole_file(alloc, &mut shelf, "go");
+    }
+    match check(alloc, &drawing, certificate) {
+        Ok(Verdict::Proved) => {
+            let _ = println!(rt; "proved");
+        }
+        Ok(Verdict::NotProved { rule, place }) => {
+            let _ = println!(rt; "rule {rule} at {place}");
+        }
+        Err(Memory) => {
+            let _ = println!(rt; "out of memory");
+        }
+    }
+}
+END
+{ echo; sh "$top/bench/whole_file.sh"; } >> "$bench/src/main.rt"
+cd "$bench"
+rt run > "$work/build.log" 2>&1 < /dev/null || { tail -40 "$work/build.log"; exit 1; }
+program="$bench/out/verify_bench"
+cd "$work"
+g++ -O2 -std=c++17 -o plain "$top/bench/plain_sweep.cpp"
+mkfifo held go
+
+make_certificate() {
+    if [ "$itfcheck" ]; then
+        "$itfcheck" check model transfer certificate > /dev/null
+    else
+        python3 "$top/bench/plain_certificate.py" "$work"
+    fi
+}
+
+# The resident memory in KiB of the program before `check`, and its peak from there on
+held_and_peak() {
+    python3 - "$program" <<'PY'
+import os, sys
+pid = os.fork()
+if pid == 0:
+    sink = os.open(os.devnull, os.O_WRONLY)
+    os.dup2(sink, 1)
+    os.execv(sys.argv[1], [sys.argv[1], "wait"])
+with open("held", "wb"):
+    pass
+with open("/proc/%d/status" % pid) as file:
+    held = next(line.split()[1] for line in file if line.startswith("VmRSS:"))
+# the peak begins anew
+with open("/proc/%d/clear_refs" % pid, "w") as file:
+    file.write("5")
+with open("go", "wb"):
+    pass
+_, status, usage = os.wait4(pid, 0)
+print(held, usage.ru_maxrss)
+PY
+}
+
+for drawing in 'grid 500' 'parcels 100000'; do
+    python3 "$top/bench/drawings.py" $drawing "$work"
+    straights=$(( $(stat -c %s straights) / 16 ))
+    make_certificate
+    "$program" | grep -qx proved
+    read -r own whole_peak <<< "$(measure 0 "$program")"
+    read -r own_read read_peak <<< "$(measure 0 "$program" read)"
+    read -r plain plain_peak <<< "$(measure 0 ./plain straights)"
+    read -r plain_read _ <<< "$(measure 0 ./plain straights read)"
+    read -r held peak <<< "$(held_and_peak)"
+    awk -v d="$drawing" -v n="$straights" -v a="$own" -v b="$own_read" -v c="$plain" -v e="$plain_read" \
+        -v w="$whole_peak" -v r="$read_peak" -v h="$held" -v m="$peak" -v p="$plain_peak" 'BEGIN {
+        printf "%s: %d straights\n", d, n
+        printf "CPU time of check: %.2f times the plain C++ sweep\n", (a - b) / (c - e)
+        printf "reading the numbers and the certificate: %.2f times the plain C++ sweep\n", b / (c - e)
+        printf "memory of check: %.0f bytes a straight above %.0f that are held before it (plain: %.0f)\n", (m - h) * 1024 / n, h * 1024 / n, p * 1024 / n
+        printf "peak of the whole run: %.0f bytes a straight, of reading alone: %.0f\n", w * 1024 / n, r * 1024 / n
+    }'
+done
+
+smaller=0
+for count in 50000 100000; do
+    python3 "$top/bench/drawings.py" strokes $count "$work"
+    make_certificate
+    "$program" | grep -qx proved
+    read -r own _ <<< "$(measure 0 "$program")"
+    read -r own_read _ <<< "$(measure 0 "$program" read)"
+    read -r plain _ <<< "$(measure 0 ./plain straights)"
+    read -r plain_read _ <<< "$(measure 0 ./plain straights read)"
+    awk -v n="$count" -v a="$(( own - own_read ))" -v c="$(( plain - plain_read ))" -v s="$smaller" 'BEGIN {
+        printf "strokes %d: CPU time of check %.2f times the plain C++ sweep\n", n, a / c
+        if (s) printf "strokes: twice as many take %.1f times as long\n", a / s
+    }'
+    smaller=$(( own - own_read ))
+done
