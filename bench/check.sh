@@ -1,0 +1,108 @@
+#!/usr/bin/env bash
+# Runs `check` and `verify` of the built program on deliveries of one area: a grid of 500 by 500
+# squares (501,000 straights), one of 250 by 250, and parcels (900,600 straights). Beside them runs
+# (a) a plain C program that parses the same numbers from the transfer and (b) a plain C++ sweep
+# over the straights, whose own reading of binary numbers is taken away. Neither proves anything,
+# names an object or writes a certificate. Then it runs on level strokes that are all live at once,
+# at two sizes. Prints ratios, no absolute times.
+#
+# usage: bench/check.sh [ITFCHECK]      (crates/itfcheck/out/itfcheck where none is given)
+set -euo pipefail
+top=$(cd "$(dirname "${BASH_SOURCE[0]}")/.." && pwd)
+itfcheck=$(realpath "${1:-$top/crates/itfcheck/out/itfcheck}")
+. "$top/bench/measure.sh"
+work=$(mktemp -d)
+trap 'rm -rf "$work"' EXIT
+cd "$work"
+
+cat > parse.c <<'C'
+/* Reads a transfer whole and parses the coordinates of its vertices and objects, in thousandths. */
+#include <stdint.h>
+#include <stdio.h>
+#include <stdlib.h>
+#include <string.h>
+static const char *number(const char *at, int64_t *value) {
+    while (*at == ' ') at++;
+    for (*value = 0; *at != ' ' && *at != '\n'; at++)
+        if (*at != '.') *value = *value * 10 + (*at - '0');
+    return at;
+}
+int main(int argc, char **argv) {
+    FILE *file = fopen(argv[1], "rb");
+    if (!file) return 2;
+    fseek(file, 0, SEEK_END);
+    size_t size = ftell(file);
+    rewind(file);
+    char *text = malloc(size + 1);
+    if (fread(text, 1, size, file) != size) return 2;
+    text[size] = 0;
+    struct { int64_t ax, ay, bx, by; } *straights = NULL;
+    size_t count = 0, room = 0, points = 0;
+    int64_t x = 0, y = 0, sum = 0;
+    int lines = 1;
+    for (const char *at = text; *at;) {
+        if (!memcmp(at, "STPT ", 5)) {
+            at = number(number(at + 5, &x), &y);
+        } else if (!memcmp(at, "LIPT ", 5)) {
+            if (count == room) {
+                room = room ? 2 * room : 1024;
+                straights = realloc(straights, room * sizeof *straights);
+            }
+            straights[count].ax = x;
+            straights[count].ay = y;
+            at = number(number(at + 5, &x), &y);
+            straights[count].bx = x;
+            straights[count++].by = y;
+        } else if (!memcmp(at, "ETAB", 4)) {
+            lines = 0;
+        } else if (!lines && !memcmp(at, "OBJE ", 5)) {
+            int64_t name, px, py;
+            at = number(number(number(at + 5, &name), &px), &py);
+            sum += px + py;
+            points++;
+        }
+        while (*at != '\n') at++;
+        at++;
+    }
+    for (size_t i = 0; i < count; i++) sum += straights[i].ax + straights[i].by;
+    printf("%zu straights, %zu points, sum %lld\n", count, points, (long long)sum);
+    return 0;
+}
+C
+cc -O2 -o parse parse.c
+g++ -O2 -std=c++17 -o sweep "$top/bench/plain_sweep.cpp"
+
+small=0
+for drawing in 'grid 250' 'grid 500' 'parcels 100000'; do
+    python3 "$top/bench/drawings.py" $drawing "$work"
+    straights=$(( $(stat -c %s straights) / 16 ))
+    ./parse transfer | grep -q "^$straights straights, $(( $(stat -c %s points) / 8 )) points,"
+    read -r check check_peak <<< "$(measure 0 "$itfcheck" check model transfer certificate)"
+    read -r verify verify_peak <<< "$(measure 0 "$itfcheck" verify model transfer certificate)"
+    read -r parse parse_peak <<< "$(measure 0 ./parse transfer)"
+    read -r sweep sweep_peak <<< "$(measure 0 ./sweep straights)"
+    read -r sweep_read _ <<< "$(measure 0 ./sweep straights read)"
+    awk -v d="$drawing" -v n="$straights" -v c="$check" -v v="$verify" -v p="$parse" -v s="$(( sweep - sweep_read ))" \
+        -v cm="$check_peak" -v vm="$verify_peak" -v pm="$parse_peak" -v sm="$sweep_peak" \
+        -v t="$(stat -c %s transfer)" -v f="$(stat -c %s certificate)" -v small="$small" 'BEGIN {
+        printf "%s: %d straights, transfer %.0f MB, certificate %.0f MB\n", d, n, t / 1e6, f / 1e6
+        printf "CPU time of check: %.1f times the parse, %.2f times the sweep, %.2f times both together\n", c / p, c / s, c / (p + s)
+        printf "CPU time of verify: %.1f times the parse, %.2f times the sweep, %.2f times both together, %.2f times check\n", v / p, v / s, v / (p + s), v / c
+        printf "peak memory of check: %.1f times the transfer, %.0f bytes a straight (parse: %.0f, sweep: %.0f)\n", cm * 1024 / t, cm * 1024 / n, pm * 1024 / n, sm * 1024 / n
+        printf "peak memory of verify: %.1f times the transfer, %.0f bytes a straight\n", vm * 1024 / t, vm * 1024 / n
+        if (d == "grid 500") printf "CPU time of check: %.2f times that of grid 250\n", c / small
+    }'
+    small=$check
+done
+
+smaller=0
+for count in 50000 100000; do
+    python3 "$top/bench/drawings.py" strokes $count "$work"
+    read -r check _ <<< "$(measure 0 "$itfcheck" check model transfer certificate)"
+    read -r verify _ <<< "$(measure 0 "$itfcheck" verify model transfer certificate)"
+    awk -v n="$count" -v c="$check" -v v="$verify" -v s="$smaller" -v t="${smaller_verify:-0}" 'BEGIN {
+        if (s) printf "strokes: twice as many, %d, take check %.1f times as long, verify %.1f times\n", n, c / s, v / t
+    }'
+    smaller=$check
+    smaller_verify=$verify
+done
