@@ -4,7 +4,7 @@
 # (a) a plain C program that parses the same numbers from the transfer and (b) a plain C++ sweep
 # over the straights, whose own reading of binary numbers is taken away. Neither proves anything,
 # names an object or writes a certificate. Then it runs on level strokes that are all live at once,
-# at two sizes. Prints ratios, no absolute times.
+# at two sizes. The programs run in turn, the best of five counts. Prints ratios, no absolute times.
 #
 # usage: bench/check.sh [ITFCHECK]      (crates/itfcheck/out/itfcheck where none is given)
 set -euo pipefail
@@ -72,16 +72,15 @@ C
 cc -O2 -o parse parse.c
 g++ -O2 -std=c++17 -o sweep "$top/bench/plain_sweep.cpp"
 
+files='model transfer certificate'
 small=0
 for drawing in 'grid 250' 'grid 500' 'parcels 100000'; do
     python3 "$top/bench/drawings.py" $drawing "$work"
     straights=$(( $(stat -c %s straights) / 16 ))
     ./parse transfer | grep -q "^$straights straights, $(( $(stat -c %s points) / 8 )) points,"
-    read -r check check_peak <<< "$(measure 0 "$itfcheck" check model transfer certificate)"
-    read -r verify verify_peak <<< "$(measure 0 "$itfcheck" verify model transfer certificate)"
-    read -r parse parse_peak <<< "$(measure 0 ./parse transfer)"
-    read -r sweep sweep_peak <<< "$(measure 0 ./sweep straights)"
-    read -r sweep_read _ <<< "$(measure 0 ./sweep straights read)"
+    "$itfcheck" check $files > /dev/null
+    read -r check check_peak verify verify_peak parse parse_peak sweep sweep_peak sweep_read _ <<< "$(measure_in_turn \
+        "$itfcheck check $files" "$itfcheck verify $files" './parse transfer' './sweep straights' './sweep straights read')"
     awk -v d="$drawing" -v n="$straights" -v c="$check" -v v="$verify" -v p="$parse" -v s="$(( sweep - sweep_read ))" \
         -v cm="$check_peak" -v vm="$verify_peak" -v pm="$parse_peak" -v sm="$sweep_peak" \
         -v t="$(stat -c %s transfer)" -v f="$(stat -c %s certificate)" -v small="$small" 'BEGIN {
@@ -96,10 +95,10 @@ for drawing in 'grid 250' 'grid 500' 'parcels 100000'; do
 done
 
 smaller=0
-for count in 50000 100000; do
+for count in 100000 200000; do
     python3 "$top/bench/drawings.py" strokes $count "$work"
-    read -r check _ <<< "$(measure 0 "$itfcheck" check model transfer certificate)"
-    read -r verify _ <<< "$(measure 0 "$itfcheck" verify model transfer certificate)"
+    "$itfcheck" check $files > /dev/null
+    read -r check _ verify _ <<< "$(measure_in_turn "$itfcheck check $files" "$itfcheck verify $files")"
     awk -v n="$count" -v c="$check" -v v="$verify" -v s="$smaller" -v t="${smaller_verify:-0}" 'BEGIN {
         if (s) printf "strokes: twice as many, %d, take check %.1f times as long, verify %.1f times\n", n, c / s, v / t
     }'

@@ -196,10 +196,8 @@ for drawing in 'grid 500' 'parcels 100000'; do
     straights=$(( $(stat -c %s straights) / 16 ))
     make_certificate
     "$program" | grep -qx proved
-    read -r own whole_peak <<< "$(measure 0 "$program")"
-    read -r own_read read_peak <<< "$(measure 0 "$program" read)"
-    read -r plain plain_peak <<< "$(measure 0 ./plain straights)"
-    read -r plain_read _ <<< "$(measure 0 ./plain straights read)"
+    read -r own whole_peak own_read read_peak plain plain_peak plain_read _ <<< "$(measure_in_turn \
+        "$program" "$program read" './plain straights' './plain straights read')"
     read -r held peak <<< "$(held_and_peak)"
     awk -v d="$drawing" -v n="$straights" -v a="$own" -v b="$own_read" -v c="$plain" -v e="$plain_read" \
         -v w="$whole_peak" -v r="$read_peak" -v h="$held" -v m="$peak" -v p="$plain_peak" 'BEGIN {
@@ -212,14 +210,12 @@ for drawing in 'grid 500' 'parcels 100000'; do
 done
 
 smaller=0
-for count in 50000 100000; do
+for count in 100000 200000; do
     python3 "$top/bench/drawings.py" strokes $count "$work"
     make_certificate
     "$program" | grep -qx proved
-    read -r own _ <<< "$(measure 0 "$program")"
-    read -r own_read _ <<< "$(measure 0 "$program" read)"
-    read -r plain _ <<< "$(measure 0 ./plain straights)"
-    read -r plain_read _ <<< "$(measure 0 ./plain straights read)"
+    read -r own _ own_read _ plain _ plain_read _ <<< "$(measure_in_turn \
+        "$program" "$program read" './plain straights' './plain straights read')"
     awk -v n="$count" -v a="$(( own - own_read ))" -v c="$(( plain - plain_read ))" -v s="$smaller" 'BEGIN {
         printf "strokes %d: CPU time of check %.2f times the plain C++ sweep\n", n, a / c
         if (s) printf "strokes: twice as many take %.1f times as long\n", a / s
