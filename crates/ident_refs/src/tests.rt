@@ -139,15 +139,18 @@ const CASES: [Case; 22] = [
     ),
     ("TABL Tree\nOBJE 1 @ 1 @\nOBJE 2 @ 1 @\n", ""),
     (
-        "TABL Way\nOBJE 1 5\nSTPT 1 1 1\nLIPT 2 2 2\nELIN\nOBJE 2 5.0\nSTPT 1.0 1 1\nLIPT 2 2 2\nELIN\n",
+        "TABL Way\nOBJE 1 5\nSTPT 1 1 1\nLIPT 2 2 2\nELIN\nOBJE 2 5.0\nSTPT 1.0 1 1\n\
+            LIPT 2 2 2\nELIN\n",
         "11 2 Ident 7\n",
     ),
     (
-        "TABL Way\nOBJE 1 5\nSTPT 1 1 1\nLIPT 2 2 2\nELIN\nOBJE 2 5\nSTPT 1 1 1\nLIPT 2 2 3\nELIN\n",
+        "TABL Way\nOBJE 1 5\nSTPT 1 1 1\nLIPT 2 2 2\nELIN\nOBJE 2 5\nSTPT 1 1 1\nLIPT 2 2 3\n\
+            ELIN\n",
         "",
     ),
     (
-        "TABL Way\nOBJE 1 5\nSTPT 1 1 1\nARCP 2 2 2\nLIPT 3 1 3\nELIN\nOBJE 2 5\nSTPT 1 1 1\nLIPT 2 2 2\nLIPT 3 1 3\nELIN\n",
+        "TABL Way\nOBJE 1 5\nSTPT 1 1 1\nARCP 2 2 2\nLIPT 3 1 3\nELIN\nOBJE 2 5\nSTPT 1 1 1\n\
+            LIPT 2 2 2\nLIPT 3 1 3\nELIN\n",
         "",
     ),
     (
