@@ -104,7 +104,7 @@ impl TransferFeed {
         // Whatever follows these lines: the answer is that from here on.
         ensures lines { OnOk result ((more : List LogicalLine) (end : LineEnd)
             → read_from (form_of (layout_view layout.now)) self.old
-                (lines_seen lines.items ++ more) end
+            (lines_seen lines.items ++ more) end
             ≡ read_from (form_of (layout_view layout.now)) self.new more end) }
         // The only error is out of memory, after which each call has it.
         ensures sound { OnOk result ((self.old.failed ≡ false) × (self.new.failed ≡ false)) }
