@@ -2,7 +2,11 @@ pub mod Counting
 pub mod Cuts
 pub mod Digits
 pub mod Laws
+pub mod OneSpelling
 pub mod Parts
+pub mod Places
 pub mod Signs
 pub mod Spellings
 pub mod WholeNumbers
+pub mod Written
+pub mod WrittenParts

@@ -1,4 +1,4 @@
-//! Numbers with a point, read as whole numbers at a scale.
+//! Numbers with a point, read as whole numbers at a scale, and written from them.
 //!
 //! A text becomes a count of units of its last decimal: at scale 2 `12.5` is 1250. A domain's
 //! scale is the greatest number of decimals among its bounds; all values of the domain are read
@@ -14,22 +14,31 @@
 //!   `12345678901234567.89` is `MoreDecimals` and not `TooLong`.
 //! - **Degenerate cases**: `-0` is 0, `007` is 7, `5` at scale 2 is 500; a text without bytes, a
 //!   sign alone, `.5` and `5.` are no numbers. A text may have any length.
-//! - **Not here**: bounds of a domain, the mark of an undefined value, writing numbers.
+//! - **What is written**: the value with exactly as many decimals as the scale has, `-` only before
+//!   a value below 0, no zero before another whole digit, and no point at scale 0. At scale 2 -5 is
+//!   `-0.05`. Reading it gives the value back.
+//! - **Not here**: bounds of a domain, the mark of an undefined value.
 //!
-//! `read_scaled` takes time linear in the text and no memory.
+//! `read_scaled` takes time linear in the text, `write_scaled` in the scale; both take no memory.
 //!
-//! The layers above may use the clauses of `read_scaled`; the function `scaled_of`, which is its
-//! answer for given bytes, in definitions of their own; and the laws in `proofs`: what a text
-//! spells is unique (`Spellings`), answer and cause belong together (`Laws`), and what is left of
-//! it for a text without a point at scale 0 (`WholeNumbers`).
+//! The layers above may use the clauses of `read_scaled` and `write_scaled`; the functions
+//! `scaled_of` and `spelling_of`, which are their answers, in definitions of their own; the laws
+//! `written_reads_back` and `one_spelling`; and the laws in `proofs`: what a text spells is unique
+//! (`Spellings`), answer and cause belong together (`Laws`), and what is left of it for a text
+//! without a point at scale 0 (`WholeNumbers`).
 #![tactic(auto)]
 
-ghost use Rattle.std.specs.Prelude.{◌≡◌, ◌≤◌, ◌<◌, IfOk, ℤ, pos, neg_ℤ, Ok, Err, if◌then◌else◌, ◌^◌, ◌↔◌, ◌==◌, IsTrue, position};
+ghost use Rattle.std.specs.Prelude.{◌≡◌, ◌≤◌, ◌<◌, ◌^◌, ◌↔◌, ◌==◌, ℤ, pos, neg_ℤ, Ok, Err, IfOk};
+ghost use Rattle.std.specs.Prelude.{if◌then◌else◌, IsTrue, position};
 ghost use Rattle.decimals.specs.Counted.{counted, parts_of, settled};
 ghost use Rattle.decimals.specs.Numerals.{minus, sign_of, after_sign};
-ghost use Rattle.decimals.specs.Scaled.{unsigned_of, scaled_of, HasValue, SpellsNone, IsTooLong, HasMoreDecimals};
+ghost use Rattle.decimals.specs.Scaled.{unsigned_of, scaled_of};
+ghost use Rattle.decimals.specs.Scaled.{HasValue, SpellsNone, IsTooLong, HasMoreDecimals};
+
+mod writing;
 
 use thiserror::Error;
+pub use writing::{one_spelling, write_scaled, written_reads_back};
 
 /// Why a text has no value at a scale. Where several are true the first is told.
 #[derive(Debug, Clone, Copy, PartialEq, Eq, Error)]
@@ -59,7 +68,8 @@ pub fn read_scaled(bytes: &[u8], scale: u8) -> Result<i64, DecimalFault>
     // It is each fault exactly where that is the first one.
     ensures not_number { (result ≡ Err DecimalFault.NotNumber) ↔ SpellsNone bytes.now }
     ensures too_long { (result ≡ Err DecimalFault.TooLong) ↔ IsTooLong bytes.now scale }
-    ensures more_decimals { (result ≡ Err DecimalFault.MoreDecimals) ↔ HasMoreDecimals bytes.now scale }
+    ensures more_decimals { (result ≡ Err DecimalFault.MoreDecimals)
+        ↔ HasMoreDecimals bytes.now scale }
 {
     let (negative, unsigned) = split_sign(bytes);
     let magnitude = read_unsigned(unsigned, scale)?;

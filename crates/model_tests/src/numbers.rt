@@ -1,6 +1,6 @@
 // Numbers with a point.
 use decimals::DecimalFault::{MoreDecimals, NotNumber, TooLong};
-use decimals::{DecimalFault, read_scaled};
+use decimals::{DecimalFault, read_scaled, write_scaled};
 
 const NINES: i64 = 999_999_999_999_999_999;
 
@@ -81,5 +81,45 @@ fn a_text_of_any_length_is_read(rt: HostRuntime) {
         }
         text.push(b'7').expect(&rt, "memory");
         assert_eq!(rt; read_scaled(&text, 0), want);
+    }
+}
+
+// A value, a scale, and its text with as many decimals.
+const WRITTEN: [(i64, u8, &str); 22] = [
+    (0, 0, "0"),
+    (0, 1, "0.0"),
+    (0, 9, "0.000000000"),
+    (1, 0, "1"),
+    (1, 1, "0.1"),
+    (1, 9, "0.000000001"),
+    (-1, 0, "-1"),
+    (-1, 1, "-0.1"),
+    (-1, 9, "-0.000000001"),
+    (7, 3, "0.007"),
+    (-40, 2, "-0.40"),
+    (999, 3, "0.999"),
+    (1000, 3, "1.000"),
+    (-1005, 3, "-1.005"),
+    (10_000, 3, "10.000"),
+    (2_600_020_000, 3, "2600020.000"),
+    (NINES, 0, "999999999999999999"),
+    (NINES, 1, "99999999999999999.9"),
+    (NINES, 9, "999999999.999999999"),
+    (-NINES, 0, "-999999999999999999"),
+    (-NINES, 1, "-99999999999999999.9"),
+    (-NINES, 9, "-999999999.999999999"),
+];
+
+#[test]
+fn a_value_is_written_with_its_decimals_and_read_back(rt: HostRuntime) {
+    for (value, scale, want) in &WRITTEN {
+        assert!(rt; value.unsigned_abs() < 1_000_000_000_000_000_000, "18 digits");
+        assert!(rt; *scale <= 9, "a scale");
+        let mut into = [b'#'; 24];
+        let length = write_scaled(*value, *scale, &mut into);
+        assert!(rt; length <= into.len(), "a length");
+        assert_eq!(rt; &into[..length], want.as_bytes(), "{value} at {scale}");
+        assert!(rt; into[length..].iter().all(|byte| *byte == b'#'), "behind {want}");
+        assert_eq!(rt; read_scaled(&into[..length], *scale), Ok(*value), "{want}");
     }
 }
