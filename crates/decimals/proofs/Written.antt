@@ -1,19 +1,18 @@
 -- What is written spells the value.
-use Rattle.std.proofs.Common.{◌≡◌, ℕ, zero, suc, ◌-◌, ◌/◌, ◌%◌, ◌^◌, ◌<◌, ◌≤◌, true, false, eqb, List, length, take, replicate, decimal, Option, Some, Ok, ℤ, pos, negsuc, unsigned_abs, refl, sym, subst, ◌∙◌, arith, rules, length-append}
+use Rattle.std.proofs.Common.{◌≡◌, ℕ, zero, suc, ◌-◌, ◌/◌, ◌%◌, ◌^◌, ◌<◌, ◌≤◌, true, List, length, take, replicate, decimal, Option, Some, Ok, ℤ, pos, negsuc, unsigned_abs, refl, sym, subst, ◌∙◌, arith, rules, length-append}
 use Rattle.std.proofs.lemmas.List.{length-replicate, take_all, drop_all}
 use Rattle.std.proofs.lemmas.Fmt.{digits_decimal, digits_value-decimal, decimal_nonempty}
 use Rattle.std.proofs.lemmas.Str.Parse.{IsNumeralModel, numerals_by_weight, tells_all_ascii_digits}
 use Rattle.std.proofs.lemmas.Nat.{div-add-mod'}
 use Rattle.std.proofs.Math.Nat.{div-le_self, mod-le, mod-lt}
 use borrow.Author.Tests.{lt-ltb}
-use Rattle.std.proofs.lemmas.Bool.Decides.{nat_tests}
 use Rattle.std.specs.Str.{all_ascii_digits}
 use Rattle.decimals.specs.Numerals.{number, is_digits, has_decimals}
 use Rattle.decimals.specs.Scaled.{decimals_in, magnitude, magnitude_of, is_exact, with_sign, scaled_of, HasValue}
 use Rattle.decimals.specs.Written.{written_sign, padded, written_point, numeral_of, spelling_of}
 use Rattle.decimals.proofs.Digits.{number-append, digits-append}
 use Rattle.decimals.proofs.Laws.{value_decides}
-use Rattle.decimals.proofs.WrittenParts.{power_positive, decimals_short}
+use Rattle.decimals.proofs.WrittenParts.{power_positive, decimals_short, not_none}
 
 pub own : IsNumeralModel (λ ds. all_ascii_digits ds ≡ true) number
 own = numerals_by_weight _ tells_all_ascii_digits number (search rules)
@@ -68,9 +67,6 @@ pub record Writes (scale n : ℕ) (point : Option (List ℕ)) : Type 0 where
   digits : has_decimals point ≡ true
   pub count : length (decimals_in point) ≡ scale
   value : number (decimals_in point) ≡ n
-
-not_none : (k : ℕ) → eqb (suc k) 0 ≡ false
-not_none k = grind (arith, nat_tests)
 
 pub some_point : (k n : ℕ) → written_point (suc k) n ≡ Some (padded (suc k) n)
 some_point k n = rw (not_none k) refl

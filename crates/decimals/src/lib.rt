@@ -23,9 +23,9 @@
 //!
 //! The layers above may use the clauses of `read_scaled` and `write_scaled`; the functions
 //! `scaled_of` and `spelling_of`, which are their answers, in definitions of their own; the laws
-//! `written_reads_back` and `one_spelling`; and the laws in `proofs`: what a text spells is unique
-//! (`Spellings`), answer and cause belong together (`Laws`), and what is left of it for a text
-//! without a point at scale 0 (`WholeNumbers`).
+//! `written_reads_back`, `one_spelling` and `written_is_short`; and the laws in `proofs`: what a
+//! text spells is unique (`Spellings`), answer and cause belong together (`Laws`), and what is left
+//! of it for a text without a point at scale 0 (`WholeNumbers`).
 #![tactic(auto)]
 
 ghost use Rattle.std.specs.Prelude.{◌≡◌, ◌≤◌, ◌<◌, ◌^◌, ◌↔◌, ◌==◌, ℤ, pos, neg_ℤ, Ok, Err, IfOk};
@@ -38,7 +38,7 @@ ghost use Rattle.decimals.specs.Scaled.{HasValue, SpellsNone, IsTooLong, HasMore
 mod writing;
 
 use thiserror::Error;
-pub use writing::{one_spelling, write_scaled, written_reads_back};
+pub use writing::{one_spelling, write_scaled, written_is_short, written_reads_back};
 
 /// Why a text has no value at a scale. Where several are true the first is told.
 #[derive(Debug, Clone, Copy, PartialEq, Eq, Error)]

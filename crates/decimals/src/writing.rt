@@ -78,3 +78,9 @@ pub fn one_spelling()
         → magnitude_of scale n < 10 ^ 18 → IsInForm scale n
         → bytes ≡ spelling_of (with_sign n.sign (magnitude_of scale n)) scale }
 {}
+
+/// What is written has at most 20 bytes.
+pub fn written_is_short()
+    ensures { (value : ℤ) (scale : ℕ) → unsigned_abs value < 10 ^ 18 → scale ≤ 9
+        → length (spelling_of value scale) ≤ 20 }
+{}
