@@ -1,5 +1,5 @@
 // Laws of the lines of a text.
-ghost use Rattle.std.specs.Prelude.{◌≡◌, ◌++◌, [], List, ℕ};
+ghost use Rattle.std.specs.Prelude.{◌≡◌, ◌≤◌, ◌++◌, [], List, ℕ, length};
 ghost use Rattle.itf_lines.specs.LogicalLines.{LogicalLine, logical};
 ghost use Rattle.itf_lines.specs.FeedStates.{FeedState, opening};
 ghost use Rattle.itf_lines.specs.Feeds.{Reads, lines_from_state};
@@ -12,7 +12,8 @@ pub fn from_the_opening()
 {}
 
 /// The numbers of logical lines rise from 1 on, and none is greater than the number of physical
-/// lines; also where the first lines came from one piece and the others from later ones.
+/// lines; also where the first lines came from one piece and the others from later ones. There are
+/// at most as many physical lines as bytes.
 pub fn numbers_rise()
     ensures rise { (code : ℕ) (text : List ℕ) → Rise 0 (logical code text).lines }
     ensures within { (code : ℕ) (text : List ℕ)
@@ -26,4 +27,5 @@ pub fn numbers_rise()
         → Reads (opening code) text lines feed []
         → AreAtMost (lines_from_state feed more).total
         (lines ++ (lines_from_state feed more).lines) }
+    ensures few { (code : ℕ) (text : List ℕ) → (logical code text).total ≤ length text }
 {}
