@@ -1,16 +1,19 @@
 -- What is kept of all tables, row by row, and what is found in it.
-use Rattle.std.proofs.Common.{◌≡◌, ℕ, zero, suc, ◌+◌, ◌<◌, Bool, true, false, cond, nat_eq, List, [], ◌∷◌, ◌++◌, map, Option, refl, sym, ap, ◌∙◌, arith, append_assoc, append-nil}
+use Rattle.std.proofs.Common.{◌≡◌, ℕ, zero, suc, ◌+◌, ◌<◌, Bool, true, false, cond, nat_eq, List, [], ◌∷◌, ◌++◌, length, map, get_or, Option, refl, sym, ap, ◌∙◌, arith, append_assoc, append-nil}
 use Rattle.std.specs.List.{flat_map}
-use Rattle.std.proofs.lemmas.List.{map-append}
+use Rattle.std.specs.Prelude.{slice_index_or}
+use Rattle.std.proofs.lemmas.List.{length-map, map-append}
 use Rattle.std.proofs.lemmas.Bool.{eqb-true}
 use Rattle.ili_grammar.specs.Syntax.{Codes}
 use Rattle.table_layout.specs.Layouts.{Table, Layout}
 use Rattle.itf_reader.specs.Findings.{Finding}
 use Rattle.itf_reader.specs.Forms.{Row}
-use Rattle.itf_reader.specs.ClosedRows.{of_table, by_table_from}
-use Rattle.itf_reader.specs.Layouts.{wanted_of}
+use Rattle.itf_reader.specs.ClosedRows.{of_table, by_table, by_table_from}
+use Rattle.itf_reader.specs.Layouts.{form_of, wanted_of}
 use Rattle.ident_refs.specs.FedRows.{row_at, fed_rows, fed_tables, numbered, all_rows, fed_keys}
-use Rattle.ident_refs.specs.KeptRows.{id_key, list_key, row_line, row_refs, Ref, KeptList, Kept, kept, kept_list, kept_lists, kept_from, kept_rows, no_rows, with_key, with_row, list_findings, ref_findings, table_told, all_ids, all_told}
+use Rattle.ident_refs.specs.KeptRows.{id_key, list_key, row_line, row_refs, Ref, KeptList, Kept, kept, kept_list, kept_lists, kept_from, kept_rows, no_rows, with_key, with_row, list_findings, ref_findings, table_told, all_ids, all_lines, all_told}
+use Rattle.ident_refs.specs.declared.table_keys.TableKeys.{TableKeys}
+use Rattle.ident_refs.specs.KeptViews.{kept_in}
 use Rattle.ident_refs.specs.KeyFindings.{tid_findings, ident_findings, table_keys, tables_keys}
 use Rattle.ident_refs.proofs.KeptKeys.{tids_told, idents_told}
 use Rattle.ident_refs.proofs.KeptRefs.{flat_map_more, ids_by, refs_told}
@@ -130,3 +133,18 @@ all_found l rows =
 
 pub found_in : (l : Layout) (rows : List (ℕ × Row)) (ks : List Kept) (old new : List Finding) → ks ≡ kept_rows l rows → new ≡ old ++ all_told ks → new ≡ old ++ fed_keys l rows
 found_in l rows ks old new h n = n ∙ ap (λ (k : List Kept). old ++ all_told k) h ∙ ap (λ (fs : List Finding). old ++ fs) (all_found l rows)
+
+-- ---- how many rows a table has
+counted_from : (codes : Codes) (n place : ℕ) (ts : List Table) (rows : List (ℕ × Row)) → length (slice_index_or (all_lines (kept_from codes n ts rows)) place []) ≡ length (slice_index_or (by_table_from n (map wanted_of ts) rows) place [])
+counted_from codes n place [] rows = refl
+counted_from codes n zero (t ∷ ts) rows = length-map (of_table n rows) row_line
+counted_from codes n (suc place) (t ∷ ts) rows = counted_from codes (n + 1) place ts rows
+
+pub rows_counted : (l : Layout) (rows : List (ℕ × Row)) (place : ℕ) (ks : List Kept) (lines : List ℕ) → ks ≡ kept_rows l rows → lines ≡ slice_index_or (all_lines ks) place [] → length lines ≡ length (slice_index_or (by_table (form_of l) rows) place [])
+rows_counted l rows place ks lines h e =
+    ap (λ (ns : List ℕ). length ns) (e ∙ ap (λ (k : List Kept). slice_index_or (all_lines k) place []) h) ∙ counted_from l.codes 0 place l.tables rows
+
+pub lines_there : (tables : List TableKeys) (place : ℕ) (t : TableKeys) → place < length tables → t ≡ get_or tables place t → t.lines.items ≡ slice_index_or (all_lines (kept_in tables)) place []
+lines_there [] place t lt e = absurd (omega (arith, lt))
+lines_there (y ∷ tables) zero t lt e = ap (λ (k : TableKeys). k.lines.items) e
+lines_there (y ∷ tables) (suc place) t lt e = lines_there tables place t (omega (arith, lt)) e

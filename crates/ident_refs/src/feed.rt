@@ -1,13 +1,16 @@
 // The keys and references of a transfer whose rows come one after another.
 ghost use Rattle.std.specs.Prelude.{◌≡◌, ◌≤◌, ◌++◌, ◌∷◌, ℕ, List, [], length, map, IfOk, OnOk};
+ghost use Rattle.std.specs.Prelude.{slice_index_or};
 ghost use Rattle.std.specs.List.{All};
 ghost use Rattle.ili_grammar.specs.Values.{codes_of};
 ghost use Rattle.table_layout.specs.Layouts.{Layout as GivenLayout};
 ghost use Rattle.table_layout.specs.Valid.{IsValid};
 ghost use Rattle.table_layout.specs.Values.{layout_view, tables_view};
+ghost use Rattle.itf_reader.specs.ClosedRows.{by_table};
 ghost use Rattle.itf_reader.specs.Few.{HasFew};
 ghost use Rattle.itf_reader.specs.Findings.{findings_of};
 ghost use Rattle.itf_reader.specs.Forms.{Row as GivenRow};
+ghost use Rattle.itf_reader.specs.Layouts.{form_of};
 ghost use Rattle.itf_reader.specs.Views.{row_of, rows_of, tables_seen};
 ghost use Rattle.ident_refs.specs.FedRows.{HasPlaces, fed_keys, fed_rows, fed_tables, row_at};
 ghost use Rattle.ident_refs.specs.KeptRows.{all_ids, all_lines, all_told, no_rows};
@@ -69,6 +72,16 @@ fn add_rows(tables: &mut [TableKeys], place: usize, rows: &[Row]) -> Result<(), 
     Ok(())
 }
 
+// The lines of the rows of the table at that place, none where there is no such table.
+fn lines_at<'a>(tables: &'a [TableKeys], place: usize) -> &'a [u32]
+    ensures { result.now ≡ slice_index_or (all_lines (kept_in tables.now)) place [] }
+{
+    match tables.get(place) {
+        Some(table) => &table.lines,
+        None => &[],
+    }
+}
+
 // The identifications of each table in order.
 fn id_columns<'a>(alloc: Global, tables: &'a [TableKeys<'a>]) -> Result<Vec<KeyColumn<'a>>, Memory>
     ensures keys { IfOk result (λ columns. ids_in columns.items ≡ all_ids (kept_in tables.now)) }
@@ -118,6 +131,15 @@ impl<'a> KeyFeed<'a> {
     {
         add_at(&mut self.tables, table.0 as usize, row)?;
         Ok(())
+    }
+
+    /// How many rows of that table were added, none of a table that the layout lacks.
+    pub fn row_count(&self, table: TableId) -> usize
+        ensures { (l : GivenLayout) (rows : List (ℕ × GivenRow))
+            → HasRows l self.now rows
+            → result ≡ length (slice_index_or (by_table (form_of l) rows) table.0 []) }
+    {
+        lines_at(&self.tables, table.0 as usize).len()
     }
 
     /// Adds the rows of all tables, in the order of the layout, one after another.
