@@ -15,6 +15,8 @@ pub mod PointLemmas
 pub mod PutLemmas
 pub mod ReportLemmas
 pub mod Steps
+pub mod TrialLengths
+pub mod TrialSizes
 pub mod Verifications
 pub mod VerifyingLemmas
 pub mod Windows

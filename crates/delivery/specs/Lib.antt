@@ -27,5 +27,6 @@ pub mod Reading
 pub mod RefusalViews
 pub mod RowsRead
 pub mod Statuses
+pub mod TrialFiles
 pub mod VerificationViews
 pub mod Verifying

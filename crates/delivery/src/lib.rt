@@ -23,6 +23,9 @@
 //!   first write. A vertex at the place before it draws nothing, an arc over three places of one
 //!   straight draws straights, and an area may have no line and no point.
 //!
+//! `trial` has the words and the files of a trial, a large valid delivery that is made in memory;
+//! `run` does not serve it yet.
+//!
 //! `deciding` fixes the outcome: a status, the lines of the report, and the certificates where
 //! there are any to write. `report` has the lines and their text, and `publishing` writes. An
 //! outcome has one constructor in `outcome`, a line of the report one variant in `report`, an
@@ -54,6 +57,7 @@ mod report;
 mod rows;
 mod status;
 mod top;
+pub mod trial;
 mod verifying;
 mod word;
 
