@@ -8,4 +8,5 @@ mod filed;
 mod inputs;
 mod models;
 mod rows;
+mod trials;
 mod values;

@@ -1,0 +1,80 @@
+//! The files of a trial: the words that spell a size, the text of the smallest transfer, and what
+//! the program says of small ones.
+
+use super::inputs::report_on;
+use delivery::trial::{model_text, size_of, transfer_text};
+use std::alloc::Global;
+use std::process::Abort;
+use std::test::Fail;
+
+// A word, and the size that it spells.
+const SIZES: [(&str, Option<u32>); 15] = [
+    ("1", Some(1)),
+    ("9", Some(9)),
+    ("10", Some(10)),
+    ("499", Some(499)),
+    ("500", Some(500)),
+    ("", None),
+    ("0", None),
+    ("01", None),
+    ("+1", None),
+    ("-1", None),
+    ("1.0", None),
+    ("1 ", None),
+    ("501", None),
+    ("one", None),
+    ("18446744073709551617", None),
+];
+
+const SMALLEST: &str = "SCNT\n////\nMTID Trial\nMODL Trial\nTOPI Grid\nTABL Cell_Form\n\
+    OBJE 1\nSTPT 0.000 0.000\nLIPT 10.000 0.000\nELIN\n\
+    OBJE 2\nSTPT 0.000 10.000\nLIPT 10.000 10.000\nELIN\n\
+    OBJE 3\nSTPT 0.000 0.000\nLIPT 0.000 10.000\nELIN\n\
+    OBJE 4\nSTPT 10.000 0.000\nLIPT 10.000 10.000\nELIN\n\
+    ETAB\nTABL Cell\nOBJE 1 5.000 5.000\nETAB\nETOP\nEMOD\nENDE\n";
+
+// A size, and the report on its files.
+const REPORTS: [(u32, &str); 3] = [
+    (1, "AREA Grid Cell Form PROVED 0 4 1\nVERDICT ACCEPTED 5\n"),
+    (
+        2,
+        "AREA Grid Cell Form PROVED 0 12 4\nVERDICT ACCEPTED 16\n",
+    ),
+    (
+        3,
+        "AREA Grid Cell Form PROVED 0 24 9\nVERDICT ACCEPTED 33\n",
+    ),
+];
+
+#[test]
+fn a_size_is_a_number_from_1_to_500_without_a_zero_in_front(rt: HostRuntime) {
+    for (word, size) in &SIZES {
+        assert_eq!(rt; size_of(word), *size, "{word}");
+    }
+}
+
+#[test]
+fn the_smallest_transfer_has_four_straights_and_a_cell(rt: HostRuntime) -> Result<(), Fail> {
+    let text = transfer_text(rt.alloc(), 1)?;
+    assert_eq!(rt; text.as_slice(), SMALLEST.as_bytes());
+    Ok(())
+}
+
+fn reports(rt: &impl Abort, alloc: Global, size: u32, report: &str) -> Result<(), Fail> {
+    assert!(rt; size <= 500, "a size");
+    let model = model_text(alloc)?;
+    let transfer = transfer_text(alloc, size)?;
+    let model = std::str::from_utf8(&model).unwrap_or("");
+    let transfer = std::str::from_utf8(&transfer).unwrap_or("");
+    let got = report_on(alloc, model, transfer)?;
+    assert_eq!(rt; got.as_slice(), report.as_bytes(), "size {size}");
+    Ok(())
+}
+
+#[test]
+fn the_files_of_a_trial_are_accepted(rt: HostRuntime) -> Result<(), Fail> {
+    for (size, report) in &REPORTS {
+        reports(&rt, rt.alloc(), *size, report)?;
+    }
+    Ok(())
+}
