@@ -27,6 +27,7 @@ pub mod Reading
 pub mod RefusalViews
 pub mod RowsRead
 pub mod Statuses
+pub mod TrialCounts
 pub mod TrialFiles
 pub mod VerificationViews
 pub mod Verifying

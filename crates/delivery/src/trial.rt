@@ -12,9 +12,11 @@ ghost use Rattle.delivery.specs.TrialFiles.{corner as corner_of, middle as middl
 ghost use Rattle.delivery.specs.TrialFiles.{head, each, level, upright, cell};
 ghost use Rattle.delivery.specs.TrialFiles.{levels, uprights, cells};
 
+mod counts;
 mod objects;
 
 use crate::files::File;
+pub use counts::events_are_counted;
 use itoa::Buffer;
 use objects::{Place, Text};
 use ports::Memory;

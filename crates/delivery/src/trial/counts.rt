@@ -1,0 +1,14 @@
+// Laws of the numbers that a trial tells.
+ghost use Rattle.std.specs.Prelude.{◌≡◌, ℕ, length};
+ghost use Rattle.plane.specs.Rule.Plans.{Plan};
+ghost use Rattle.certificate_checker.specs.Subjects.{Claims};
+ghost use Rattle.certificate_checker.specs.Verdicts.{Proves};
+ghost use Rattle.delivery.specs.TrialCounts.{HasEvents};
+
+/// A drawing has one number of events, and a certificate that proves it has a position for each.
+pub fn events_are_counted()
+    ensures one { (d : Plan) (m n : ℕ) → HasEvents d m → HasEvents d n → m ≡ n }
+    ensures positions { (d : Plan) (c : Claims) → Proves d c → HasEvents d (length c.positions) }
+{
+    plane::moves::timetables();
+}
