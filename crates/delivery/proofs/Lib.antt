@@ -17,6 +17,7 @@ pub mod ReportLemmas
 pub mod Steps
 pub mod TrialLengths
 pub mod TrialSizes
+pub mod TrialWords
 pub mod Verifications
 pub mod VerifyingLemmas
 pub mod Windows

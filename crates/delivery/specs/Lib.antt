@@ -29,5 +29,6 @@ pub mod RowsRead
 pub mod Statuses
 pub mod TrialCounts
 pub mod TrialFiles
+pub mod TrialWords
 pub mod VerificationViews
 pub mod Verifying

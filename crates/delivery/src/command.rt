@@ -25,8 +25,8 @@ pub enum Command<'a> {
     Verify(FileNames<'a>),
 }
 
-// A name of a file is not empty and does not begin with a minus.
-fn is_file_name(name: &str) -> bool
+/// A name of a file is not empty and does not begin with a minus.
+pub fn is_file_name(name: &str) -> bool
     ensures { result ≡ is_file_name name.now }
 {
     match name.as_bytes() {

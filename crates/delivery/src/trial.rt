@@ -14,6 +14,7 @@ ghost use Rattle.delivery.specs.TrialFiles.{levels, uprights, cells};
 
 mod counts;
 mod objects;
+mod words;
 
 use crate::files::File;
 pub use counts::events_are_counted;
@@ -21,6 +22,7 @@ use itoa::Buffer;
 use objects::{Place, Text};
 use ports::Memory;
 use std::alloc::Global;
+pub use words::{TrialWords, one_trial, trial_of};
 
 const MODEL: &[u8] = b"TRANSFER Trial;\nDOMAIN\nKoord = COORD2 0.000 0.000 5000.000 5000.000;\n\
 MODEL Trial\nTOPIC Grid =\nTABLE Cell =\nForm: AREA WITH (STRAIGHTS) VERTEX Koord;\nNO IDENT\n\
