@@ -2,7 +2,8 @@
 //! the program says of small ones.
 
 use super::inputs::report_on;
-use delivery::trial::{model_text, size_of, transfer_text};
+use super::rows::words_of;
+use delivery::trial::{model_text, size_of, transfer_text, trial_of};
 use std::alloc::Global;
 use std::process::Abort;
 use std::test::Fail;
@@ -24,6 +25,19 @@ const SIZES: [(&str, Option<u32>); 15] = [
     ("501", None),
     ("one", None),
     ("18446744073709551617", None),
+];
+
+// Words, and the size and the name that they ask for.
+const WORDS: [(&[&str], Option<(u32, &str)>); 9] = [
+    (&["trial", "2", "C"], Some((2, "C"))),
+    (&["trial", "500", "trial"], Some((500, "trial"))),
+    (&["trial", "0", "C"], None),
+    (&["trial", "01", "C"], None),
+    (&["trial", "501", "C"], None),
+    (&["trial", "2", "-C"], None),
+    (&["trial", "2", ""], None),
+    (&["trial", "2"], None),
+    (&["check", "2", "C"], None),
 ];
 
 const SMALLEST: &str = "SCNT\n////\nMTID Trial\nMODL Trial\nTOPI Grid\nTABL Cell_Form\n\
@@ -51,6 +65,21 @@ fn a_size_is_a_number_from_1_to_500_without_a_zero_in_front(rt: HostRuntime) {
     for (word, size) in &SIZES {
         assert_eq!(rt; size_of(word), *size, "{word}");
     }
+}
+
+fn asks(rt: &impl Abort, alloc: Global, row: &(&[&str], Option<(u32, &str)>)) -> Result<(), Fail> {
+    let words = words_of(alloc, row.0)?;
+    let got = trial_of(&words).map(|trial| (trial.size, trial.certificate));
+    assert_eq!(rt; got, row.1);
+    Ok(())
+}
+
+#[test]
+fn words_ask_for_a_trial(rt: HostRuntime) -> Result<(), Fail> {
+    for row in &WORDS {
+        asks(&rt, rt.alloc(), row)?;
+    }
+    Ok(())
 }
 
 #[test]
