@@ -23,6 +23,8 @@ mod meetings_of_edges;
 #[cfg(test)]
 mod meshes;
 #[cfg(test)]
+mod near_boxes;
+#[cfg(test)]
 mod point_places;
 #[cfg(test)]
 mod small_edges;

@@ -1,0 +1,35 @@
+-- What tests of two whole numbers say.
+use Rattle.std.proofs.Common.{◌≡◌, Bool, true, false, not, ℤ, ◌<ℤ◌, ◌≤ℤ◌, int_lt, arith, refl, T, subst, sym}
+use Rattle.std.proofs.lemmas.Int.{ints}
+use Rattle.std.specs.Int.Signed.{lt_z_yes, lt_z_no}
+
+clash : {P : Type 0} → true ≡ false → P
+clash h = cc
+
+pub below_true : (a b : ℤ) → a <ℤ b → int_lt a b ≡ true
+below_true a b h = by (int_lt a b) refl
+  where
+    by : (t : Bool) → int_lt a b ≡ t → t ≡ true
+    by true e = refl
+    by false e = let n : b ≤ℤ a = lt_z_no (subst (λ (t : Bool). T (not t)) (sym e) tt) in absurd (omega (arith, ints, h, n))
+
+pub below_false : (a b : ℤ) → b ≤ℤ a → int_lt a b ≡ false
+below_false a b h = by (int_lt a b) refl
+  where
+    by : (t : Bool) → int_lt a b ≡ t → t ≡ false
+    by true e = let n : a <ℤ b = lt_z_yes (subst T (sym e) tt) in absurd (omega (arith, ints, h, n))
+    by false e = refl
+
+pub true_below : (a b : ℤ) → int_lt a b ≡ true → a <ℤ b
+true_below a b e = lt_z_yes (subst T (sym e) tt)
+
+pub false_below : (a b : ℤ) → int_lt a b ≡ false → b ≤ℤ a
+false_below a b e = lt_z_no (subst (λ (t : Bool). T (not t)) (sym e) tt)
+
+pub not_true : (t : Bool) → not t ≡ true → t ≡ false
+not_true true h = cc
+not_true false h = refl
+
+pub not_false : (t : Bool) → not t ≡ false → t ≡ true
+not_false true h = refl
+not_false false h = cc
