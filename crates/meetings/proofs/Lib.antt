@@ -1,1 +1,7 @@
+pub mod Choices
+pub mod OnStraights
+pub mod OnCircles
+pub mod ArcPairs
+pub mod Reaches
+pub mod CurveLists
 pub mod BadCurves

@@ -1,1 +1,4 @@
+pub mod CurveBoxes
+pub mod CurvePairs
+pub mod PlacedCurves
 pub mod StraightEdges

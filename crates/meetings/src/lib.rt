@@ -13,9 +13,16 @@
 //! Cost: that of a sweep over as many edges as there are curves, and 32 bytes for each of them.
 #![tactic(auto)]
 
+mod arcs;
+mod badness;
 mod edges;
 mod finding;
+mod placing;
+mod reaching;
 mod pairs;
 
+pub use arcs::arc_meeting;
 pub use finding::bad_meeting;
 pub use pairs::BadPair;
+pub use placing::is_on;
+pub use reaching::reach;

@@ -1,0 +1,83 @@
+// Bad pairs with a half arc.
+ghost use Rattle.std.specs.Prelude.{◌≡◌, ℕ, None, IfOk, IfSome, length};
+ghost use Rattle.plane.specs.Rule.Plans.{plan};
+ghost use Rattle.near_pairs.specs.LeastPairs.{IsLess};
+ghost use Rattle.meetings.specs.CurveBoxes.{AreMarksTo, AreReachesTo, IsEachPlaced};
+ghost use Rattle.meetings.specs.CurvePairs.{IsArcPair};
+
+use super::badness::are_arc_bad;
+use super::pairs::BadPair;
+use super::reaching::reach;
+use near_pairs::{PairTest, Reach, least};
+use plane::{Curve, CurveKind, Drawing};
+use ports::Memory;
+use std::alloc::Global;
+
+/// Curves, of which pairs are tested.
+#[derive(Drop)]
+struct ArcTest<'a> {
+    curves: &'a [Curve],
+}
+
+impl<'a> PairTest for ArcTest<'a> {
+    ghost use Rattle.std.specs.Prelude.{◌<◌, length};
+    ghost use Rattle.meetings.specs.CurvePairs.{AreArcBad};
+    ghost use Rattle.meetings.specs.PlacedCurves.{ArePlaced};
+    ghost use Rattle.meetings.specs.StraightEdges.{curve_of};
+
+    ghost can_test = { λ s i j. (i < length s.curves.now) × (j < length s.curves.now)
+        × ArePlaced (curve_of s.curves.now i) (curve_of s.curves.now j) };
+
+    ghost sought = { λ s i j. AreArcBad (curve_of s.curves.now i) (curve_of s.curves.now j) };
+
+    fn is_sought(&self, first: u32, second: u32) -> bool {
+        are_arc_bad(&self.curves[first as usize], &self.curves[second as usize])
+    }
+}
+
+/// The least bad pair of which one at least is a half arc, by its first number, then by its second;
+/// None exactly where the drawing has no such pair. The only error is want of memory. It takes the
+/// time of half arcs times the curves that begin within their boxes along x, or the other way
+/// round, and 65 bytes for each curve; without a half arc no pair is looked at.
+pub fn arc_meeting(alloc: Global, drawing: &Drawing) -> Result<Option<BadPair>, Memory>
+    ensures bad { IfOk result (λ r. IfSome r (λ p.
+        IsArcPair (plan drawing.now) p.first p.second)) }
+    ensures least { IfOk result (λ r. IfSome r (λ p. (i j : ℕ)
+        → IsArcPair (plan drawing.now) i j → IsLess i j p.first p.second → ⊥)) }
+    ensures none { IfOk result (λ r. r ≡ None → (i j : ℕ) → IsArcPair (plan drawing.now) i j → ⊥) }
+{
+    plane::arcs::boxes_of_bad_curves_meet();
+    let reaches = reaches(alloc, &drawing.curves)?;
+    let marks = half_arc_marks(alloc, &drawing.curves)?;
+    let test = ArcTest {
+        curves: &drawing.curves,
+    };
+    match least(alloc, &reaches, &marks, &test)? {
+        Some(pair) => Ok(Some(BadPair {
+            first: pair.first,
+            second: pair.second,
+        })),
+        None => Ok(None),
+    }
+}
+
+fn reaches(alloc: Global, curves: &[Curve]) -> Result<Vec<Reach>, Memory>
+    requires { IsEachPlaced curves.now }
+    ensures { IfOk result (λ r. AreReachesTo curves.now (length curves.now) r.items) }
+{
+    let mut reaches = Vec::with_capacity(alloc, curves.len())?;
+    for curve in curves {
+        reaches.push(reach(curve))?;
+    }
+    Ok(reaches)
+}
+
+fn half_arc_marks(alloc: Global, curves: &[Curve]) -> Result<Vec<bool>, Memory>
+    ensures { IfOk result (λ r. AreMarksTo curves.now (length curves.now) r.items) }
+{
+    let mut marks = Vec::with_capacity(alloc, curves.len())?;
+    for curve in curves {
+        marks.push(curve.kind == CurveKind::HalfArc)?;
+    }
+    Ok(marks)
+}
