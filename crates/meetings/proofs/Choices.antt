@@ -1,6 +1,6 @@
 -- Two tests, one after the other.
 use Rattle.std.specs.Int.Signed.{le_z}
-use Rattle.std.proofs.Common.{◌≡◌, ◌↔◌, ◌⊎◌, inl, inr, Bool, true, false, IsTrue, T, ℤ, ◌≤ℤ◌, refl, sym, ◌∙◌, subst}
+use Rattle.std.proofs.Common.{◌≡◌, ◌↔◌, ◌⊎◌, inl, inr, Bool, true, false, IsTrue, T, ℤ, ◌≤ℤ◌, sym, ◌∙◌}
 
 pub clash : {P : Type 0} → false ≡ true → P
 clash e = cc

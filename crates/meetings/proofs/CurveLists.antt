@@ -1,14 +1,14 @@
 -- The boxes and marks of the curves of a drawing.
-use Rattle.std.proofs.Common.{◌≡◌, ◌⊎◌, inl, inr, ℕ, ◌+◌, ◌<◌, ◌≤◌, Bool, true, false, IsTrue, List, [], ◌∷◌, ◌++◌, length, get_or, refl, arith, ap, sym, ◌∙◌, subst, All, Option, None, Some}
+use Rattle.std.proofs.Common.{◌≡◌, ◌⊎◌, inl, inr, ℕ, ◌+◌, ◌<◌, ◌≤◌, Bool, true, false, List, [], ◌∷◌, ◌++◌, length, arith, ap, sym, ◌∙◌, subst, All}
 use Rattle.std.proofs.lemmas.List.{length-append, get_or_append_left}
 use Rattle.std.proofs.Math.Seq.{get_or-append_seam}
 use Rattle.plane.specs.declared.kinds.Point.{Point}
 use Rattle.plane.specs.declared.kinds.Curve.{Curve}
 use Rattle.plane.specs.declared.kinds.CurveKind.TheVariants as kind
 use Rattle.plane.specs.Forms.Boxes.{Box, HoldsCurve, InBox}
-use Rattle.plane.specs.Rule.BadPairs.{AreBad, IsBadPair}
+use Rattle.plane.specs.Rule.BadPairs.{AreBad}
 use Rattle.plane.specs.Rule.Places.{Vector, Place}
-use Rattle.plane.specs.Rule.Plans.{Plan, curve}
+use Rattle.plane.specs.Rule.Plans.{Plan}
 use Rattle.plane.specs.Rule.Windows.{IsDrawn, IsNarrow, IsShort}
 use Rattle.straight_predicates.proofs.Orders.{by_lt}
 use Rattle.near_pairs.specs.Boxes.{AreNear, box_of, mark_of, no_reach, reach_of}
@@ -17,7 +17,6 @@ use Rattle.near_pairs.specs.declared.pairs.NearPair.{NearPair}
 use Rattle.near_pairs.specs.declared.reaches.Reach.{Reach}
 use Rattle.meetings.specs.CurveBoxes.{AreMarksTo, AreReachesTo, IsEachPairPlaced, IsEachPlaced}
 use Rattle.meetings.specs.CurvePairs.{AreArcBad, HaveHalfArc, IsArcPair}
-use Rattle.meetings.specs.PlacedCurves.{ArePlaced, IsPlaced}
 use Rattle.meetings.specs.StraightEdges.{curve_of}
 
 last : (i k : ℕ) → i < k + 1 → k ≤ i → i ≡ k

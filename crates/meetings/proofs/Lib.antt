@@ -1,7 +1,9 @@
 pub mod Choices
+pub mod Answering
 pub mod OnStraights
 pub mod OnCircles
 pub mod ArcPairs
 pub mod Reaches
 pub mod CurveLists
 pub mod BadCurves
+pub mod StraightLists

@@ -1,25 +1,25 @@
 -- A point on a straight, by a turn and by order along each axis.
-use Rattle.std.proofs.Common.{◌≡◌, ◌↔◌, Bool, true, false, IsTrue, List, [], ◌∷◌, ℤ, pos, ◌+ℤ◌, ◌-ℤ◌, ◌*ℤ◌, ◌<ℤ◌, ◌≤ℤ◌, refl, ap, sym, ◌∙◌, arith}
+use Rattle.std.proofs.Common.{◌≡◌, ◌↔◌, Bool, false, IsTrue, [], ◌∷◌, ℤ, pos, ◌+ℤ◌, ◌-ℤ◌, ◌*ℤ◌, ◌<ℤ◌, ◌≤ℤ◌, refl, ap, sym, ◌∙◌, arith}
 use Rattle.std.proofs.lemmas.Int.{ints, by_lt_z}
 use Rattle.plane.specs.declared.kinds.Point.{Point}
 use Rattle.plane.specs.Rule.Places.{point}
 use Rattle.plane.specs.Rule.Straights.{IsOnStraight, dot, turn}
 use Rattle.plane.specs.Rule.Turns.{cross}
 use Rattle.plane.proofs.Algebra.Laws.{product_positive, square_nonnegative}
-use Rattle.plane.proofs.Algebra.Ring.{Expr, at, num, plus, minus, times, vars, ring}
+use Rattle.plane.proofs.Algebra.Ring.{at, num, plus, minus, times, vars, ring}
 use Rattle.meetings.proofs.Choices.{clash}
 
 turn_is : (a b p : Point) → turn (point a) (point b) (point p) ≡ cross a b p
 turn_is a b p =
     let AX = at 0 in let AY = at 1 in let BX = at 2 in let BY = at 3 in let PX = at 4 in let PY = at 5 in let ONE = num (pos 1) in
     ring (minus (times (minus (times BX ONE) (times AX ONE)) (minus (times PY ONE) (times AY ONE))) (times (minus (times BY ONE) (times AY ONE)) (minus (times PX ONE) (times AX ONE))))
-        (minus (times (minus BX AX) (minus PY AY)) (times (minus BY AY) (minus PX AX))) (vars (a.x ∷ a.y ∷ b.x ∷ b.y ∷ p.x ∷ p.y ∷ [])) refl
+    (minus (times (minus BX AX) (minus PY AY)) (times (minus BY AY) (minus PX AX))) (vars (a.x ∷ a.y ∷ b.x ∷ b.y ∷ p.x ∷ p.y ∷ [])) refl
 
 dot_is : (a b p : Point) → dot (point a) (point b) (point p) ≡ ((a.x -ℤ p.x) *ℤ (b.x -ℤ p.x)) +ℤ ((a.y -ℤ p.y) *ℤ (b.y -ℤ p.y))
 dot_is a b p =
     let AX = at 0 in let AY = at 1 in let BX = at 2 in let BY = at 3 in let PX = at 4 in let PY = at 5 in let ONE = num (pos 1) in
     ring (plus (times (minus (times AX ONE) (times PX ONE)) (minus (times BX ONE) (times PX ONE))) (times (minus (times AY ONE) (times PY ONE)) (minus (times BY ONE) (times PY ONE))))
-        (plus (times (minus AX PX) (minus BX PX)) (times (minus AY PY) (minus BY PY))) (vars (a.x ∷ a.y ∷ b.x ∷ b.y ∷ p.x ∷ p.y ∷ [])) refl
+    (plus (times (minus AX PX) (minus BX PX)) (times (minus AY PY) (minus BY PY))) (vars (a.x ∷ a.y ∷ b.x ∷ b.y ∷ p.x ∷ p.y ∷ [])) refl
 
 -- where the cross product is 0, the two products are of one sign
 products_square : (a b p : Point) → cross a b p ≡ pos 0

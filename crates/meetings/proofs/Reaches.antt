@@ -1,5 +1,5 @@
 -- Boxes that hold a curve, from what their sides go beyond.
-use Rattle.std.proofs.Common.{◌≡◌, ◌^◌, List, [], ◌∷◌, ℤ, pos, ◌+ℤ◌, ◌-ℤ◌, ◌*ℤ◌, ◌≤ℤ◌, FitsSigned, refl, ap, sym, ◌∙◌, subst, arith}
+use Rattle.std.proofs.Common.{◌≡◌, ◌^◌, [], ◌∷◌, ℤ, pos, ◌+ℤ◌, ◌-ℤ◌, ◌*ℤ◌, ◌≤ℤ◌, FitsSigned, refl, ap, sym, ◌∙◌, subst, arith}
 use Rattle.std.proofs.lemmas.Int.{ints}
 use Rattle.std.specs.Int.{w128}
 use borrow.Author.Differences.{fits_in}
@@ -12,7 +12,7 @@ use Rattle.plane.specs.Rule.Curves.{arc}
 use Rattle.plane.specs.Rule.HalfArcs.{HalfArc, HasCircle}
 use Rattle.plane.specs.Rule.Places.{point}
 use Rattle.plane.specs.Rule.Windows.{IsInside, IsShort}
-use Rattle.plane.proofs.Algebra.Ring.{Expr, at, num, plus, minus, times, vars, ring}
+use Rattle.plane.proofs.Algebra.Ring.{at, plus, minus, times, vars, ring}
 
 pub same_products : (a b x y : ℤ) → a ≡ x → b ≡ y → (a *ℤ b) ≡ (x *ℤ y)
 same_products a b x y e f = ap (λ (z : ℤ). z *ℤ b) e ∙ ap (λ (z : ℤ). x *ℤ z) f
@@ -22,7 +22,7 @@ unfolding facing
 facing_is c x y e f =
     let FX = at 0 in let FY = at 1 in let TX = at 2 in let TY = at 3 in let X = at 4 in let Y = at 5 in
     let r = ring (plus (times (minus X FX) (minus (minus X FX) (minus TX FX))) (times (minus Y FY) (minus (minus Y FY) (minus TY FY))))
-        (plus (times (minus X FX) (minus X TX)) (times (minus Y FY) (minus Y TY))) (vars (c.from.x ∷ c.from.y ∷ c.to.x ∷ c.to.y ∷ c.third.x ∷ c.third.y ∷ [])) refl in
+    (plus (times (minus X FX) (minus X TX)) (times (minus Y FY) (minus Y TY))) (vars (c.from.x ∷ c.from.y ∷ c.to.x ∷ c.to.y ∷ c.third.x ∷ c.third.y ∷ [])) refl in
     r ∙ ap (λ (z : ℤ). z +ℤ ((c.third.y -ℤ c.from.y) *ℤ (c.third.y -ℤ c.to.y))) (sym e) ∙ ap (λ (z : ℤ). x +ℤ z) (sym f)
 
 times_one : (a : ℤ) → (a *ℤ pos 1) ≡ a

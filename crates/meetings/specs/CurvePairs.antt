@@ -28,6 +28,10 @@ pub record IsOnCircle (h : HalfArc) (z : Vector) : Type 0 where
 abbrev pub HaveHalfArc : Curve → Curve → Type 0
 HaveHalfArc c d = (c.kind ≡ kind.HalfArc) ⊎ (d.kind ≡ kind.HalfArc)
 
+-- Both are straights.
+abbrev pub AreBothStraight : Curve → Curve → Type 0
+AreBothStraight c d = (c.kind ≡ kind.Straight) × (d.kind ≡ kind.Straight)
+
 -- The two are bad, and one of them at least is a half arc.
 pub record AreArcBad (c d : Curve) : Type 0 where
   pub half_arc : HaveHalfArc c d

@@ -44,7 +44,8 @@ pub fn arc_meeting(alloc: Global, drawing: &Drawing) -> Result<Option<BadPair>, 
         IsArcPair (plan drawing.now) p.first p.second)) }
     ensures least { IfOk result (λ r. IfSome r (λ p. (i j : ℕ)
         → IsArcPair (plan drawing.now) i j → IsLess i j p.first p.second → ⊥)) }
-    ensures none { IfOk result (λ r. r ≡ None → (i j : ℕ) → IsArcPair (plan drawing.now) i j → ⊥) }
+    ensures none { IfOk result (λ r. r ≡ None → (i j : ℕ)
+        → IsArcPair (plan drawing.now) i j → ⊥) }
 {
     plane::arcs::boxes_of_bad_curves_meet();
     let reaches = reaches(alloc, &drawing.curves)?;

@@ -1,48 +1,78 @@
 // A bad pair of a drawing.
-ghost use Rattle.std.specs.Prelude.{◌≡◌, ℕ, ◌<◌, None, IfOk, IfSome};
+ghost use Rattle.std.specs.Prelude.{◌≡◌, ℕ, ◌<◌, None, IfOk, IfSome, length, slice_index};
 ghost use Rattle.plane.specs.Rule.BadPairs.{IsBadPair};
 ghost use Rattle.plane.specs.Rule.Plans.{plan, curve};
 ghost use Rattle.plane.specs.Rule.Triangles.{Apart};
 ghost use Rattle.line_sweep.specs.Kinds.{AreBad};
-ghost use Rattle.meetings.specs.StraightEdges.{AreStraights};
+ghost use Rattle.meetings.specs.CurvePairs.{AreBothStraight};
+ghost use Rattle.meetings.specs.StraightEdges.{IsRising};
 
-use super::edges::straight_edges;
+use super::arcs::arc_meeting;
+use super::edges::{Straights, straight_edges};
 use super::pairs::BadPair;
 use line_sweep::{SweepRefusal, sweep};
-use plane::{Drawing, Edge};
+use plane::Drawing;
 use ports::Memory;
 use std::alloc::Global;
 
-/// Some bad pair of a drawing of straights, or None exactly where it has none. The only error is
-/// want of memory. It takes the time of a sweep: O((m + events) log m) for m curves, and what its
-/// live list moves.
+/// Some bad pair of a drawing, or None exactly where it has none: two straights where there are
+/// such, else the least pair with a half arc. The only error is want of memory. It takes the time
+/// of a sweep of the straights, O((m + events) log m) for m of them and what its live list moves,
+/// and that of `arc_meeting`.
 pub fn bad_meeting(alloc: Global, drawing: &Drawing) -> Result<Option<BadPair>, Memory>
-    requires straights { AreStraights drawing.now.curves.items }
-    ensures bad { IfOk result (λ r. IfSome r (λ p. IsBadPair (plan drawing.now) p.first p.second)) }
+    ensures bad { IfOk result (λ r. IfSome r (λ p.
+        IsBadPair (plan drawing.now) p.first p.second)) }
     ensures not_apart { IfOk result (λ r. IfSome r (λ p. Apart (curve
         (plan drawing.now) p.first) (curve (plan drawing.now) p.second) → ⊥)) }
-    ensures none { IfOk result (λ r. r ≡ None → (i j : ℕ) → IsBadPair (plan drawing.now) i j → ⊥) }
+    ensures none { IfOk result (λ r. r ≡ None → (i j : ℕ)
+        → IsBadPair (plan drawing.now) i j → ⊥) }
 {
-    let edges = straight_edges(alloc, drawing)?;
-    match sweep(alloc, &edges) {
+    plane::rule::bad_curves_are_not_apart();
+    match straight_meeting(alloc, drawing)? {
+        Some(pair) => Ok(Some(pair)),
+        None => arc_meeting(alloc, drawing),
+    }
+}
+
+/// Two straights that are bad, or None exactly where there are none.
+fn straight_meeting(alloc: Global, drawing: &Drawing) -> Result<Option<BadPair>, Memory>
+    ensures bad { IfOk result (λ r. IfSome r (λ p.
+        IsBadPair (plan drawing.now) p.first p.second)) }
+    ensures none { IfOk result (λ r. r ≡ None → (i j : ℕ) → AreBothStraight
+        (curve (plan drawing.now) i) (curve (plan drawing.now) j)
+        → IsBadPair (plan drawing.now) i j → ⊥) }
+{
+    let straights = straight_edges(alloc, drawing)?;
+    match sweep(alloc, &straights.edges) {
         Ok(_) => Ok(None),
-        Err(SweepRefusal::Bad { first, second }) => Ok(Some(in_order(&edges, first, second))),
+        Err(SweepRefusal::Bad { first, second }) => {
+            Ok(Some(in_order(&straights, first, second)))
+        }
         Err(SweepRefusal::Memory) => Err(Memory),
     }
 }
 
-/// The two edges, the lesser number first.
-fn in_order(edges: &[Edge], first: u32, second: u32) -> BadPair
-    requires { AreBad edges.now first second }
-    ensures bad { AreBad edges.now result.first result.second }
+/// The numbers of two edges' curves, the lesser first.
+fn in_order(straights: &Straights, first: u32, second: u32) -> BadPair
+    requires bad { AreBad straights.now.edges.items first second }
+    requires size { length straights.now.numbers.items ≡ length straights.now.edges.items }
+    requires rising { IsRising straights.now.numbers.items }
+    ensures bad { (a b : ℕ) × AreBad straights.now.edges.items a b
+        × (result.first ≡ slice_index straights.now.numbers.items a)
+        × (result.second ≡ slice_index straights.now.numbers.items b) }
     ensures order { result.first < result.second }
 {
-    if first < second {
-        BadPair { first, second }
+    let a = straights.numbers[first as usize];
+    let b = straights.numbers[second as usize];
+    if a < b {
+        BadPair {
+            first: a,
+            second: b,
+        }
     } else {
         BadPair {
-            first: second,
-            second: first,
+            first: b,
+            second: a,
         }
     }
 }

@@ -1,25 +1,35 @@
 //! Whether two curves of a drawing meet badly.
 //!
-//! - **What it answers.** Some pair of curves that is bad, the lesser number first, or None exactly
-//!   where the drawing has no such pair. Which of several is named is free.
+//! - **What it answers.** `bad_meeting`: some pair of curves that is bad, the lesser number first,
+//!   or None exactly where the drawing has no such pair. Two straights are named where some are
+//!   bad; else the least pair with a half arc, by its first number, then by its second
+//!   (`arc_meeting`). `is_on`: whether a point is on a curve. `reach`: a box that holds a curve.
 //! - **The rule that it serves.** Lines of an area meet in control points alone. What it names is
 //!   not apart in the sense of that rule (`plane::rule::bad_curves_are_not_apart`).
-//! - **How.** The straights' edges are swept (`line_sweep`); no pairs are compared here. It makes no
-//!   difference which object a curve belongs to: a line that crosses itself is found like any other.
-//! - **Not here yet:** half arcs. A drawing of straights is asked for.
-//! - **Degenerate cases.** Equal straights, straights back over each other, upright ones and no
-//!   curve at all are taken.
+//! - **How.** The straights' edges are swept (`line_sweep`). Pairs with a half arc are tested where
+//!   their boxes share a place (`near_pairs`); two bad curves do
+//!   (`plane::arcs::boxes_of_bad_curves_meet`). It makes no difference which object a curve belongs
+//!   to: a line that crosses itself is found like any other.
+//! - **What it does not see.** A straight that crosses a half arc between two neighbouring
+//!   sixteenths, two half arcs that cross, what lies 2^28 units or more from a half arc's first
+//!   end, and half arcs whose points differ by 2^26 or more: such pairs are not bad, though they
+//!   may not be apart either.
+//! - **Degenerate cases.** Equal straights, straights back over each other, upright ones, half arcs
+//!   over half a turn, one half arc drawn twice and no curve at all are taken.
 //!
-//! Cost: that of a sweep over as many edges as there are curves, and 32 bytes for each of them.
+//! Cost: that of a sweep over the straights; then half arcs times the curves that begin within
+//! their boxes along x, or the other way round, at most half arcs times all. Memory is linear: a
+//! sweep's and 36 bytes a straight, then 65 bytes a curve. Without a half arc the second part is one
+//! walk over the curves.
 #![tactic(auto)]
 
 mod arcs;
 mod badness;
 mod edges;
 mod finding;
+mod pairs;
 mod placing;
 mod reaching;
-mod pairs;
 
 pub use arcs::arc_meeting;
 pub use finding::bad_meeting;

@@ -69,7 +69,10 @@ pub fn is_on_circle(circle: &Circle, p: Point) -> bool
     requires { AreClose circle.now.s p }
     ensures { IsTrue result ↔ IsOnCircle (half_arc circle.now) (point p) }
 {
-    matches!(side(circle, i128::from(p.x), i128::from(p.y), 1), Some(Side::On))
+    matches!(
+        side(circle, i128::from(p.x), i128::from(p.y), 1),
+        Some(Side::On)
+    )
 }
 
 /// Whether the point is not on the third point's side of the chord.

@@ -17,9 +17,10 @@ use plane::{Curve, CurveKind, Point};
 /// Beyond this, in each coordinate from a half arc's `from`, no place has a side for it.
 const FAR: i64 = 268_435_456;
 
-/// A box that holds the curve's ends and, of a half arc, all places that have a side for it, are not
+/// A box that holds the curve's ends and, of a half arc, each place that has a side for it, is not
 /// outside its circle and not on the third point's side of its chord. Up to half a turn it is the
-/// ends' box, each side moved out by half the other extent. It takes no memory.
+/// box of the ends, each side moved out by half the other extent, rounded up; over half a turn it
+/// reaches as far as places have sides. It takes no memory.
 pub fn reach(curve: &Curve) -> Reach
     requires { IsPlaced curve.now }
     ensures { HoldsCurve (box_of result) curve.now }
@@ -84,7 +85,11 @@ fn span(a: i64, b: i64, by: i64) -> (i64, i64)
     ensures high_first { (a +ℤ by) ≤ℤ result.1 }
     ensures high_second { (b +ℤ by) ≤ℤ result.1 }
 {
-    if a < b { (a - by, b + by) } else { (b - by, a + by) }
+    if a < b {
+        (a - by, b + by)
+    } else {
+        (b - by, a + by)
+    }
 }
 
 /// Half the distance of two numbers, rounded up.

@@ -1,4 +1,4 @@
-use Rattle.std.proofs.Common.{length, refl, subst}
+use Rattle.std.proofs.Common.{length, subst}
 use Rattle.plane.specs.Rule.Plans.{plan}
 use Rattle.near_pairs.specs.LeastPairs.{IsLeastPair}
 use Rattle.meetings.proofs.CurveLists.{lent_size, near_lent, no_pair_lent, pair_is_least, seeks}

@@ -1,4 +1,4 @@
-use Rattle.meetings.proofs.Choices.{first_of, second_of}
+use Rattle.meetings.proofs.Choices.{second_of}
 use Rattle.meetings.proofs.badness.have_common_end.Goals as goal
 
 pub returns-else-is_end : goal.returns-else-is_end

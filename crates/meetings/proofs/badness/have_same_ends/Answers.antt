@@ -1,4 +1,4 @@
-use Rattle.meetings.proofs.Choices.{first_of, second_of}
+use Rattle.meetings.proofs.Choices.{second_of}
 use Rattle.meetings.proofs.badness.have_same_ends.Goals as goal
 
 pub returns-else-runs_between : goal.returns-else-runs_between

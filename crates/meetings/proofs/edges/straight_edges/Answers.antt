@@ -1,23 +1,17 @@
-use Rattle.std.proofs.Common.{subst}
-use Rattle.plane.specs.Forms.Segments.{IsEdgeOf}
-use Rattle.meetings.specs.StraightEdges.{curve_of}
-use Rattle.meetings.proofs.BadCurves.{none_yet, one_more, distinct_at, whole}
+use Rattle.std.proofs.Common.{ap, ◌∙◌}
+use Rattle.meetings.proofs.StraightLists.{more_lent, over_lent}
 use Rattle.meetings.proofs.edges.straight_edges.Goals as goal
+use Rattle.meetings.proofs.edges.straight_edges.Goals.{then-is_straight+in_ok-push+in_ok-push-2, else-is_straight}
 
-pub loop-curve-init : goal.loop-curve-init
-loop-curve-init c = none_yet c.args.drawing.now.curves.items c.in_ok-edges.edges.items c.in_ok-edges.ensures.items
-
-pub edge_between-requires : goal.edge_between-requires
-edge_between-requires c =
-    distinct_at c.args.drawing.now.window.low c.args.drawing.now.window.high c.deref-curve-items.result.now c.args.drawing.now.curves.items c.loop-curve.curve-index _ c.deref-curve-items.ensures.value c.loop-curve-test.true
-    c.args.drawing.now.curves_drawn
-
-pub loop-curve-preserved : goal.loop-curve-preserved
-loop-curve-preserved c =
-    one_more c.args.drawing.now.curves.items c.loop-curve.curve-index c.loop-curve.edges.items c.push.new.self.items c.edge_between.result c.loop-curve.invariant c.in_ok-push.ensures.items c.edge_between.ensures.sorted
-    (subst (λ cs. IsEdgeOf c.edge_between.result (curve_of cs c.loop-curve.curve-index)) c.deref-curve-items.ensures.value c.edge_between.ensures.ends)
-
-pub returns : goal.returns
-returns c =
-    whole c.deref-curve-items.result.now c.args.drawing.now.curves.items c.loop-curve.curve-index c.loop-curve.edges.items c.deref-curve-items.ensures.value c.loop-curve-test.false c.loop-curve.auto.curve-index-end
-    c.loop-curve.invariant
+pub loop-number-preserved : goal.loop-number-preserved
+loop-number-preserved c =
+    let h = c.loop-number.invariant in
+    elim c.if-is_straight.branch [
+      | then-is_straight+in_ok-push+in_ok-push-2 w ↦
+          more_lent c.deref-curve-items.result.now c.args.drawing.now.curves.items c.loop-number.number c.loop-number.edges.items c.loop-number.numbers.items w.edge_between.result c.if-is_straight.edges.items c.if-is_straight.numbers.items
+          c.deref-curve-items.ensures.value h (ap (λ v. v.items) w.edges-is ∙ w.in_ok-push.ensures.items) (ap (λ v. v.items) w.numbers-is ∙ w.in_ok-push-2.ensures.items) (c.is_straight.ensures.0 w.if-is_straight.true) w.edge_between.ensures.sorted
+          w.edge_between.ensures.ends
+      | else-is_straight w ↦
+          over_lent c.deref-curve-items.result.now c.args.drawing.now.curves.items c.loop-number.number c.loop-number.edges.items c.loop-number.numbers.items c.if-is_straight.edges.items c.if-is_straight.numbers.items c.is_straight.result
+          c.deref-curve-items.ensures.value h (ap (λ v. v.items) w.edges-is) (ap (λ v. v.items) w.numbers-is) c.is_straight.ensures w.if-is_straight.false
+    ]
