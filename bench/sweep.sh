@@ -10,13 +10,13 @@ top=$(cd "$(dirname "${BASH_SOURCE[0]}")/.." && pwd)
 . "$top/bench/measure.sh"
 work=$(mktemp -d)
 trap 'rm -rf "$work"' EXIT
-below='ports plane straight_predicates line_sweep meetings'
+below='ports plane straight_predicates arc_predicates line_sweep near_pairs meetings'
 for crate in $below; do
     mkdir -p "$work/crates/$crate"
     cp -r "$top/crates/$crate/src" "$top/crates/$crate/specs" "$top/crates/$crate/proofs" "$work/crates/$crate" 2> /dev/null || true
 done
 for crate in $below; do grep -E "^$crate:" "$top/crates.txt"; done > "$work/crates.txt"
-echo 'sweep_bench: ports plane straight_predicates line_sweep meetings slab' >> "$work/crates.txt"
+echo 'sweep_bench: ports plane straight_predicates arc_predicates line_sweep near_pairs meetings slab' >> "$work/crates.txt"
 bench="$work/crates/sweep_bench"
 mkdir -p "$bench/src"
 cat > "$bench/src/main.rt" <<'END'

@@ -105,16 +105,14 @@ module _ (d : Plan) (n : ℕ) (size : n ≡ length d.curves) where
 pub lent_size : (curves lent : List Curve) (reaches lent_reaches : List Reach) → lent ≡ curves → lent_reaches ≡ reaches → AreReachesTo lent (length lent) reaches → length lent_reaches ≡ length curves
 lent_size curves lent reaches lent_reaches e f a = ap length f ∙ a.size ∙ ap length e
 
-pub near_lent : (curves c1 c2 c3 : List Curve) (reaches lent_reaches : List Reach) (marks lent_marks : List Bool) → c1 ≡ curves → c2 ≡ curves → c3 ≡ curves → lent_reaches ≡ reaches → lent_marks ≡ marks
-    → AreReachesTo c1 (length c1) reaches → AreMarksTo c2 (length c2) marks → ((c d : Curve) (a b : Box) → AreBad c d → HoldsCurve a c → HoldsCurve b d → (z : Vector) × Place z × InBox a z × InBox b z)
-    → (i j : ℕ) → i < j → j < length lent_reaches → seeks c3 i j → AreNear lent_reaches lent_marks i j
-near_lent curves c1 c2 c3 reaches lent_reaches marks lent_marks e1 e2 e3 f g r m law i j l k s =
-    let r1 : AreReachesTo curves (length curves) reaches = subst (λ (cs : List Curve). AreReachesTo cs (length cs) reaches) e1 r in
-    let r2 : AreReachesTo curves (length curves) lent_reaches = subst (AreReachesTo curves (length curves)) (sym f) r1 in
-    let m1 : AreMarksTo curves (length curves) marks = subst (λ (cs : List Curve). AreMarksTo cs (length cs) marks) e2 m in
-    let m2 : AreMarksTo curves (length curves) lent_marks = subst (AreMarksTo curves (length curves)) (sym g) m1 in
+pub near_lent : (curves : List Curve) (reaches lent_reaches : List Reach) (marks lent_marks : List Bool) → lent_reaches ≡ reaches → lent_marks ≡ marks → AreReachesTo curves (length curves) reaches → AreMarksTo curves (length curves) marks
+    → ((c d : Curve) (a b : Box) → AreBad c d → HoldsCurve a c → HoldsCurve b d → (z : Vector) × Place z × InBox a z × InBox b z)
+    → (i j : ℕ) → i < j → j < length lent_reaches → seeks curves i j → AreNear lent_reaches lent_marks i j
+near_lent curves reaches lent_reaches marks lent_marks f g r m law i j l k s =
+    let r2 : AreReachesTo curves (length curves) lent_reaches = subst (AreReachesTo curves (length curves)) (sym f) r in
+    let m2 : AreMarksTo curves (length curves) lent_marks = subst (AreMarksTo curves (length curves)) (sym g) m in
     let z = r2.size in
-    bad_is_near curves lent_reaches lent_marks r2 m2 law i j (omega (arith, l, k, z)) (omega (arith, k, z)) (subst (λ (cs : List Curve). seeks cs i j) e3 s)
+    bad_is_near curves lent_reaches lent_marks r2 m2 law i j (omega (arith, l, k, z)) (omega (arith, k, z)) s
 
 pub no_pair_lent : (d : Plan) (lent : List Curve) (n : ℕ) → n ≡ length d.curves → lent ≡ d.curves → ((i j : ℕ) → i < j → j < n → seeks lent i j → ⊥) → (i j : ℕ) → IsArcPair d i j → ⊥
 no_pair_lent d lent n size e f = no_pair d n size (subst (λ (cs : List Curve). (i j : ℕ) → i < j → j < n → seeks cs i j → ⊥) e f)

@@ -4,6 +4,7 @@ pub mod OnStraights
 pub mod OnCircles
 pub mod ArcPairs
 pub mod Reaches
+pub mod CircleReaches
 pub mod CurveLists
 pub mod BadCurves
 pub mod StraightLists

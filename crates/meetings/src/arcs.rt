@@ -1,9 +1,11 @@
 // Bad pairs with a half arc.
-ghost use Rattle.std.specs.Prelude.{◌≡◌, ℕ, None, IfOk, IfSome, length};
+ghost use Rattle.std.specs.Prelude.{◌≡◌, ℕ, ◌<◌, None, false, IfOk, IfSome, length};
+ghost use Rattle.plane.specs.declared.kinds.CurveKind.TheVariants as kind;
 ghost use Rattle.plane.specs.Rule.Plans.{plan};
 ghost use Rattle.near_pairs.specs.LeastPairs.{IsLess};
 ghost use Rattle.meetings.specs.CurveBoxes.{AreMarksTo, AreReachesTo, IsEachPlaced};
 ghost use Rattle.meetings.specs.CurvePairs.{IsArcPair};
+ghost use Rattle.meetings.specs.StraightEdges.{curve_of};
 
 use super::badness::are_arc_bad;
 use super::pairs::BadPair;
@@ -48,11 +50,13 @@ pub fn arc_meeting(alloc: Global, drawing: &Drawing) -> Result<Option<BadPair>, 
         → IsArcPair (plan drawing.now) i j → ⊥) }
 {
     plane::arcs::boxes_of_bad_curves_meet();
-    let reaches = reaches(alloc, &drawing.curves)?;
-    let marks = half_arc_marks(alloc, &drawing.curves)?;
-    let test = ArcTest {
-        curves: &drawing.curves,
-    };
+    let curves = drawing.curves.as_slice();
+    if !has_half_arc(curves) {
+        return Ok(None);
+    }
+    let reaches = reaches(alloc, curves)?;
+    let marks = half_arc_marks(alloc, curves)?;
+    let test = ArcTest { curves };
     match least(alloc, &reaches, &marks, &test)? {
         Some(pair) => Ok(Some(BadPair {
             first: pair.first,
@@ -60,6 +64,13 @@ pub fn arc_meeting(alloc: Global, drawing: &Drawing) -> Result<Option<BadPair>, 
         })),
         None => Ok(None),
     }
+}
+
+fn has_half_arc(curves: &[Curve]) -> bool
+    ensures { result ≡ false → (i : ℕ) → i < length curves.now
+        → (curve_of curves.now i).kind ≡ kind.HalfArc → ⊥ }
+{
+    curves.iter().any(|curve| curve.kind == CurveKind::HalfArc)
 }
 
 fn reaches(alloc: Global, curves: &[Curve]) -> Result<Vec<Reach>, Memory>

@@ -19,12 +19,13 @@
 //!
 //! Cost: that of a sweep over the straights; then half arcs times the curves that begin within
 //! their boxes along x, or the other way round, at most half arcs times all. Memory is linear: a
-//! sweep's and 36 bytes a straight, then 65 bytes a curve. Without a half arc the second part is one
+//! sweep's and 36 bytes a curve, then 65 bytes a curve. Without a half arc the second part is one
 //! walk over the curves.
 #![tactic(auto)]
 
 mod arcs;
 mod badness;
+mod circle_reach;
 mod edges;
 mod finding;
 mod pairs;

@@ -10,17 +10,16 @@ ghost use Rattle.arc_predicates.specs.Circles.{half_arc};
 ghost use Rattle.near_pairs.specs.Boxes.{box_of};
 ghost use Rattle.meetings.specs.PlacedCurves.{IsPlaced};
 
+use super::circle_reach::circle_reach;
 use arc_predicates::{Circle, circle};
 use near_pairs::Reach;
 use plane::{Curve, CurveKind, Point};
 
-/// Beyond this, in each coordinate from a half arc's `from`, no place has a side for it.
-const FAR: i64 = 268_435_456;
-
 /// A box that holds the curve's ends and, of a half arc, each place that has a side for it, is not
 /// outside its circle and not on the third point's side of its chord. Up to half a turn it is the
 /// box of the ends, each side moved out by half the other extent, rounded up; over half a turn it
-/// reaches as far as places have sides. It takes no memory.
+/// goes beyond the first end by the product of the triangle's sides over the turn of its points, or
+/// as far as places have sides. It takes no memory.
 pub fn reach(curve: &Curve) -> Reach
     requires { IsPlaced curve.now }
     ensures { HoldsCurve (box_of result) curve.now }
@@ -54,7 +53,8 @@ fn judged_reach(curve: &Curve, circle: &Circle) -> Reach
         let y = half(curve.from.x, curve.to.x);
         around(curve.from, curve.to, x, y)
     } else {
-        around(curve.from, curve.from, FAR, FAR)
+        let far = circle_reach(curve, circle);
+        around(curve.from, curve.from, far, far)
     }
 }
 

@@ -2,6 +2,7 @@ use Rattle.std.proofs.Common.{rules, FitsSigned, to_z-of_z, w64}
 use Rattle.plane.specs.Rule.Curves.{arc}
 use Rattle.arc_predicates.specs.Circles.{half_arc}
 use Rattle.near_pairs.specs.Boxes.{box_of}
+use Rattle.meetings.proofs.CircleReaches.{far_holds}
 use Rattle.meetings.proofs.Reaches.{has_circle}
 use Rattle.meetings.proofs.reaching.judged_reach.Goals as goal
 
@@ -17,4 +18,8 @@ returns-then-is_at_most_half_a_turn c =
     (simp to_z-of_z at c.half-y.ensures.value) (simp to_z-of_z at c.around.ensures.first) (simp to_z-of_z at c.around.ensures.second)
 
 pub returns-else-is_at_most_half_a_turn : goal.returns-else-is_at_most_half_a_turn
-returns-else-is_at_most_half_a_turn c = c.boxes_hold_curves.ensures.far c.args.curve.now (box_of c.around-else-is_at_most_half_a_turn.result) (has_circle (arc c.args.curve.now) (half_arc c.args.circle.now) c.requires.circle c.args.circle.now.has) c.around-else-is_at_most_half_a_turn.ensures.first
+returns-else-is_at_most_half_a_turn c =
+    let r : FitsSigned w64 c.circle_reach-far.result = search rules in
+    let b = box_of c.around-else-is_at_most_half_a_turn.result in
+    far_holds c.args.curve.now b c.circle_reach-far.result c.circle_reach-far.ensures.reach (has_circle (arc c.args.curve.now) (half_arc c.args.circle.now) c.requires.circle c.args.circle.now.has)
+    (c.boxes_hold_curves.ensures.round c.args.curve.now c.circle_reach-far.result b) (c.boxes_hold_curves.ensures.far c.args.curve.now b) (simp to_z-of_z at c.around-else-is_at_most_half_a_turn.ensures.first)
