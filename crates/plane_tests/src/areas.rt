@@ -150,7 +150,7 @@ const CASES: [Case; 14] = [
     ),
 ];
 
-fn is_inside(window: &Window2, p: Point) -> bool
+pub fn is_inside(window: &Window2, p: Point) -> bool
     ensures { IsTrue result → IsInside window.now.low window.now.high p }
 {
     if window.low.x <= p.x && p.x <= window.high.x && window.low.y <= p.y && p.y <= window.high.y {

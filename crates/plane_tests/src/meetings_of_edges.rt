@@ -16,7 +16,7 @@ fn is_near(a: i64, b: i64) -> bool
     -2_199_023_255_552 < difference && difference < 2_199_023_255_552
 }
 
-fn are_close(p: Point, q: Point) -> bool
+pub fn are_close(p: Point, q: Point) -> bool
     ensures { IsTrue result → AreClose p q }
 {
     is_near(p.x, q.x) && is_near(p.y, q.y)
