@@ -1,6 +1,6 @@
--- Two tests, one after the other.
+-- What tests say, one after the other and in a loop.
 use Rattle.std.specs.Int.Signed.{le_z}
-use Rattle.std.proofs.Common.{◌≡◌, ◌↔◌, ◌⊎◌, inl, inr, Bool, true, false, IsTrue, T, ℤ, ◌≤ℤ◌, sym, ◌∙◌}
+use Rattle.std.proofs.Common.{◌≡◌, ◌↔◌, ◌⊎◌, inl, inr, Bool, true, false, IsTrue, T, ℤ, ◌≤ℤ◌, sym, ◌∙◌, ℕ, ◌+◌, ◌<◌, ◌≤◌, arith}
 
 pub clash : {P : Type 0} → false ≡ true → P
 clash e = cc
@@ -29,3 +29,7 @@ second_of A B q r h f k = (λ t. inr (k.0 t), λ p. by p)
     by : A ⊎ B → IsTrue r
     by (inl a) = clash (sym f ∙ h.1 a)
     by (inr b) = k.1 b
+
+-- ---- in a loop
+pub last : (i k : ℕ) → i < k + 1 → k ≤ i → i ≡ k
+last i k l m = omega (arith, l, m)

@@ -18,9 +18,7 @@ use Rattle.near_pairs.specs.declared.reaches.Reach.{Reach}
 use Rattle.meetings.specs.CurveBoxes.{AreMarksTo, AreReachesTo, IsEachPairPlaced, IsEachPlaced}
 use Rattle.meetings.specs.CurvePairs.{AreArcBad, HaveHalfArc, IsArcPair}
 use Rattle.meetings.specs.StraightEdges.{curve_of}
-
-last : (i k : ℕ) → i < k + 1 → k ≤ i → i ≡ k
-last i k l m = omega (arith, l, m)
+use Rattle.meetings.proofs.Choices.{last}
 
 -- ---- one more
 pub no_reaches : (curves : List Curve) (reaches : List Reach) → reaches ≡ [] → AreReachesTo curves 0 reaches

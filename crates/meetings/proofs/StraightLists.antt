@@ -20,7 +20,7 @@ use Rattle.straight_predicates.proofs.WindowEdges.{window_close}
 use Rattle.line_sweep.specs.Kinds.{AreBad}
 use Rattle.meetings.specs.CurvePairs.{AreBothStraight, IsArcPair}
 use Rattle.meetings.specs.StraightEdges.{AreStraightsTo, IsRising, IsStraightEdge, curve_of}
-use Rattle.meetings.proofs.Choices.{clash}
+use Rattle.meetings.proofs.Choices.{clash, last}
 use Rattle.meetings.proofs.BadCurves.{not_half_arc}
 
 abbrev number_of : List ℕ → ℕ → ℕ
@@ -41,9 +41,6 @@ none_yet curves edges numbers e f =
 
 kept : (curves : List Curve) (k : ℕ) (e : Edge) (n : ℕ) → IsStraightEdge curves k e n → IsStraightEdge curves (k + 1) e n
 kept curves k e n s = record { known = (let l = s.known in omega (arith, l)); kind = s.kind; sorted = s.sorted; ends = s.ends }
-
-last : (i k : ℕ) → i < k + 1 → k ≤ i → i ≡ k
-last i k l m = omega (arith, l, m)
 
 module _ (curves : List Curve) (k : ℕ) (edges : List Edge) (numbers : List ℕ) (a : AreStraightsTo curves k edges numbers) where
   pub passed_over : ((curve_of curves k).kind ≡ kind.Straight → ⊥) → AreStraightsTo curves (k + 1) edges numbers

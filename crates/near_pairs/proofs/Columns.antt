@@ -1,7 +1,6 @@
 -- Boxes in the order in which they begin along x.
 use Rattle.std.proofs.Common.{◌≡◌, ◌⊎◌, inl, inr, ℕ, ◌+◌, ◌<◌, ◌≤◌, Bool, true, false, ℤ, ◌<ℤ◌, ◌≤ℤ◌, List, [], ◌∷◌, ◌++◌, length, get_or, arith, ap, sym, subst}
 use Rattle.std.proofs.lemmas.Int.{ints}
-use Rattle.std.proofs.lemmas.Bool.{cases_lt}
 use Rattle.std.proofs.lemmas.Cmp.{int_cmp_total}
 use Rattle.std.proofs.lemmas.List.Elements.{All-push, Contains-append_left, Contains-push}
 use Rattle.std.proofs.lemmas.List.Sorted.{sorted_far, ranks_by, All-permutation, Contains-permutation}
@@ -16,6 +15,7 @@ use Rattle.near_pairs.specs.Columns.{IsColumn, item_of, takes}
 use Rattle.near_pairs.specs.declared.chosen.Chosen.{Chosen}
 use Rattle.near_pairs.specs.declared.column.Item.{Item}
 use Rattle.near_pairs.specs.declared.reaches.Reach.{Reach}
+use Rattle.near_pairs.proofs.Tests.{last_or_before, not_both}
 
 -- The boxes before k that are chosen, each with its number.
 pub record IsColumnTo (boxes : List Reach) (marked : List Bool) (which : Chosen) (k : ℕ) (column : List Item) : Type 0 where
@@ -28,17 +28,6 @@ none_yet boxes marked which column e = record {
   whole = λ i l t. absurd (omega (arith, l));
 }
 
-last_or_before : (i k : ℕ) → i < k + 1 → (i < k) ⊎ (i ≡ k)
-last_or_before i k l = by (cases_lt i k)
-  where
-    by : (i < k) ⊎ (k ≤ i) → (i < k) ⊎ (i ≡ k)
-    by (inl h) = inl h
-    by (inr h) = inr (omega (arith, l, h))
-
-clash : {P : Type 0} (t : Bool) → t ≡ true → t ≡ false → P
-clash true h k = cc
-clash false h k = cc
-
 module _ (boxes : List Reach) (marked : List Bool) (which : Chosen) (k : ℕ) (column : List Item) (h : IsColumnTo boxes marked which k column) where
   pub passed_over : takes which (mark_of marked k) ≡ false → IsColumnTo boxes marked which (k + 1) column
   passed_over f = record {
@@ -48,7 +37,7 @@ module _ (boxes : List Reach) (marked : List Bool) (which : Chosen) (k : ℕ) (c
     where
       by : (i : ℕ) → takes which (mark_of marked i) ≡ true → (i < k) ⊎ (i ≡ k) → Contains column (item_of i (reach_of boxes i))
       by i t (inl l) = h.whole i l t
-      by i t (inr e) = clash (takes which (mark_of marked k)) (subst (λ (j : ℕ). takes which (mark_of marked j) ≡ true) e t) f
+      by i t (inr e) = not_both (takes which (mark_of marked k)) (subst (λ (j : ℕ). takes which (mark_of marked j) ≡ true) e t) f
 
   pub one_more : (new : List Item) → k < length boxes → new ≡ column ++ item_of k (reach_of boxes k) ∷ [] → IsColumnTo boxes marked which (k + 1) new
   one_more new m e = subst (IsColumnTo boxes marked which (k + 1)) (sym e) (record {

@@ -12,6 +12,7 @@ use Rattle.near_pairs.specs.declared.pairs.NearPair.{NearPair}
 use Rattle.near_pairs.specs.declared.reaches.Reach.{Reach}
 use Rattle.near_pairs.proofs.Meeting.{at_most}
 use Rattle.near_pairs.proofs.Best.{all_passed, met_kept, none_sought}
+use Rattle.near_pairs.proofs.Tests.{not_both}
 
 -- ---- boxes that share a place
 pub shared_back : (a b : Reach) → ShareAPlace (box_of a) (box_of b) → ShareAPlace (box_of b) (box_of a)
@@ -46,11 +47,7 @@ module _ (sought : ℕ → ℕ → Type 0) (boxes : List Reach) (marked : List B
 
       by : (t : Bool) → mark_of marked i ≡ t → (mark_of marked i ≡ true) ⊎ (mark_of marked j ≡ true) → AreMet sought best i j
       by true e h = met_kept sought first best i j kept (seen i (item_of j (reach_of boxes j)) l e (all_is.whole j m refl) b_in l_in)
-      by false e (inl h) = clash (mark_of marked i) h e
-        where
-          clash : {P : Type 0} (t : Bool) → t ≡ true → t ≡ false → P
-          clash true p q = cc
-          clash false p q = cc
+      by false e (inl h) = not_both (mark_of marked i) h e
       by false e (inr h) = seen_next i (item_of j (reach_of boxes j)) l (ap not e) (marks_is.whole j m h) b_in l_in
 
   near_passed : (i j : ℕ) → i < j → j < length boxes → AreNear boxes marked i j → IsPassed sought best i j

@@ -1,6 +1,5 @@
 -- How far the pairs of one box, and of all boxes before one, are met.
 use Rattle.std.proofs.Common.{◌≡◌, ◌⊎◌, inl, inr, ℕ, zero, suc, ◌+◌, ◌<◌, ◌≤◌, Bool, true, false, List, [], ◌∷◌, length, get_or, pos, Option, arith, refl, ap, sym, ◌∙◌, subst}
-use Rattle.std.proofs.lemmas.Bool.{cases_lt}
 use Rattle.std.specs.List.{All, Contains}
 use Rattle.near_pairs.specs.Boxes.{reach_of, mark_of}
 use Rattle.near_pairs.specs.Columns.{AreLevel, BeginsWithin, takes}
@@ -10,13 +9,7 @@ use Rattle.near_pairs.specs.declared.column.Item.{Item}
 use Rattle.near_pairs.specs.declared.pairs.NearPair.{NearPair}
 use Rattle.near_pairs.specs.declared.reaches.Reach.{Reach}
 use Rattle.near_pairs.proofs.Best.{met_kept}
-
-last_or_before : (i k : ℕ) → i < k + 1 → (i < k) ⊎ (i ≡ k)
-last_or_before i k l = by (cases_lt i k)
-  where
-    by : (i < k) ⊎ (k ≤ i) → (i < k) ⊎ (i ≡ k)
-    by (inl h) = inl h
-    by (inr h) = inr (omega (arith, l, h))
+use Rattle.near_pairs.proofs.Tests.{last_or_before, not_both}
 
 abbrev pub no_item : Item
 no_item = record { low_x = pos 0; low_y = pos 0; high_y = pos 0; number = 0 }
@@ -73,10 +66,6 @@ pub pass_start : (sought : ℕ → ℕ → Type 0) (boxes : List Reach) (marked 
     → IsPassTo sought boxes marked rows column start 0 start
 pass_start sought boxes marked rows column start f = record { found = f; kept = λ i j h. h; seen = λ i item l. absurd (omega (arith, l)) }
 
-clash : {P : Type 0} (t : Bool) → t ≡ true → t ≡ false → P
-clash true h k = cc
-clash false h k = cc
-
 module _ (sought : ℕ → ℕ → Type 0) (boxes : List Reach) (marked : List Bool) (rows : Chosen) (column : List Item) (start : Option NearPair) (k : ℕ) (best : Option NearPair)
     (h : IsPassTo sought boxes marked rows column start k best) where
   pub pass_over : takes rows (mark_of marked k) ≡ false → IsPassTo sought boxes marked rows column start (k + 1) best
@@ -88,7 +77,7 @@ module _ (sought : ℕ → ℕ → Type 0) (boxes : List Reach) (marked : List B
     where
       by : (i : ℕ) (item : Item) → takes rows (mark_of marked i) ≡ true → Contains column item → BeginsWithin (reach_of boxes i) item → AreLevel (reach_of boxes i) item → (i < k) ⊎ (i ≡ k) → AreMet sought best i item.number
       by i item t c b level (inl l) = h.seen i item l t c b level
-      by i item t c b level (inr e) = clash (takes rows (mark_of marked k)) (subst (λ (j : ℕ). takes rows (mark_of marked j) ≡ true) e t) f
+      by i item t c b level (inr e) = not_both (takes rows (mark_of marked k)) (subst (λ (j : ℕ). takes rows (mark_of marked j) ≡ true) e t) f
 
   pub pass_more : (next : Option NearPair) → IsFound sought (length boxes) next → ((i j : ℕ) → IsPassed sought best i j → IsPassed sought next i j)
       → ((item : Item) → Contains column item → BeginsWithin (reach_of boxes k) item → AreLevel (reach_of boxes k) item → AreMet sought next k item.number) → IsPassTo sought boxes marked rows column start (k + 1) next

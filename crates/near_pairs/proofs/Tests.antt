@@ -1,10 +1,8 @@
--- What tests of two whole numbers say.
-use Rattle.std.proofs.Common.{◌≡◌, Bool, true, false, not, ℤ, ◌<ℤ◌, ◌≤ℤ◌, int_lt, arith, refl, T, subst, sym}
+-- What tests say, of two whole numbers and in a loop.
+use Rattle.std.proofs.Common.{◌≡◌, ◌⊎◌, inl, inr, ℕ, ◌+◌, ◌<◌, ◌≤◌, Bool, true, false, not, ℤ, ◌<ℤ◌, ◌≤ℤ◌, int_lt, arith, refl, T, subst, sym}
 use Rattle.std.proofs.lemmas.Int.{ints}
+use Rattle.std.proofs.lemmas.Bool.{cases_lt}
 use Rattle.std.specs.Int.Signed.{lt_z_yes, lt_z_no}
-
-clash : {P : Type 0} → true ≡ false → P
-clash h = cc
 
 pub below_true : (a b : ℤ) → a <ℤ b → int_lt a b ≡ true
 below_true a b h = by (int_lt a b) refl
@@ -33,3 +31,14 @@ not_true false h = refl
 pub not_false : (t : Bool) → not t ≡ false → t ≡ true
 not_false true h = refl
 not_false false h = cc
+
+pub not_both : {P : Type 0} (t : Bool) → t ≡ true → t ≡ false → P
+not_both true h k = cc
+not_both false h k = cc
+
+pub last_or_before : (i k : ℕ) → i < k + 1 → (i < k) ⊎ (i ≡ k)
+last_or_before i k l = by (cases_lt i k)
+  where
+    by : (i < k) ⊎ (k ≤ i) → (i < k) ⊎ (i ≡ k)
+    by (inl h) = inl h
+    by (inr h) = inr (omega (arith, l, h))
