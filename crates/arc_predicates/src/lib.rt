@@ -36,6 +36,7 @@ mod trials;
 pub use circles::Circle;
 pub use circling::circle;
 pub use crossing::crosses;
-pub use placing::{is_away, place_of, side};
+pub use numbers::{determinant, dot};
+pub use placing::{is_at_most_zero, is_away, place_of, side};
 pub use sides::Side;
 pub use trials::Trial;

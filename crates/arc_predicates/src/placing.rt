@@ -96,8 +96,8 @@ fn side_of(circle: &Circle, x: i128, y: i128, n: i128) -> Side
     side_by(circle.d, over)
 }
 
-/// Whether the product d z is at most 0.
-fn is_at_most_zero(d: i128, z: i128) -> bool
+/// Whether the product d z is at most 0. The product itself is not made.
+pub fn is_at_most_zero(d: i128, z: i128) -> bool
     requires bent { d ≡ pos 0 → ⊥ }
     requires bound { IsWithin (2 ^ 126) z }
     ensures { IsTrue result ↔ ((d *ℤ z) ≤ℤ pos 0) }

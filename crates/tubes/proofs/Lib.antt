@@ -1,2 +1,9 @@
+pub mod ClearNumbers
+pub mod CornerTests
+pub mod CountNumbers
 pub mod EdgeLemmas
+pub mod Means
+pub mod Rounds
+pub mod SmallNumbers
+pub mod SpanNumbers
 pub mod TubePoints

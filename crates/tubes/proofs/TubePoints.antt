@@ -77,7 +77,7 @@ abbrev IsInner : HalfArc → Point → Type 0
 IsInner h v = (power h (point v) <ℤ pos 0) ⊎ (v ≡ h.to)
 
 -- what a refined list of points has
-record AreRefined (h : HalfArc) (n : ℕ) (vs : List Point) : Type 0 where
+pub record AreRefined (h : HalfArc) (n : ℕ) (vs : List Point) : Type 0 where
   pub size : length vs ≡ n
   pub sides : Each (IsInner h) vs
   pub end : Last (λ v. v ≡ h.to) vs
@@ -111,7 +111,7 @@ refined h p (q ∷ vs) ws e s l =
         none (u ∷ us) z m = absurd (omega (arith, z))
     joined us (w ∷ rest) r m = r.end
 
-inner_are : (h : HalfArc) (n : ℕ) (vs : List Point) → inner_points h n ≡ Some vs → AreRefined h (2 ^ n) vs
+pub inner_are : (h : HalfArc) (n : ℕ) (vs : List Point) → inner_points h n ≡ Some vs → AreRefined h (2 ^ n) vs
 unfolding inner_points
 inner_are h zero vs e = subst (AreRefined h 1) (some_same _ _ e) (record { size = refl; sides = (inr refl, tt); end = refl })
 inner_are h (suc n) vs e =
@@ -124,7 +124,7 @@ inner_are h (suc n) vs e =
     twice a n e = omega (arith, e)
 
 -- ---- the outer points
-outer_size : (h : HalfArc) (p : Point) (vs os : List Point) → outer_points h p vs ≡ Some os → length os ≡ length vs
+pub outer_size : (h : HalfArc) (p : Point) (vs os : List Point) → outer_points h p vs ≡ Some os → length os ≡ length vs
 unfolding outer_points
 outer_size h p [] os e = ap length (sym (some_same _ _ e))
 outer_size h p (q ∷ vs) os e =

@@ -1,2 +1,3 @@
 pub mod DrawnEdges
 pub mod HalfArcTubes
+pub mod Making

@@ -1,5 +1,15 @@
 // Edges, and what each of them stands for.
-use plane::Edge;
+use plane::{Edge, Point};
+
+/// The corners of a half arc's tube at a level. The inner points go from the half arc's first end
+/// to its other end, and over every two of them stands one outer point. The triangles of the tube
+/// are those of two neighbours with the outer point over them, and of two outer neighbours with the
+/// inner point between them.
+#[derive(Drop)]
+pub struct Tube {
+    pub inner: Vec<Point>,
+    pub outer: Vec<Point>,
+}
 
 /// Which edges of a curve an edge belongs to.
 #[derive(Clone, Copy, Debug, PartialEq, Eq)]

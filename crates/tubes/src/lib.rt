@@ -17,9 +17,18 @@
 //! Cost: linear in the curves; 40 bytes for each.
 #![tactic(auto)]
 
+mod clearing;
+mod conditions;
+mod counting;
 mod kinds;
 pub mod laws;
 mod listing;
+mod making;
+mod numbers;
+mod placing;
+mod refining;
+mod spans;
 
-pub use kinds::{EdgeList, Owner, Part};
+pub use kinds::{EdgeList, Owner, Part, Tube};
 pub use listing::edge_list;
+pub use making::tube;

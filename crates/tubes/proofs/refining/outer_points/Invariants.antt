@@ -1,0 +1,16 @@
+use Rattle.std.proofs.Common.{◌≡◌, ◌^◌, drop}
+use Rattle.plane.specs.Lists.{Each}
+use Rattle.plane.specs.Rule.Turns.{AreNear}
+use Rattle.arc_predicates.specs.Circles.{half_arc}
+use Rattle.tubes.specs.HalfArcTubes.{outer_points}
+use Rattle.tubes.specs.Making.{AreSteps}
+use Rattle.tubes.proofs.Rounds.{put_before}
+use Rattle.tubes.proofs.refining.outer_points.Given as goal
+
+abbrev pub invariant-loop-point : goal.invariant-loop-point
+invariant-loop-point l = record {
+  made : put_before l.outer.items (outer_points (half_arc l.circle) l.before (drop l.point-index l.inner)) ≡ outer_points (half_arc l.circle) l.circle.s l.inner;
+  before : AreNear (2 ^ 31) l.circle.s l.before;
+  near : Each (AreNear (2 ^ 31) l.circle.s) (drop l.point-index l.inner);
+  steps : AreSteps l.before (drop l.point-index l.inner);
+}
