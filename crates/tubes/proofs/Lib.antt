@@ -7,3 +7,4 @@ pub mod Rounds
 pub mod SmallNumbers
 pub mod SpanNumbers
 pub mod TubePoints
+pub mod TubeTriangles

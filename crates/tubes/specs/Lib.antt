@@ -1,3 +1,4 @@
 pub mod DrawnEdges
 pub mod HalfArcTubes
+pub mod Holding
 pub mod Making

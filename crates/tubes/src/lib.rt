@@ -20,6 +20,7 @@
 mod clearing;
 mod conditions;
 mod counting;
+mod holding;
 mod kinds;
 pub mod laws;
 mod listing;
@@ -29,6 +30,7 @@ mod placing;
 mod refining;
 mod spans;
 
+pub use holding::holds;
 pub use kinds::{EdgeList, Owner, Part, Tube};
 pub use listing::edge_list;
 pub use making::tube;
