@@ -20,6 +20,8 @@ mod drawings;
 #[cfg(test)]
 mod edge_lists;
 #[cfg(test)]
+mod half_arc_tubes;
+#[cfg(test)]
 mod labels;
 #[cfg(test)]
 mod meetings_of_edges;

@@ -3,6 +3,7 @@ use Rattle.std.specs.Prelude.{◌≡◌, ℕ, ◌+◌, ◌*◌, ◌/◌, ◌^◌
 use Rattle.std.specs.Global.{Vec}
 use Rattle.plane.specs.Lists.{Each, First, Last, Neighbours}
 use Rattle.plane.specs.Numbers.{IsWithin}
+use Rattle.plane.specs.Forms.Arcs.{along}
 use Rattle.plane.specs.Forms.Vectors.{point}
 use Rattle.plane.specs.Rule.HalfArcs.{HalfArc, bend, power}
 use Rattle.plane.specs.Rule.Turns.{AreNear}
@@ -54,6 +55,10 @@ over h p q = and_then (count h p q) (λ k. Some (beside h p q (pos ((5 * k) / 2 
 -- One bay of a tube.
 abbrev pub bay : Point → Point → Bay
 bay outer inner = record { outer = outer; inner = inner }
+
+-- Along the chord the three points strictly rise.
+abbrev pub Rise : HalfArc → Point → Point → Point → Type 0
+Rise h p q r = (along h (point p) <ℤ along h (point q)) × (along h (point q) <ℤ along h (point r))
 
 -- The square is less than four times how far the point is outside the circle; both are weighed by the square of the turn.
 abbrev pub IsFar : HalfArc → Point → ℤ → Type 0

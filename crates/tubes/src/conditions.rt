@@ -8,7 +8,7 @@ ghost use Rattle.plane.specs.Rule.Turns.{AreNear};
 ghost use Rattle.plane.specs.Tubes.Bays.{AreBays, AreNext, IsBay, bays, distance, outward};
 ghost use Rattle.arc_predicates.specs.Circles.{half_arc};
 ghost use Rattle.straight_predicates.specs.Signs.{HasSign};
-ghost use Rattle.tubes.specs.Making.{AreCorners, AreOutside, IsFar, IsUnder, bay};
+ghost use Rattle.tubes.specs.Making.{AreCorners, AreOutside, IsFar, IsUnder, Rise, bay};
 
 use super::clearing::{are_clear, is_far};
 use super::numbers::{difference, dot};
@@ -83,7 +83,8 @@ fn are_bays(circle: &Circle, inner: &[Point], outer: &[Point]) -> bool
     requires same { length inner.now ≡ length outer.now }
     requires inner { Each (AreNear (2 ^ 28) circle.now.s) inner.now }
     requires outer { Each (AreNear (2 ^ 28) circle.now.s) outer.now }
-    ensures { IsTrue result ↔ AreBays (half_arc circle.now) circle.now.s (bays inner.now outer.now) }
+    ensures { IsTrue result
+        ↔ AreBays (half_arc circle.now) circle.now.s (bays inner.now outer.now) }
 {
     let mut before = circle.s;
     for (i, &after) in inner.iter().enumerate() {
@@ -108,9 +109,7 @@ fn rises(circle: &Circle, before: Point, outer: Point, after: Point) -> bool
     requires before { AreNear (2 ^ 28) circle.now.s before }
     requires outer { AreNear (2 ^ 28) circle.now.s outer }
     requires after { AreNear (2 ^ 28) circle.now.s after }
-    ensures { IsTrue result
-        ↔ ((along (half_arc circle.now) (point before) <ℤ along (half_arc circle.now) (point outer))
-        × (along (half_arc circle.now) (point outer) <ℤ along (half_arc circle.now) (point after))) }
+    ensures { IsTrue result ↔ Rise (half_arc circle.now) before outer after }
 {
     let middle = along(circle, outer);
     along(circle, before) < middle && middle < along(circle, after)
@@ -167,7 +166,8 @@ fn are_next(circle: &Circle, inner: &[Point], outer: &[Point]) -> bool
     requires same { length inner.now ≡ length outer.now }
     requires inner { Each (AreNear (2 ^ 28) circle.now.s) inner.now }
     requires outer { Each (AreNear (2 ^ 28) circle.now.s) outer.now }
-    ensures { IsTrue result ↔ Neighbours (AreNext (half_arc circle.now)) (bays inner.now outer.now) }
+    ensures { IsTrue result
+        ↔ Neighbours (AreNext (half_arc circle.now)) (bays inner.now outer.now) }
 {
     for i in 1..outer.len() {
         if !is_next(circle, outer[i - 1], inner[i - 1], outer[i]) {

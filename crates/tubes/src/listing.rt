@@ -12,7 +12,7 @@ use std::alloc::Global;
 use straight_predicates::edge_between;
 
 /// The edges of the drawing: one for each straight, whatever the level. `None` where the drawing
-/// has a half arc, for which there are no tubes yet. The only error is want of memory.
+/// has a half arc, whose tube does not stand in this list. The only error is want of memory.
 pub fn edge_list(alloc: Global, drawing: &Drawing, level: u8) -> Result<Option<EdgeList>, Memory>
     ensures list { IfOk result (IsEdgeList (plan drawing.now)) }
     ensures few { length (edges_of (plan drawing.now)) < 2 ^ 30 }

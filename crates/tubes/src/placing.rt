@@ -53,7 +53,8 @@ pub fn beside(circle: &Circle, span: &Span, n: i64) -> Point
 /// The way from a to b, or back where the circle's three points turn right.
 fn turned(circle: &Circle, a: i64, b: i64) -> i64
     requires { IsNear (2 ^ 28) a b }
-    ensures value { result ≡ cond (is_positive (bend (half_arc circle.now))) (b -ℤ a) (a -ℤ b) }
+    ensures value { result
+        ≡ cond (is_positive (bend (half_arc circle.now))) (b -ℤ a) (a -ℤ b) }
     ensures bound { IsWithin (2 ^ 28) result }
 {
     if circle.d > 0 {
