@@ -1,7 +1,7 @@
 // The edges of small drawings.
 use plane::{Drawing, Edge, Point, Window2};
 use std::test::Fail;
-use tubes::{EdgeList, Owner, Part, edge_list};
+use tubes::{EdgeList, Owner, Part, edge_list, tubed_edge_list};
 
 const WINDOW: Window2 = Window2 {
     low: Point { x: 0, y: 0 },
@@ -13,6 +13,22 @@ const A: Point = Point { x: 0, y: 0 };
 const B: Point = Point { x: 0, y: 50 };
 
 const C: Point = Point { x: 50, y: 50 };
+
+/// The ends of the edges of the straight from C to A and of the half arcs from A over B to C, at
+/// level 0, and what each edge is of which curve.
+const TUBED: [([i64; 4], u32, Part); 11] = [
+    ([0, 0, 50, 50], 0, Part::Straight),
+    ([-10, 25, 0, 0], 1, Part::Inner),
+    ([-10, 25, 0, 50], 1, Part::Inner),
+    ([-19, 7, 0, 0], 1, Part::Outer),
+    ([-19, 7, -19, 42], 1, Part::Outer),
+    ([-19, 42, 0, 50], 1, Part::Outer),
+    ([0, 50, 25, 60], 2, Part::Inner),
+    ([25, 60, 50, 50], 2, Part::Inner),
+    ([0, 50, 6, 70], 2, Part::Outer),
+    ([6, 70, 43, 70], 2, Part::Outer),
+    ([43, 70, 50, 50], 2, Part::Outer),
+];
 
 #[test]
 fn straights_have_edges_and_half_arcs_none_yet(rt: HostRuntime) -> Result<(), Fail> {
@@ -36,5 +52,30 @@ fn straights_have_edges_and_half_arcs_none_yet(rt: HostRuntime) -> Result<(), Fa
     assert_eq!(rt; owners[2], last);
     drawing.add_arc(A, B, C, 4, 5)?;
     assert!(rt; edge_list(rt.alloc(), &drawing, 5)?.is_none());
+    assert!(rt; tubed_edge_list(rt.alloc(), &drawing, 5)?.is_none());
+    Ok(())
+}
+
+#[test]
+fn half_arcs_have_the_chains_of_their_tubes(rt: HostRuntime) -> Result<(), Fail> {
+    let mut drawing = Drawing::new(rt.alloc(), WINDOW);
+    drawing.add_straight(C, A, 1)?;
+    drawing.add_arc(A, B, C, 2, 3)?;
+    let list = tubed_edge_list(rt.alloc(), &drawing, 0)?;
+    let EdgeList { edges, owners } = list.expect(&rt, "edges");
+    assert_eq!(rt; edges.len(), TUBED.len());
+    assert_eq!(rt; owners.len(), TUBED.len());
+    for ((edge, owner), (ends, curve, part)) in edges.iter().zip(&owners).zip(TUBED) {
+        let [low_x, low_y, high_x, high_y] = ends;
+        let want = Edge {
+            low: Point { x: low_x, y: low_y },
+            high: Point {
+                x: high_x,
+                y: high_y,
+            },
+        };
+        assert_eq!(rt; *edge, want);
+        assert_eq!(rt; *owner, Owner { curve, part });
+    }
     Ok(())
 }

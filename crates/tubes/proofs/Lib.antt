@@ -1,3 +1,4 @@
+pub mod ChainEdges
 pub mod ClearNumbers
 pub mod CornerTests
 pub mod CountNumbers

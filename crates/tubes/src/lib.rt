@@ -41,8 +41,10 @@ mod numbers;
 mod placing;
 mod refining;
 mod spans;
+mod tubed_listing;
 
 pub use holding::holds;
 pub use kinds::{EdgeList, Owner, Part, Tube};
 pub use listing::edge_list;
 pub use making::tube;
+pub use tubed_listing::tubed_edge_list;

@@ -1,0 +1,35 @@
+use Rattle.std.proofs.Common.{◌≡◌, ◌<◌, true, List, get_or, length, pos, subst, sym}
+use Rattle.plane.specs.Rule.Curves.{arc}
+use Rattle.plane.specs.Rule.Plans.{curve, plan, straight}
+use Rattle.plane.specs.declared.kinds.Curve.{Curve}
+use Rattle.plane.specs.declared.kinds.CurveKind.TheVariants as kind
+use Rattle.tubes.specs.TubedEdges.{HasTube, IsAdded, IsFit}
+use Rattle.tubes.proofs.ChainEdges.{fit, list_step, one_more}
+use Rattle.tubes.proofs.tubed_listing.tubed_edge_list.Goals as goal
+
+pub add_curve-requires-clause-fit : goal.add_curve-requires-clause-fit
+add_curve-requires-clause-fit c =
+    let z = straight (record { x = pos 0; y = pos 0 }) (record { x = pos 0; y = pos 0 }) 0 in
+    let d = c.deref-curve-items.ensures.value in
+    let l = subst (λ (cs : List Curve). c.loop-i.i < length cs) d c.loop-i-test.true in
+    subst (λ (cs : List Curve). IsFit (get_or cs c.loop-i.i z)) (sym d) (fit c.args.drawing.now.window _ (c.args.drawing.now.curves_drawn c.loop-i.i z l))
+
+pub loop-i-preserved : goal.loop-i-preserved
+loop-i-preserved c =
+    let z = straight (record { x = pos 0; y = pos 0 }) (record { x = pos 0; y = pos 0 }) 0 in
+    let p = plan c.args.drawing.now in
+    let i = c.loop-i.i in
+    let d = c.deref-curve-items.ensures.value in
+    let l = subst (λ (cs : List Curve). i < length cs) d c.loop-i-test.true in
+    let old = c.loop-i.edges.items in
+    let past = c.loop-i.owners.items in
+    let new = c.add_curve.new.edges.items in
+    let more = c.add_curve.new.owners.items in
+    let a = subst (IsAdded i (get_or c.deref-curve-items.result.now i z) c.args.level old new past more) c.if-not-branch.false c.in_ok-add_curve.ensures in
+    let b = subst (λ (cs : List Curve). IsAdded i (get_or cs i z) c.args.level old new past more true) d a in
+    let s = list_step p c.args.level i old new _ past more _ l b.1 c.loop-i.invariant.edges c.loop-i.invariant.owners in
+    record {
+      edges = s.0;
+      owners = s.1;
+      tubes = one_more (λ k. (curve p k).kind ≡ kind.HalfArc → HasTube (arc (curve p k)) c.args.level) i c.loop-i.invariant.tubes b.0;
+    }
