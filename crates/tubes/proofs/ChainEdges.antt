@@ -107,14 +107,14 @@ corners_back [] (o ∷ os) e = absurd (omega (arith, e))
 corners_back (v ∷ vs) [] e = absurd (omega (arith, e))
 corners_back (v ∷ vs) (o ∷ os) e = let r = corners_back vs os (omega (arith, e)) in (ap (λ s. v ∷ s) r.0, ap (λ s. o ∷ s) r.1)
 
-bays_are : (h : HalfArc) (level : ℕ) (vs os : List Point) → IsTubeOf h level vs os → bays_at h level ≡ bays vs os
+pub bays_are : (h : HalfArc) (level : ℕ) (vs os : List Point) → IsTubeOf h level vs os → bays_at h level ≡ bays vs os
 unfolding bays_at
 bays_are h level vs os t =
     let e : made (inner_points h (level + 1)) ≡ vs = ap made t.inner_made in
     let f : made (outer_points h h.from (made (inner_points h (level + 1)))) ≡ os = ap (λ vs. made (outer_points h h.from vs)) e ∙ ap made t.outer_made in
     ap (λ vs. bays vs (made (outer_points h h.from (made (inner_points h (level + 1)))))) e ∙ ap (bays vs) f
 
-owned_are : (i : ℕ) (c : Curve) (level : ℕ) (vs os : List Point) → IsTubeOf (arc c) level vs os
+pub owned_are : (i : ℕ) (c : Curve) (level : ℕ) (vs os : List Point) → IsTubeOf (arc c) level vs os
     → runs.edges_of i kind.HalfArc c (bays_at (arc c) level) ≡ runs.chain i runs.inner c.from vs ++ runs.chain i runs.outer c.from (os ++ c.to ∷ [])
 owned_are i c level vs os t =
     let n = outer_size (arc c) c.from vs os t.outer_made in

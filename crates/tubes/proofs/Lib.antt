@@ -3,9 +3,11 @@ pub mod ClearNumbers
 pub mod CornerTests
 pub mod CountNumbers
 pub mod EdgeLemmas
+pub mod ListedEdges
 pub mod Means
 pub mod Rounds
 pub mod SmallNumbers
 pub mod SpanNumbers
 pub mod TubePoints
 pub mod TubeTriangles
+pub mod UsableEdges

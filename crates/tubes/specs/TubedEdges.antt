@@ -1,9 +1,9 @@
 -- The edges of a drawing whose half arcs have tubes at a level, each with its curve.
-use Rattle.std.specs.Prelude.{◌≡◌, ℕ, ◌+◌, Bool, true, false, Option, Some, None, List, [], ◌∷◌, ◌++◌, map}
+use Rattle.std.specs.Prelude.{◌≡◌, ℕ, ◌+◌, ◌<◌, Bool, true, false, Option, Some, None, List, [], ◌∷◌, ◌++◌, length, map}
 use Rattle.plane.specs.CurveRuns.TubedRuns as runs
 use Rattle.plane.specs.Rule.Curves.{arc}
 use Rattle.plane.specs.Rule.HalfArcs.{HalfArc}
-use Rattle.plane.specs.Rule.Plans.{IsHalfArc, Plan, curve}
+use Rattle.plane.specs.Rule.Plans.{IsHalfArc, Plan, curve, object}
 use Rattle.plane.specs.Tubes.Bays.{Bay, bays}
 use Rattle.plane.specs.Rule.Windows.{IsShort}
 use Rattle.plane.specs.declared.kinds.Curve.{Curve}
@@ -11,6 +11,7 @@ use Rattle.plane.specs.declared.kinds.CurveKind.TheVariants as kind
 use Rattle.plane.specs.declared.kinds.Edge.{Edge}
 use Rattle.plane.specs.declared.kinds.Point.{Point}
 use Rattle.arc_predicates.specs.Circles.{AreClose}
+use Rattle.straight_predicates.specs.EdgeLists.{AreAllClose, AreSorted, IsCloseToAll}
 use Rattle.tubes.specs.DrawnEdges.{edge_from}
 use Rattle.tubes.specs.HalfArcTubes.{HasNoTube, IsTubeOf, inner_points, outer_points}
 use Rattle.tubes.specs.declared.kinds.EdgeList.{EdgeList}
@@ -59,6 +60,16 @@ pub record IsTubedList (d : Plan) (level : ℕ) (list : EdgeList) : Type 0 where
 abbrev pub IsListAt : Plan → ℕ → Option EdgeList → Type 0
 IsListAt d level None = (i : ℕ) × IsHalfArc d i × HasNoTube (arc (curve d i)) level
 IsListAt d level (Some list) = IsTubedList d level list
+
+-- The edges have their low ends first, and are close enough to each other and to the objects' points for the exact predicates.
+pub record AreUsable (d : Plan) (edges : List Edge) : Type 0 where
+  pub sorted : AreSorted edges
+  pub close : AreAllClose edges
+  pub points : (j : ℕ) → j < length d.points → IsCloseToAll edges (object d j)
+
+abbrev pub IsUsable : Plan → Option EdgeList → Type 0
+IsUsable d None = Unit {0}
+IsUsable d (Some list) = AreUsable d list.edges.items
 
 -- ---- what the code adds
 -- The edges from p through the points in turn, and one owner for each of them.

@@ -2,31 +2,37 @@
 //!
 //! - **What it answers.** `tube` gives the tube of a half arc at a level from 0 to 5: corners by
 //!   whole numbers, whose triangles cover the half arc. `holds` tells whether a point is in one of
-//!   a tube's closed triangles. `edge_list` gives one edge for each straight of a drawing, in the
-//!   order of the curves, from the end that comes first by x, then y, to the other one, each with
-//!   its curve.
+//!   a tube's closed triangles. `tubed_edge_list` gives the edges that stand for the curves of a
+//!   drawing at a level, in their order, each with its curve: for a straight its edge, from the end
+//!   that comes first by x, then y, to the other one; for a half arc the inner chain of its tube,
+//!   then the outer one. `edge_list` gives the same for drawings of straights alone.
 //! - **The rule that it serves.** `specs/HalfArcTubes.antt` says which corners a tube has and when
 //!   there is none (`IsTubeOf`, `HasNoTube`); `tube` is exact both ways. What the definition calls
 //!   a tube is one in the sense of the laws of `plane::arcs`, so it covers the half arc
 //!   (`laws::tubes_of_half_arcs`). Two straights meet badly exactly where their edges do; the edge
 //!   of each number is that of the curve of that number (`laws::edges_of_drawing`).
-//! - **How a tube is made.** The points between two neighbours lie beside their middle, so far from
-//!   it as their count says: the greatest number, by its bits, for which the point is still inside
-//!   the circle (`counting`). Between every two neighbours a new one is put, level + 1 times, and
-//!   then an outer one over every two (`refining`); then the conditions are asked (`conditions`,
-//!   `clearing`).
+//! - **How a tube is made.** The points between two neighbours lie beside their middle, as far from
+//!   it as their count says: a number made bit by bit, each bit taken where the point is still
+//!   inside the circle (`counting`). Between every two neighbours a new one is put, level + 1
+//!   times, and then an outer one over every two (`refining`); then the conditions are asked
+//!   (`conditions`, `clearing`).
 //! - **Widths.** All counts and points are computed in 64 bits, relative to the first of two
 //!   neighbours, which never differ by 2^28 in a coordinate; the circle's numbers in 128. Each
 //!   product's width stands beside it.
-//! - **Not here yet: tubes in the edge list.** `edge_list` answers `None` exactly where the drawing
-//!   has a half arc, whatever the level.
-//! - **Degenerate cases.** Third points on either side, half a turn and more, collinear points and
-//!   half arcs of a few units are taken by `tube`: it gives none. No curve, upright straights,
-//!   straights that are delivered backwards and equal straights are taken by `edge_list`.
+//! - **When there is no list.** `tubed_edge_list` answers `None` exactly where a half arc has no
+//!   tube at the level, `edge_list` exactly where the drawing has a half arc, whatever the level.
+//! - **What the lists are for.** Their edges rise, and are close enough to each other and to the
+//!   objects' points for the exact predicates. A list at a level is what the laws of
+//!   `plane::arc_drawings` ask of a drawing's edges (`laws::edges_of_tubed_drawing`).
+//! - **Not here:** whether a drawing is settled at a level, and which two curves break it.
+//! - **Degenerate cases.** `tube` takes third points on either side; half a turn and more, collinear
+//!   points and half arcs of a few units have no tube. No curve, upright straights, straights that
+//!   are delivered backwards and equal straights are taken by both lists.
 //!
 //! Cost: with K = 2^(level + 1) a tube takes 2 K - 1 counts, each one root and 28 sides of points,
 //! 32 K bytes, and while it is made at most twice that. `holds` takes at most four turns for each
-//! of the 2 K - 1 triangles, and no memory. `edge_list` is linear in the curves: 40 bytes for each.
+//! of the 2 K - 1 triangles, and no memory. A list is linear in the curves and the tubes that it
+//! makes: 40 bytes an edge, 2 K + 1 edges for each half arc, and room for more as it grows.
 #![tactic(auto)]
 
 mod clearing;

@@ -3,7 +3,7 @@ ghost use Rattle.std.specs.Prelude.{◌≡◌, ◌++◌, ◌∷◌, [], ◌≤�
 ghost use Rattle.plane.specs.Rule.Plans.{plan};
 ghost use Rattle.plane.specs.declared.kinds.CurveKind.TheVariants as kind;
 ghost use Rattle.tubes.specs.DrawnEdges.{edge_from};
-ghost use Rattle.tubes.specs.TubedEdges.{AreDistinct, IsAdded, IsFit, IsListAt, IsTubeAdded};
+ghost use Rattle.tubes.specs.TubedEdges.{AreDistinct, IsAdded, IsFit, IsListAt, IsTubeAdded, IsUsable};
 ghost use Rattle.tubes.specs.TubedEdges.{chain_edges, each_owner};
 
 use super::kinds::{EdgeList, Owner, Part, Tube};
@@ -22,7 +22,8 @@ pub fn tubed_edge_list(
     level: u8,
 ) -> Result<Option<EdgeList>, Memory>
     requires { level ≤ 5 }
-    ensures { IfOk result (IsListAt (plan drawing.now) level) }
+    ensures list { IfOk result (IsListAt (plan drawing.now) level) }
+    ensures usable { IfOk result (IsUsable (plan drawing.now)) }
 {
     let mut edges = Vec::with_capacity(alloc, drawing.curves.len())?;
     let mut owners = Vec::with_capacity(alloc, drawing.curves.len())?;

@@ -1,10 +1,11 @@
-use Rattle.std.proofs.Common.{◌≡◌, ◌<◌, true, List, get_or, length, pos, subst, sym}
+use Rattle.std.proofs.Common.{◌≡◌, ◌<◌, ◌≤◌, arith, true, List, get_or, length, pos, subst, sym}
 use Rattle.plane.specs.Rule.Curves.{arc}
 use Rattle.plane.specs.Rule.Plans.{curve, plan, straight}
 use Rattle.plane.specs.declared.kinds.Curve.{Curve}
 use Rattle.plane.specs.declared.kinds.CurveKind.TheVariants as kind
 use Rattle.tubes.specs.TubedEdges.{HasTube, IsAdded, IsFit}
-use Rattle.tubes.proofs.ChainEdges.{fit, list_step, one_more}
+use Rattle.tubes.proofs.ChainEdges.{fit, list_ends, list_step, one_more}
+use Rattle.tubes.proofs.UsableEdges.{usable}
 use Rattle.tubes.proofs.tubed_listing.tubed_edge_list.Goals as goal
 
 pub add_curve-requires-clause-fit : goal.add_curve-requires-clause-fit
@@ -33,3 +34,11 @@ loop-i-preserved c =
       owners = s.1;
       tubes = one_more (λ k. (curve p k).kind ≡ kind.HalfArc → HasTube (arc (curve p k)) c.args.level) i c.loop-i.invariant.tubes b.0;
     }
+
+pub returns-clause-usable : goal.returns-clause-usable
+returns-clause-usable c =
+    let p = plan c.args.drawing.now in
+    let i = c.loop-i.i in
+    let l = subst (λ (cs : List Curve). length cs ≤ i) c.deref-curve-items.ensures.value c.loop-i-test.false in
+    let e = list_ends p c.args.level i c.loop-i.edges.items _ c.loop-i.owners.items _ l c.loop-i.invariant.edges c.loop-i.invariant.owners in
+    usable p c.args.level c.loop-i.edges.items c.args.drawing.now.curves_drawn c.args.drawing.now.points_inside (λ k h. let t = h.there in c.loop-i.invariant.tubes k (omega (arith, t, l)) h.kind) e.0
