@@ -1,5 +1,5 @@
 -- The edges of chains, and of the curves of a drawing with tubes.
-use Rattle.std.proofs.Common.{◌≡◌, ℕ, zero, suc, ◌+◌, ◌<◌, ◌≤◌, ◌^◌, List, [], ◌∷◌, ◌++◌, map, length, take, ◌-◌, drop, ℤ, ◌<ℤ◌, ◌≤ℤ◌, arith, ap, refl, sym, ◌∙◌, subst, append_assoc, append-nil, add-one, drop-cons}
+use Rattle.std.proofs.Common.{◌≡◌, ℕ, suc, ◌+◌, ◌<◌, ◌≤◌, ◌^◌, List, [], ◌∷◌, ◌++◌, map, length, take, ◌-◌, drop, ℤ, ◌<ℤ◌, ◌≤ℤ◌, arith, ap, refl, sym, ◌∙◌, subst, append_assoc, append-nil, add-one, drop-cons}
 use Rattle.std.proofs.lemmas.Grind.{common_steps}
 use Rattle.std.proofs.lemmas.Int.{ints}
 use Rattle.plane.specs.CurveRuns.TubedRuns as runs
@@ -23,7 +23,7 @@ use Rattle.tubes.specs.DrawnEdges.{edge_from}
 use Rattle.tubes.specs.HalfArcTubes.{IsTubeOf, inner_points, outer_points}
 use Rattle.tubes.specs.TubedEdges.{AreDistinct, AreGrown, IsFit, bays_at, chain_edges, drawn_bays, each_owner, edge_as, made, owner_as, part_of}
 use Rattle.tubes.specs.declared.kinds.Owner.{Owner}
-use Rattle.tubes.proofs.TubePoints.{inner_are, outer_size}
+use Rattle.tubes.proofs.TubePoints.{inner_are, outer_size, power_positive}
 
 map_app : {X Y : Type 0} (f : X → Y) (xs ys : List X) → map f (xs ++ ys) ≡ map f xs ++ map f ys
 map_app f [] ys = refl
@@ -84,10 +84,6 @@ outer_distinct : (h : HalfArc) (to v : Point) (vs os : List Point) → length os
 outer_distinct h to v [] os e l b n = absurd (omega (arith, l))
 outer_distinct h to v (w ∷ vs) [] e l b n = absurd (omega (arith, e))
 outer_distinct h to v (w ∷ vs) (o ∷ os) e l b n = (rising h v o b.0.up, outer_rest h to o w vs os (omega (arith, e)) b.0.on b.1 n)
-
-power_positive : (k : ℕ) → 0 < 2 ^ k
-power_positive zero = omega arith
-power_positive (suc k) = let h = power_positive k in omega (arith, h)
 
 some_inner : (h : HalfArc) (level : ℕ) (vs os : List Point) → IsTubeOf h level vs os → 0 < length vs
 some_inner h level vs os t = subst (λ (n : ℕ). 0 < n) (sym (inner_are h (level + 1) vs t.inner_made).size) (power_positive (level + 1))

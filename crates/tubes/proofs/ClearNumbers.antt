@@ -2,7 +2,7 @@
 use Rattle.std.proofs.Common.{◌≡◌, ◌↔◌, ◌^◌, ◌*◌, ◌+◌, ℕ, zero, suc, ◌<◌, length, Bool, true, false, not, IsTrue, ℤ, pos, ◌+ℤ◌, ◌*ℤ◌, ◌-ℤ◌, ◌<ℤ◌, ◌≤ℤ◌, [], ◌∷◌, List, arith, ap, refl, ◌∙◌, subst}
 use Rattle.std.proofs.lemmas.Int.{by_lt_z, ints}
 use Rattle.plane.specs.Forms.Vectors.{point}
-use Rattle.plane.specs.Lists.{Each, First, Last}
+use Rattle.plane.specs.Lists.{First, Last}
 use Rattle.plane.specs.Numbers.{IsWithin}
 use Rattle.plane.specs.Rule.HalfArcs.{bend, power}
 use Rattle.plane.specs.Tubes.Bays.{ahead_of_from, ahead_of_to}
@@ -13,8 +13,8 @@ use Rattle.arc_predicates.specs.Circles.{half_arc}
 use Rattle.arc_predicates.specs.declared.circles.Circle.{Circle}
 use Rattle.arc_predicates.proofs.PlaceNumbers.{bend_within, circle_x_within, circle_y_within, one_part, power_is, seen_is}
 use Rattle.arc_predicates.proofs.Sums.{within_by}
+use Rattle.tubes.specs.Holding.{nth}
 use Rattle.tubes.specs.Making.{IsFar}
-use Rattle.tubes.proofs.Rounds.{nth_point}
 
 -- ---- widths of a circle's numbers
 pub d_within : (k : Circle) → IsWithin (2 ^ 53) k.d
@@ -89,22 +89,13 @@ pub seen_within : (d u way r : ℤ) → IsWithin (2 ^ 53) d → IsWithin (2 ^ 80
 seen_within d u way r h i j e = let p = within_product (2 ^ 53) (2 ^ 29) d way h j in omega (arith, ints, p, i, e)
 
 -- ---- the first and the last of a list
-pub first_as : (P : Point → Type 0) (vs : List Point) → 0 < length vs → First P vs ↔ P (nth_point vs 0)
+pub first_as : (P : Point → Type 0) (vs : List Point) → 0 < length vs → First P vs ↔ P (nth vs 0)
 first_as P [] l = absurd (omega (arith, l))
 first_as P (v ∷ vs) l = ((λ h. h), (λ h. h))
 
-pub last_as : (P : Point → Type 0) (vs : List Point) (n : ℕ) → length vs ≡ suc n → Last P vs ↔ P (nth_point vs n)
+pub last_as : (P : Point → Type 0) (vs : List Point) (n : ℕ) → length vs ≡ suc n → Last P vs ↔ P (nth vs n)
 last_as P [] n e = absurd (omega (arith, e))
 last_as P (v ∷ []) zero e = ((λ h. h), (λ h. h))
 last_as P (v ∷ []) (suc n) e = absurd (omega (arith, e))
 last_as P (v ∷ (w ∷ vs)) zero e = absurd (omega (arith, e))
 last_as P (v ∷ (w ∷ vs)) (suc n) e = last_as P (w ∷ vs) n (omega (arith, e))
-
-pub each_at : (P : Point → Type 0) (vs : List Point) (n : ℕ) → n < length vs → Each P vs → P (nth_point vs n)
-each_at P [] n l h = absurd (omega (arith, l))
-each_at P (v ∷ vs) zero l h = h.0
-each_at P (v ∷ vs) (suc n) l h = each_at P vs n (omega (arith, l)) h.1
-
-pub none_to_clear : (P Q : Point → Type 0) (vs : List Point) → length vs ≡ 0 → First P vs × Last Q vs
-none_to_clear P Q [] e = (tt, tt)
-none_to_clear P Q (v ∷ vs) e = absurd (omega (arith, e))

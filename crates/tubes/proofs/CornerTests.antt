@@ -20,8 +20,8 @@ use Rattle.arc_predicates.specs.declared.circles.Circle.{Circle}
 use Rattle.straight_predicates.specs.Signs.{HasSign}
 use Rattle.straight_predicates.specs.declared.turns.Turn.{Turn}
 use Rattle.straight_predicates.specs.declared.turns.Turn.TheVariants as turn
+use Rattle.tubes.specs.Holding.{nth}
 use Rattle.tubes.specs.Making.{AreCorners, AreOutside, IsFar, IsUnder, bay}
-use Rattle.tubes.proofs.Rounds.{nth_point}
 
 -- ---- near points
 pub near_by_sizes : (a b : ℤ) (m : ℕ) → (unsigned_abs (a -ℤ b) < m) ↔ IsNear m a b
@@ -99,7 +99,7 @@ pub under_next : (h : HalfArc) (o v n w : Point) → IsUnder h o v n ↔ AreNext
 under_next h o v n w = ((λ u. record { under = u.under; first_far = u.first_far; second_far = u.second_far }), (λ u. record { under = u.under; first_far = u.first_far; second_far = u.second_far }))
 
 next_split : (h : HalfArc) (vs os : List Point) (j : ℕ) → suc j < length os → length vs ≡ length os
-    → Neighbours (AreNext h) (bays (drop j vs) (drop j os)) ↔ (IsUnder h (nth_point os j) (nth_point vs j) (nth_point os (suc j)) × Neighbours (AreNext h) (bays (drop (suc j) vs) (drop (suc j) os)))
+    → Neighbours (AreNext h) (bays (drop j vs) (drop j os)) ↔ (IsUnder h (nth os j) (nth vs j) (nth os (suc j)) × Neighbours (AreNext h) (bays (drop (suc j) vs) (drop (suc j) os)))
 next_split h [] (o ∷ os) j l e = absurd (omega (arith, e))
 next_split h vs [] j l e = absurd (omega (arith, l))
 next_split h (v ∷ []) (o ∷ os) zero l e = absurd (omega (arith, l, e))
@@ -108,10 +108,10 @@ next_split h (v ∷ (w ∷ vs)) (o ∷ (n ∷ os)) zero l e = let u = under_next
 next_split h (v ∷ vs) (o ∷ os) (suc j) l e = next_split h vs os j (omega (arith, l)) (omega (arith, e))
 
 pub next_at : (h : HalfArc) (vs os : List Point) (i : ℕ) → 1 ≤ i → i < length os → length vs ≡ length os
-    → Neighbours (AreNext h) (bays (drop (i - 1) vs) (drop (i - 1) os)) ↔ (IsUnder h (nth_point os (i - 1)) (nth_point vs (i - 1)) (nth_point os i) × Neighbours (AreNext h) (bays (drop i vs) (drop i os)))
+    → Neighbours (AreNext h) (bays (drop (i - 1) vs) (drop (i - 1) os)) ↔ (IsUnder h (nth os (i - 1)) (nth vs (i - 1)) (nth os i) × Neighbours (AreNext h) (bays (drop i vs) (drop i os)))
 next_at h vs os i f l e =
     let s : suc (i - 1) ≡ i = omega (arith, f) in
-    subst (λ i2. Neighbours (AreNext h) (bays (drop (i - 1) vs) (drop (i - 1) os)) ↔ (IsUnder h (nth_point os (i - 1)) (nth_point vs (i - 1)) (nth_point os i2) × Neighbours (AreNext h) (bays (drop i2 vs) (drop i2 os)))) s
+    subst (λ i2. Neighbours (AreNext h) (bays (drop (i - 1) vs) (drop (i - 1) os)) ↔ (IsUnder h (nth os (i - 1)) (nth vs (i - 1)) (nth os i2) × Neighbours (AreNext h) (bays (drop i2 vs) (drop i2 os)))) s
     (next_split h vs os (i - 1) (omega (arith, f, l)) e)
 
 no_bays : (h : HalfArc) (vs : List Point) → Neighbours (AreNext h) (bays vs [])

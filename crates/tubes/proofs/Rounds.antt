@@ -1,5 +1,5 @@
 -- The points of a tube round by round: what is made for two neighbours, what is made for a list of them, and how near they stay.
-use Rattle.std.proofs.Common.{rules, ◌≡◌, ℕ, zero, suc, ◌+◌, ◌-◌, ◌*◌, ◌/◌, ◌<◌, ◌≤◌, ◌^◌, Bool, true, false, cond, nat_lt, Option, None, Some, List, [], ◌∷◌, ◌++◌, length, drop, get_or, ℤ, pos, ◌+ℤ◌, ◌*ℤ◌, ◌-ℤ◌, ◌<ℤ◌, ◌≤ℤ◌, arith, ap, refl, sym, ◌∙◌, subst, append_assoc, append-nil, add-one, drop-cons}
+use Rattle.std.proofs.Common.{rules, ◌≡◌, ℕ, zero, suc, ◌+◌, ◌-◌, ◌*◌, ◌/◌, ◌<◌, ◌≤◌, ◌^◌, Bool, true, false, cond, nat_lt, Option, None, Some, List, [], ◌∷◌, ◌++◌, length, drop, ℤ, pos, ◌+ℤ◌, ◌*ℤ◌, ◌-ℤ◌, ◌<ℤ◌, ◌≤ℤ◌, arith, ap, refl, sym, ◌∙◌, subst, append_assoc, append-nil, add-one, drop-cons}
 use Rattle.std.proofs.lemmas.Grind.{common_steps}
 use Rattle.std.proofs.lemmas.Int.{ints}
 use Rattle.std.proofs.Math.Pow.{pow_mono}
@@ -9,9 +9,10 @@ use Rattle.plane.specs.Rule.HalfArcs.{HalfArc, HasCircle}
 use Rattle.plane.specs.Rule.Turns.{AreNear}
 use Rattle.plane.specs.declared.kinds.Point.{Point}
 use Rattle.tubes.specs.HalfArcTubes.{and_then, beside, count, inner_points, is_inside, outer_points, refine, whole_distance, with_bits}
+use Rattle.tubes.specs.Holding.{nth}
 use Rattle.tubes.specs.Making.{AreSteps, middle, over}
 use Rattle.tubes.proofs.CountNumbers.{IsBeside, is_beside, near_more}
-use Rattle.tubes.proofs.TubePoints.{inner_are, taken}
+use Rattle.tubes.proofs.TubePoints.{inner_are, some_same, taken}
 
 -- ---- the count
 bits_below : (test : ℕ → Bool) (b k : ℕ) → with_bits test b k < k + 2 ^ b
@@ -22,9 +23,6 @@ bits_below test (suc b) k = by_test (test (k + 2 ^ b)) (bits_below test b (k + 2
     by_test : (t : Bool) → with_bits test b (k + 2 ^ b) < (k + 2 ^ b) + 2 ^ b → with_bits test b k < k + 2 ^ b → with_bits test b (cond t (k + 2 ^ b) k) < k + 2 ^ suc b
     by_test true h g = omega (arith, h)
     by_test false h g = omega (arith, g)
-
-some_same : {X : Type 0} (x y : X) → Some x ≡ Some y → x ≡ y
-some_same x y e = ap (λ o. elim o [ None ↦ x | Some z ↦ z ]) e
 
 pub record IsCounted (h : HalfArc) (p q : Point) (k : ℕ) : Type 0 where
   pub some : 0 < whole_distance p q
@@ -224,11 +222,8 @@ first_round h vs e = ap (λ s. Some s) (sym e)
 pub all_dropped : (vs : List Point) (n : ℕ) → length vs ≤ n → drop n vs ≡ []
 all_dropped vs n l = grind (arith, common_steps)
 
-abbrev pub nth_point : List Point → ℕ → Point
-nth_point vs n = get_or vs n (record { x = pos 0; y = pos 0 })
-
-pub dropped : (vs : List Point) (n : ℕ) → n < length vs → drop n vs ≡ nth_point vs n ∷ drop (n + 1) vs
-dropped vs n l = drop-cons vs n (record { x = pos 0; y = pos 0 }) l ∙ ap (λ m. nth_point vs n ∷ drop m vs) (sym (add-one n))
+pub dropped : (vs : List Point) (n : ℕ) → n < length vs → drop n vs ≡ nth vs n ∷ drop (n + 1) vs
+dropped vs n l = drop-cons vs n (record { x = pos 0; y = pos 0 }) l ∙ ap (λ m. nth vs n ∷ drop m vs) (sym (add-one n))
 
 pub few_points : (h : HalfArc) (n : ℕ) (vs : List Point) → n ≤ 6 → inner_points h n ≡ Some vs → length vs < 2 ^ 20
 few_points h n vs l e = let r = (inner_are h n vs e).size in let p = pow_mono l in omega (arith, r, p)

@@ -11,7 +11,7 @@ use Rattle.plane.specs.Tubes.Bays.{Bay, IsSome, IsTube, bays}
 use Rattle.tubes.specs.HalfArcTubes.{IsTubeOf, and_then, beside, count, inner_points, is_inside, outer_points, refine, root, with_bits}
 
 -- ---- options
-some_same : {X : Type 0} (x y : X) → Some x ≡ Some y → x ≡ y
+pub some_same : {X : Type 0} (x y : X) → Some x ≡ Some y → x ≡ y
 some_same x y e = ap (λ o. elim o [ None ↦ x | Some z ↦ z ]) e
 
 pub taken : {X Y : Type 0} (o : Option X) (f : X → Option Y) (y : Y) → and_then o f ≡ Some y → (x : X) × (o ≡ Some x) × (f x ≡ Some y)
@@ -165,6 +165,10 @@ square_positive (pos zero) n = absurd (n refl)
 square_positive (pos (suc a)) n = omega (arith, ints)
 square_positive (negsuc a) n = omega (arith, ints)
 
+pub power_positive : (k : ℕ) → 0 < 2 ^ k
+power_positive zero = omega arith
+power_positive (suc k) = let h = power_positive k in omega (arith, h)
+
 -- ---- the tube
 pub tube_count : (h : HalfArc) (level : ℕ) (inner outer : List Point) → IsTubeOf h level inner outer → length (bays inner outer) ≡ 2 ^ (level + 1)
 tube_count h level inner outer t = bays_size inner outer (outer_size h h.from inner outer t.outer_made) ∙ (inner_are h (level + 1) inner t.inner_made).size
@@ -185,10 +189,6 @@ tube_is h level inner outer t =
       last_clear = t.last_clear;
       some = some_bay (bays inner outer) (subst (λ (k : ℕ). 0 < k) (sym m) (power_positive (level + 1)));
     }
-  where
-    power_positive : (k : ℕ) → 0 < 2 ^ k
-    power_positive zero = omega arith
-    power_positive (suc k) = let h = power_positive k in omega (arith, h)
 
 pub tube_near : (h : HalfArc) (level : ℕ) (inner outer : List Point) → IsTubeOf h level inner outer → Each (λ b. AreNear (2 ^ 28) h.from b.outer × AreNear (2 ^ 28) h.from b.inner) (bays inner outer)
 tube_near h level inner outer t = bays_both (AreNear (2 ^ 28) h.from) inner outer t.inner_near t.outer_near

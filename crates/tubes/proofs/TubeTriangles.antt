@@ -63,9 +63,6 @@ close_back p q h = record {
   y = record { above = omega (arith, ints, h.y.below); below = omega (arith, ints, h.y.above) };
 }
 
-pub close_turned : (p q : Point) → AreClose p q → AreClose q p
-close_turned = close_back
-
 pub turnable_swapped : (p q r v : Point) → IsTurnable p q r v → IsTurnable p r q v
 turnable_swapped p q r v t = record {
   bent = λ e. t.bent (let f = cross_swapped p q r in omega (arith, ints, e, f));

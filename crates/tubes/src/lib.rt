@@ -25,9 +25,9 @@
 //!   objects' points for the exact predicates. A list at a level is what the laws of
 //!   `plane::arc_drawings` ask of a drawing's edges (`laws::edges_of_tubed_drawing`).
 //! - **Not here:** whether a drawing is settled at a level, and which two curves break it.
-//! - **Degenerate cases.** `tube` takes third points on either side; half a turn and more, collinear
-//!   points and half arcs of a few units have no tube. No curve, upright straights, straights that
-//!   are delivered backwards and equal straights are taken by both lists.
+//! - **Degenerate cases.** `tube` takes third points on either side. Half a turn and more,
+//!   collinear points and half arcs of a few units have no tube. No curve, upright straights,
+//!   straights that are delivered backwards and equal straights are taken by both lists.
 //!
 //! Cost: with K = 2^(level + 1) a tube takes 2 K - 1 counts, each one root and 28 sides of points,
 //! 32 K bytes, and while it is made at most twice that. `holds` takes at most four turns for each
