@@ -17,6 +17,8 @@
 //! - **Degenerate cases.** Third points on either side, half a turn and more, nearly straight
 //!   points, places on the chord and at the ends, and straights inside or through the circle in one
 //!   step are all taken.
+//! - **For the crates above:** sums of two products in 128 bits (`dot`, `determinant`) and the sign
+//!   of a product that is not made (`is_at_most_zero`), as the conditions of a tube ask for them.
 //! - **Not here:** meetings of two curves, and covers of half arcs.
 //!
 //! Cost: a circle is eight products to 128 bits, a side at most eight, a crossing at most seventeen

@@ -5,7 +5,7 @@ ghost use Rattle.plane.specs.Rule.Turns.{AreNear};
 ghost use Rattle.arc_predicates.specs.Circles.{AreClose};
 ghost use Rattle.arc_predicates.specs.Trials.{CurvesAreClose};
 
-use super::{Side, circle, crosses, place_of};
+use super::{Side, circle, crosses, determinant, dot, is_at_most_zero, place_of};
 use plane::{Curve, CurveKind, Point};
 
 fn is_close(a: i64, b: i64) -> bool
@@ -198,4 +198,12 @@ fn places_and_straights_are_judged(rt: HostRuntime) {
     for (name, straight, want) in CROSSED {
         assert_eq!(rt; crossed(HALF, straight), want, "{name}");
     }
+}
+
+#[test]
+fn sums_and_signs_of_products_are_exact(rt: HostRuntime) {
+    assert_eq!(rt; dot(3, -4, 5, 6), -9);
+    assert_eq!(rt; determinant(3, 4, 5, 6), -2);
+    assert!(rt; is_at_most_zero(-2, 7));
+    assert!(rt; !is_at_most_zero(-2, -7));
 }
