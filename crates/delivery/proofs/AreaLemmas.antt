@@ -1,5 +1,5 @@
 -- Answers to areas: what they say of the areas, and that two of one area agree.
-use Rattle.std.proofs.Common.{◌≡◌, ◌⊎◌, inl, inr, ℕ, zero, suc, ◌+◌, ◌<◌, Bool, true, false, ◌||◌, List, [], ◌∷◌, ◌++◌, length, get_or, refl, sym, ap, ◌∙◌, subst, arith}
+use Rattle.std.proofs.Common.{◌≡◌, ◌⊎◌, inl, inr, ℕ, zero, suc, ◌<◌, Bool, true, false, ◌||◌, List, [], ◌∷◌, ◌++◌, length, get_or, refl, sym, ap, ◌∙◌, subst, arith}
 use Rattle.std.specs.List.{All, AllZip, Any, list_any}
 use Rattle.std.specs.Prelude.{if◌then◌else◌}
 use Rattle.std.proofs.lemmas.List.Elements.{All-nil, All-cons, All-head, All-tail}
@@ -30,7 +30,7 @@ use Rattle.delivery.specs.Outcomes.{Outcome, reported, accepted, with_verdict, a
 use Rattle.delivery.specs.Verifying as verifying
 use Rattle.delivery.specs.Verifying.{Verification, IsVerification}
 use Rattle.delivery.specs.declared.report.lines.AreaAnswer.{AreaAnswer}
-use Rattle.delivery.specs.declared.report.lines.AreaAnswer.TheVariants.{Meeting, On, Outside, Two, Empty, Proved}
+use Rattle.delivery.specs.declared.report.lines.AreaAnswer.TheVariants.{Meeting}
 use Rattle.delivery.specs.declared.report.lines.Verdict.TheVariants as verdict
 use Rattle.delivery.specs.declared.status.Status.TheVariants as status
 

@@ -37,14 +37,14 @@ use Rattle.delivery.specs.Drawings.{point_at, place_read, placed, first_word, wo
 use Rattle.delivery.specs.Drawable.{HasForms, HasSoundLine, HasPointIn, HavePointsIn, IsDrawable}
 
 -- ---- lists
-all_at : {X : Type 0} (P : X → Type 0) (xs : List X) (i : ℕ) (x : X) → All P xs → slice_get xs i ≡ Some x → P x
+pub all_at : {X : Type 0} (P : X → Type 0) (xs : List X) (i : ℕ) (x : X) → All P xs → slice_get xs i ≡ Some x → P x
 all_at P xs i x h e = subst P (get_or_from_slice_get xs i x x e) (h i x (slice_get_within xs i x e))
 
-drop_both : {X : Type 0} (n m : ℕ) (xs : List X) → drop (n + m) xs ≡ drop m (drop n xs)
+pub drop_both : {X : Type 0} (n m : ℕ) (xs : List X) → drop (n + m) xs ≡ drop m (drop n xs)
 drop_both n m xs = sym (drop-drop m n xs)
 
 -- ---- the rows of a table
-rows_at : (codes : Codes) (ts : List Table) (transfer : List (List Row)) (n : ℕ) (t : Table) → HavePlaces codes ts transfer → slice_get ts n ≡ Some t → RowsHavePlaces codes t (slice_index_or transfer n [])
+pub rows_at : (codes : Codes) (ts : List Table) (transfer : List (List Row)) (n : ℕ) (t : Table) → HavePlaces codes ts transfer → slice_get ts n ≡ Some t → RowsHavePlaces codes t (slice_index_or transfer n [])
 rows_at codes [] transfer n t h e = absurd (cc)
 rows_at codes (u ∷ ts) [] n t h e = tt
 rows_at codes (u ∷ ts) (rows ∷ transfer) zero t h e = subst (λ (v : Table). RowsHavePlaces codes v rows) (same u t e) h.0
@@ -53,7 +53,7 @@ rows_at codes (u ∷ ts) (rows ∷ transfer) zero t h e = subst (λ (v : Table).
     same u t e = cc
 rows_at codes (u ∷ ts) (rows ∷ transfer) (suc n) t h e = rows_at codes ts transfer n t h.1 e
 
-all_rows : (codes : Codes) (t : Table) (rows : List Row) → RowsHavePlaces codes t rows → All (HasPlaces codes t) rows
+pub all_rows : (codes : Codes) (t : Table) (rows : List Row) → RowsHavePlaces codes t rows → All (HasPlaces codes t) rows
 all_rows codes t [] h = All-nil (HasPlaces codes t)
 all_rows codes t (r ∷ rows) h = All-cons (HasPlaces codes t) r rows h.0 (all_rows codes t rows h.1)
 
@@ -126,7 +126,7 @@ module _ (codes : Codes) (v : Window) (w : Window2) (line : ℕ) (e : IsWindowOf
   inside optional (x ∷ y ∷ ws) (inl u) = told (list_any (is_undefined codes) (x ∷ y ∷ ws)) (value_fault (AreaPoint v) (x ∷ y ∷ ws)) (value_of (AreaPoint v) (x ∷ y ∷ ws)) (undefined_none optional x (y ∷ ws) u)
   inside optional (x ∷ y ∷ ws) (inr i) = read_as (are_in w line) (field_fault (AreaPoint v) codes (x ∷ y ∷ ws)) (value_of (AreaPoint v) (x ∷ y ∷ ws)) none_in (one_in (place_named v (x ∷ y ∷ ws)) i)
 
-point_in : (codes : Codes) (t : Table) (k : ℕ) (c : Column) (v : Window) (w : Window2) → slice_get t.columns k ≡ Some c → c.form ≡ AreaPoint v → IsWindowOf v w → (r : Row) → HasPlaces codes t r → HasPointIn codes (first_word t.columns k) c w r
+pub point_in : (codes : Codes) (t : Table) (k : ℕ) (c : Column) (v : Window) (w : Window2) → slice_get t.columns k ≡ Some c → c.form ≡ AreaPoint v → IsWindowOf v w → (r : Row) → HasPlaces codes t r → HasPointIn codes (first_word t.columns k) c w r
 point_in codes t k c v w e f i r h = record {
   counted = (let n = same_count (length r.fields) (1 + widths t.columns) h.counted in let m = widths_within t.columns k c e in omega (arith, n, m));
   inside = moved (subst (λ (form : Form). HasPoint codes c.optional form (take (width c.form) (drop (widths (take k t.columns)) (drop 1 r.fields)))) f (point_there codes t.columns k c (drop 1 r.fields) h.points e));
@@ -151,13 +151,13 @@ module _ (l : Layout) (a : AreaOf) (v : IsValid l) (h : IsArea l.tables a) where
   pub area_table : IsAreaTable l.tables h.helper.lines a.main a.column
   area_table = subst (IsRole l.tables h.helper) h.role helper_table.role
 
-  owner_table : IsTable (length l.topics) l.tables area_table.owner
+  pub owner_table : IsTable (length l.topics) l.tables area_table.owner
   owner_table = all_at (IsTable (length l.topics) l.tables) l.tables a.main area_table.owner v.tables area_table.main
 
-  same_columns : columns_in (slice_get l.tables a.main) ≡ area_table.owner.columns
+  pub same_columns : columns_in (slice_get l.tables a.main) ≡ area_table.owner.columns
   same_columns = ap columns_in area_table.main
 
-  abbrev forms : HasForms l a
+  abbrev pub forms : HasForms l a
   forms = record {
     line = area_table.line;
     column = area_table.point;
@@ -207,7 +207,7 @@ module _ (l : Layout) (rows : List (List Row)) (v : IsValid l) (places : HavePla
       neither true c h = absurd (cc)
       neither false c h = (refl, h)
 
-clean_rows : (l : Layout) (rows : List (List Row)) → IsClean l rows → HavePlaces l.codes l.tables rows
+pub clean_rows : (l : Layout) (rows : List (List Row)) → IsClean l rows → HavePlaces l.codes l.tables rows
 clean_rows l rows c = have_places l rows (empty_both (value_findings l rows) (key_findings l rows) (unsorted is_before (value_findings l rows ++ key_findings l rows) c)).0
 
 pub all_drawable : (l : Layout) (rows : List (List Row)) → IsValid l → IsClean l rows → has_too_large rows l.areas ≡ false → All (IsDrawable l rows) l.areas

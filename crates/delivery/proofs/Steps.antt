@@ -1,27 +1,31 @@
 -- One step of a call after another.
-use Rattle.std.proofs.Common.{◌≡◌, ℕ, ◌≤◌, List, [], ◌∷◌, ◌++◌, Option, Result, Ok, Err, refl, subst, sym, arith, inl, inr}
+use Rattle.std.proofs.Common.{◌≡◌, ℕ, ◌≤◌, false, List, [], ◌∷◌, ◌++◌, Option, Result, Ok, Err, refl, subst, sym, arith, inl, inr}
 use Rattle.std.specs.Prelude.{IfOk, IsErrOf}
 use Rattle.ports.specs.Faults.{Rose}
 use Rattle.ports.specs.Files.{Files}
-use Rattle.itf_reader.specs.Layouts.{form_of}
-use Rattle.itf_reader.specs.Refusals.{fault_of, Refuses}
-use Rattle.itf_reader.specs.declared.refusal.ReadRefusal.{ReadRefusal}
-use Rattle.itf_reader.specs.declared.refusal.ReadRefusal.TheVariants as refusals
+use Rattle.itf_reader.specs.Forms.{Row}
 use Rattle.table_layout.specs.Layouts.{Layout}
 use Rattle.delivery.specs.Commands.{Command, compile, Source, limit_of, model_of, further_files}
 use Rattle.delivery.specs.Deciding.{Decides, formless, formed}
 use Rattle.delivery.specs.Ending.{Ends, EndsAfter}
 use Rattle.delivery.specs.FiledTexts as filed_texts
-use Rattle.delivery.specs.FiledTexts.{IsVerified}
+use Rattle.delivery.specs.FiledTexts.{IsRowsVerified}
+use Rattle.delivery.specs.AreaLimits.{has_too_large}
+use Rattle.delivery.specs.OutcomeViews.{outcome_of}
+use Rattle.delivery.specs.declared.outcome.Outcome as outcome
+use Rattle.delivery.specs.RowsRead as rows_read
 use Rattle.delivery.specs.Gathering as gathering
 use Rattle.delivery.specs.Gathering.{Gathered, Reads, ReadsAll, Compiles, Gathers}
 use Rattle.delivery.specs.Amounting.{Amounts}
-use Rattle.delivery.specs.Judging.{lines_of, IsChecked, at_fault}
+use Rattle.delivery.specs.Judging.{IsClean}
 use Rattle.delivery.specs.Outcomes.{Outcome, compiled}
 use Rattle.delivery.specs.Reading.{IsLonger}
 use Rattle.delivery.specs.FileRefusals.{IsNotRead}
-use Rattle.delivery.specs.RowsRead.{IsStructure}
+use Rattle.delivery.specs.RowsRead.{IsDrawnVerified}
 use Rattle.delivery.specs.declared.files.File.{File}
+use Rattle.delivery.specs.Pieces.{IsTransfer}
+use Rattle.delivery.specs.declared.files.File.TheVariants.{Transfer}
+use Rattle.delivery.specs.declared.transfers.TransferReading.TheVariants as reading
 use Rattle.delivery.specs.declared.files.FileRefusal.{FileRefusal}
 use Rattle.delivery.specs.declared.files.FileRefusal.TheVariants.{Failed, TooLong, Memory}
 
@@ -30,14 +34,10 @@ pub if_ok : {A E : Type 0} (P Q : A → Type 0) (r : Result A E) → ((x : A) �
 if_ok P Q (Ok x) f h = f x h
 if_ok P Q (Err e) f h = h
 
--- a text that is refused is at fault
-pub refused_text : (name : List ℕ) (l : Layout) (text : List ℕ) (r : ReadRefusal) (o : Outcome) → Refuses (form_of l) (lines_of l text) r → IsStructure r o → IsChecked name l text o
-refused_text name l text (refusals.At line code) o h e = at_fault line (fault_of code) h e
-refused_text name l text refusals.Memory o h e = absurd e
-
-pub refused_filed : (l : Layout) (text filed : List ℕ) (r : ReadRefusal) (o : Outcome) → Refuses (form_of l) (lines_of l text) r → IsStructure r o → IsVerified l text filed o
-refused_filed l text filed (refusals.At line code) o h e = filed_texts.at_fault line (fault_of code) h e
-refused_filed l text filed refusals.Memory o h e = absurd e
+-- filed certificates against areas that are drawn
+pub rows_verified : (l : Layout) (rows : List (List Row)) (filed : List ℕ) (o : outcome.Outcome) → IsClean l rows → has_too_large rows l.areas ≡ false → IsDrawnVerified l rows filed o → IsRowsVerified l rows filed (outcome_of o)
+rows_verified l rows filed o c s (rows_read.arcs a) = filed_texts.arcs c s a
+rows_verified l rows filed o c s (rows_read.judged v) = filed_texts.verified c s v
 
 -- counts that rise in one part of a call rise in the whole of it
 pub rose_after : (a b c : ℕ) → a ≤ b → Rose b c → Rose a c
@@ -90,3 +90,10 @@ not_read_ends T told counted f name Memory o P a b e = absurd e
 pub compile_ends : (told : Option Files) (counted : List ℕ → Type 0) (c : Command) (model : List ℕ) (l : Layout) (o : Outcome) → c ≡ compile model → o ≡ compiled l → Ends told counted c l o
 compile_ends told counted c model l o e h =
     subst (λ (x : Command). Ends told counted x l o) (sym e) (record { gathered = gathering.texts l []; reads = refl; amounts = h })
+
+-- and the transfer's, which is judged while it is read
+pub unread_ends : (told : Option Files) (counted : List ℕ → Type 0) (rose : Type 0) (name : List ℕ) (l : Layout) (r : FileRefusal) (o : Outcome) (P : Gathered → List ℕ → Type 0) → IsTransfer told name l rose (reading.Unread r) → (rose → counted name) → IsNotRead Transfer r o
+    → (g : Gathered) × Reads told counted (record { file = Transfer; name = name }) g (P g) × ((c : Command) → Amounts c g o)
+unread_ends told counted rose name l Failed o P h f e = (gathering.unread Transfer, inl (f h, refl), λ c. e)
+unread_ends told counted rose name l TooLong o P h f e = (gathering.too_long Transfer, inr (inl (h, refl)), λ c. e)
+unread_ends told counted rose name l Memory o P h f e = absurd e

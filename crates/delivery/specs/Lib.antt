@@ -18,10 +18,14 @@ pub mod FiledTexts
 pub mod FileRefusals
 pub mod Gathering
 pub mod Judging
+pub mod KeptRows
+pub mod KeptViews
 pub mod Lines
 pub mod LineViews
 pub mod ModelTexts
 pub mod Outcomes
+pub mod KeptDrawings
+pub mod Pieces
 pub mod OutcomeViews
 pub mod Reading
 pub mod RefusalViews

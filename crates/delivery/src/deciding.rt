@@ -1,5 +1,5 @@
 // The outcome of the words and the files.
-ghost use Rattle.std.specs.Prelude.{◌≡◌, ◌≤◌, ◌∷◌, [], length, IfOk};
+ghost use Rattle.std.specs.Prelude.{◌≡◌, ◌≤◌, ◌∷◌, ℕ, List, [], IfOk};
 ghost use Rattle.ports.specs.Faults.{NoReadFell, ReadRose};
 ghost use Rattle.table_layout.specs.Valid.{IsValid};
 ghost use Rattle.table_layout.specs.Values.{layout_view};
@@ -9,12 +9,15 @@ ghost use Rattle.delivery.specs.CommandViews.{names_of, command_of as command_se
 ghost use Rattle.delivery.specs.Deciding.{Decides};
 ghost use Rattle.delivery.specs.Ending.{Ends, EndsAfter, EndsCommand};
 ghost use Rattle.delivery.specs.OutcomeViews.{outcome_of};
+ghost use Rattle.delivery.specs.Pieces.{IsJudged};
 
 use crate::command::{Command, FileNames, command_of};
 use crate::files::{File, read_file};
+use crate::judging::Judged;
 use crate::model::{ModelReading, read_model};
 use crate::outcome::{Outcome, compiled, not_read, refused, usage};
-use crate::rows::{check_text, verify_text};
+use crate::rows::{checked, verified_by};
+use crate::transfers::{TransferReading, read_transfer};
 use crate::word::Word;
 use ports::{Memory, Shelf};
 use std::alloc::Global;
@@ -35,32 +38,32 @@ fn decide_check<'a, S: Shelf>(
     ensures reads { NoReadFell (S.read_faults shelf.old) (S.read_faults shelf.new) }
     ensures writes { S.write_faults shelf.old ≤ S.write_faults shelf.new }
 {
-    match read_file(alloc, shelf, File::Transfer, names.transfer) {
-        Ok(text) => check_text(alloc, names.certificate, layout, &text),
-        Err(refusal) => not_read(alloc, File::Transfer, refusal),
+    match read_transfer(alloc, shelf, names.transfer, layout)? {
+        TransferReading::Judged(judged) => checked(alloc, names.certificate, layout, judged),
+        TransferReading::Unread(refusal) => not_read(alloc, File::Transfer, refusal),
     }
 }
 
-// The outcome of a verification once the transfer is read.
+// The outcome of a verification once the transfer is judged.
 fn decide_filed<'a, S: Shelf>(
     alloc: Global,
     names: &FileNames<'a>,
     layout: &Layout,
-    text: &[u8],
+    judged: Judged,
     shelf: &mut S,
 ) -> Result<Outcome<'a>, Memory>
-    requires valid { IsValid (layout_view layout.now) }
-    requires short { length text.now ≤ 268435456 }
-    ensures outcome { IfOk result (λ o. EndsAfter (S.held shelf.old)
+    requires text { (text : List ℕ) × IsJudged (layout_view layout.now) text judged }
+    ensures outcome { (text : List ℕ) → IsJudged (layout_view layout.now) text judged
+        → IfOk result (λ o. EndsAfter (S.held shelf.old)
         (ReadRose (S.read_faults shelf.old) (S.read_faults shelf.new))
-        (verify_command (names_of names.now)) (layout_view layout.now) (text.now ∷ [])
+        (verify_command (names_of names.now)) (layout_view layout.now) (text ∷ [])
         (certificate_source (names_of names.now) ∷ []) (outcome_of o)) }
     ensures held { S.held shelf.new ≡ S.held shelf.old }
     ensures reads { NoReadFell (S.read_faults shelf.old) (S.read_faults shelf.new) }
     ensures writes { S.write_faults shelf.old ≤ S.write_faults shelf.new }
 {
     match read_file(alloc, shelf, File::Certificate, names.certificate) {
-        Ok(filed) => verify_text(alloc, layout, text, &filed),
+        Ok(filed) => verified_by(alloc, layout, judged, &filed),
         Err(refusal) => not_read(alloc, File::Certificate, refusal),
     }
 }
@@ -80,9 +83,9 @@ fn decide_verify<'a, S: Shelf>(
     ensures reads { NoReadFell (S.read_faults shelf.old) (S.read_faults shelf.new) }
     ensures writes { S.write_faults shelf.old ≤ S.write_faults shelf.new }
 {
-    match read_file(alloc, shelf, File::Transfer, names.transfer) {
-        Ok(text) => decide_filed(alloc, names, layout, &text, shelf),
-        Err(refusal) => not_read(alloc, File::Transfer, refusal),
+    match read_transfer(alloc, shelf, names.transfer, layout)? {
+        TransferReading::Judged(judged) => decide_filed(alloc, names, layout, judged, shelf),
+        TransferReading::Unread(refusal) => not_read(alloc, File::Transfer, refusal),
     }
 }
 

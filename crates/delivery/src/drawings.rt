@@ -1,25 +1,26 @@
 // The drawings of areas.
 ghost use Rattle.std.specs.Prelude.{◌<◌, IfOk, length};
-ghost use Rattle.std.specs.List.{All};
 ghost use Rattle.itf_reader.specs.Views.{transfer_of};
 ghost use Rattle.plane.specs.Rule.Plans.{plan};
 ghost use Rattle.table_layout.specs.Valid.{IsValid};
 ghost use Rattle.table_layout.specs.Values.{area_view, areas_view, layout_view};
-ghost use Rattle.delivery.specs.AreaAnswers.{plans};
 ghost use Rattle.delivery.specs.AreaLimits.{IsWithinLimits};
 ghost use Rattle.delivery.specs.Drawable.{IsDrawable};
-ghost use Rattle.delivery.specs.Drawings.{AreDrawings, IsDrawing, IsDrawingAt};
+ghost use Rattle.delivery.specs.Drawings.{IsDrawing, IsDrawingAt};
 ghost use Rattle.delivery.specs.Judging.{IsClean};
 
 mod curves;
 mod forms;
+mod kept;
 mod points;
 
 use crate::area_limits::rows_at;
 use crate::drawings::curves::add_curves;
 use crate::drawings::forms::{columns_of, line_form, plane_window};
 use crate::drawings::points::add_points;
+pub use curves::point_at;
 use itf_reader::Transfer;
+pub use kept::drawings_from;
 use plane::Drawing;
 use ports::Memory;
 use std::alloc::Global;
@@ -68,22 +69,4 @@ pub fn drawing(
         area (plan d)) }
 {
     drawing_of(alloc, layout, transfer, &layout.areas[area as usize])
-}
-
-/// The drawings of all areas, in order.
-pub fn all_drawings(
-    alloc: Global,
-    layout: &Layout,
-    transfer: &Transfer,
-) -> Result<Vec<Drawing>, Memory>
-    requires { All (IsDrawable (layout_view layout.now) (transfer_of transfer.now))
-        (areas_view layout.now.areas.items) }
-    ensures { IfOk result (λ ds. AreDrawings (layout_view layout.now) (transfer_of transfer.now)
-        (plans ds.items)) }
-{
-    let mut drawings = Vec::new(alloc);
-    for area in &layout.areas {
-        drawings.push(drawing_of(alloc, layout, transfer, area)?)?;
-    }
-    Ok(drawings)
 }

@@ -40,8 +40,9 @@ pub enum FileRefusal {
     Memory,
 }
 
-// A buffer of that length. No clause tells its bytes: a list of 65,536 of them would be computed in every goal above.
-fn buffer(alloc: Global, size: usize) -> Result<Vec<u8>, Memory>
+/// A buffer of that length. No clause tells its bytes: a list of 65,536 of them would be computed
+/// in every goal above.
+pub fn buffer(alloc: Global, size: usize) -> Result<Vec<u8>, Memory>
     ensures { IfOk result (λ buffer. length buffer.items ≡ size) }
 {
     Ok(vec![in alloc; 0u8; size]?)

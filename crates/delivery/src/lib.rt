@@ -26,18 +26,20 @@
 //! `trial` has the words and the files of a trial, a large valid delivery that is made in memory;
 //! `run` does not serve it yet.
 //!
-//! `deciding` fixes the outcome: a status, the lines of the report, and the certificates where
-//! there are any to write. `report` has the lines and their text, and `publishing` writes. An
-//! outcome has one constructor in `outcome`, a line of the report one variant in `report`, an
+//! `transfers` reads a transfer in pieces, and `judging` judges them: lines, rows and what is kept
+//! of these. `deciding` fixes the outcome: a status, the lines of the report, and the certificates
+//! where there are any to write. `report` has the lines and their text, and `publishing` writes.
+//! An outcome has one constructor in `outcome`, a line of the report one variant in `report`, an
 //! answer to an area one arm in `area_answers`; filed certificates are judged in `verifying`.
 //!
-//! Cost of `run`: time and memory in proportion to the files, but for the names of a model and
-//! the findings of a transfer, which take n log n, and for the search of each area or the check of
-//! its certificate, which `area_search` and `certificate_checker` tell. Of a model only its layout
-//! is held while the transfer is read. The text of a transfer, its lines and its rows are held
-//! together while the rows are read, and its text and its rows while they are checked; for `verify`
-//! the text of the certificates stays beside them. All areas are drawn, with some 60 bytes for a
-//! curve, before the rows are let go; then the drawings are searched or checked one by one.
+//! Cost of `run`: time and memory in proportion to the files, but for the names of a model, the
+//! findings of a transfer and its keys, which take n log n, and for the search of each area or the
+//! check of its certificate, which `area_search` and `certificate_checker` tell. Of a model only
+//! its layout is held while the transfer is read. A transfer is read in pieces of 65,536 bytes and
+//! never held: each row is judged when it is closed, and of it stay its findings, 20 bytes and its
+//! keys, and where it belongs to an area 24 bytes for each vertex or point. From these the areas
+//! are drawn, with some 60 bytes for a curve; then the drawings are searched, or checked against
+//! the text of the certificates, one by one.
 #![tactic(auto)]
 
 mod area_answers;
@@ -47,7 +49,7 @@ mod command;
 mod deciding;
 mod drawings;
 mod files;
-mod findings;
+mod judging;
 pub mod laws;
 mod model;
 mod outcome;
@@ -57,6 +59,7 @@ mod report;
 mod rows;
 mod status;
 mod top;
+mod transfers;
 pub mod trial;
 mod verifying;
 mod word;

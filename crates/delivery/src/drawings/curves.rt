@@ -20,11 +20,11 @@ use ports::Memory;
 use resolver::LineForm;
 use straight_predicates::{Turn, turn};
 
-// Where a line goes on: the place that it has come to, and the vertex that an open arc leads over.
+/// Where a line goes on: the place that it has come to, and the vertex that an open arc leads over.
 #[derive(Clone, Copy)]
-struct Pen {
-    at: Place,
-    over: Option<ReadVertex>,
+pub struct Pen {
+    pub at: Place,
+    pub over: Option<ReadVertex>,
 }
 
 /// A place as a point of the plane.
@@ -121,8 +121,8 @@ fn add_arc(
     }
 }
 
-// Draws on to a vertex.
-fn draw_to(pen: Pen, vertex: ReadVertex, drawing: &mut Drawing) -> Result<Pen, Memory>
+/// Draws on to a vertex.
+pub fn draw_to(pen: Pen, vertex: ReadVertex, drawing: &mut Drawing) -> Result<Pen, Memory>
     requires pen_in { IsPenIn drawing.old.window pen }
     requires vertex_in { IsIn drawing.old.window (place_view vertex.at) }
     requires room { vec_len drawing.old.curves + waiting pen.over + 1 < 2 ^ 30 }

@@ -7,6 +7,7 @@ mod endless;
 mod filed;
 mod inputs;
 mod models;
+mod pieces;
 mod rows;
 mod trials;
 mod values;

@@ -1,31 +1,46 @@
 use Rattle.std.proofs.Common.{ℕ, List, [], ◌∷◌, ◌++◌, refl, inr, subst}
-use Rattle.ports.specs.Faults.{ReadRose}
+use Rattle.ports.specs.Faults.{Rose, ReadRose}
 use Rattle.table_layout.specs.Values.{layout_view}
 use Rattle.delivery.specs.Commands.{check}
 use Rattle.delivery.specs.CommandViews.{names_of}
 use Rattle.delivery.specs.Gathering.{texts, ReadsAll}
-use Rattle.delivery.specs.Judging.{IsChecked}
 use Rattle.delivery.specs.OutcomeViews.{outcome_of}
-use Rattle.delivery.specs.declared.files.File.TheVariants.{Transfer}
-use Rattle.delivery.proofs.Steps.{if_ok, not_read_ends}
+use Rattle.delivery.specs.Pieces.{IsTransfer}
+use Rattle.delivery.specs.declared.transfers.TransferReading.{TransferReading}
+use Rattle.delivery.proofs.Steps.{if_ok, unread_ends}
 use Rattle.delivery.proofs.deciding.decide_check.Goals as goal
 
-pub returns-in-Ok-clause-outcome : goal.returns-in-Ok-clause-outcome
-returns-in-Ok-clause-outcome g c =
-    if_ok _ _ c.check_text.result
-    (λ o h. record {
-      gathered = texts (layout_view c.args.layout.now) (c.in-Ok.text.items ∷ []);
-      reads = inr (inr (c.in-Ok.text.items, c.in-Ok.ensures.whole, refl));
-      amounts = subst (λ (text : List ℕ). IsChecked c.args.names.now.certificate.now (layout_view c.args.layout.now) text (outcome_of o)) c.deref.ensures.value h;
-    })
-    c.check_text.ensures
+pub checked-requires : goal.checked-requires
+checked-requires g c =
+    let name = c.args.names.now.transfer.now in
+    let rose = Rose (g.S.Shelf.read_faults c.args.shelf.now name) (g.S.Shelf.read_faults c.read_transfer.new.shelf name) in
+    let t = subst (λ (r : TransferReading). IsTransfer (g.S.Shelf.held c.args.shelf.now) name (layout_view c.args.layout.now) rose r) c.in-Judged.is c.in_ok-judged.ensures.transfer in
+    (t.0, t.2)
 
-pub returns-in-Err-clause-outcome : goal.returns-in-Err-clause-outcome
-returns-in-Err-clause-outcome g c =
+pub returns-in-Judged-clause-outcome : goal.returns-in-Judged-clause-outcome
+returns-in-Judged-clause-outcome g c =
+    let name = c.args.names.now.transfer.now in
+    let rose = Rose (g.S.Shelf.read_faults c.args.shelf.now name) (g.S.Shelf.read_faults c.read_transfer.new.shelf name) in
+    let t = subst (λ (r : TransferReading). IsTransfer (g.S.Shelf.held c.args.shelf.now) name (layout_view c.args.layout.now) rose r) c.in-Judged.is c.in_ok-judged.ensures.transfer in
+    if_ok _ _ c.checked.result
+    (λ o h. record {
+      gathered = texts (layout_view c.args.layout.now) (t.0 ∷ []);
+      reads = inr (inr (t.0, t.1, refl));
+      amounts = h;
+    })
+    (c.checked.ensures t.0 t.2)
+
+pub returns-in-Unread-clause-outcome : goal.returns-in-Unread-clause-outcome
+returns-in-Unread-clause-outcome g c =
     let held = g.S.Shelf.held c.args.shelf.now in
-    let counted : List ℕ → Type 0 = ReadRose (g.S.Shelf.read_faults c.args.shelf.now) (g.S.Shelf.read_faults c.read_file.new.shelf) in
+    let old = g.S.Shelf.read_faults c.args.shelf.now in
+    let new = g.S.Shelf.read_faults c.read_transfer.new.shelf in
+    let counted : List ℕ → Type 0 = ReadRose old new in
+    let name = c.args.names.now.transfer.now in
+    let rose = Rose (old name) (new name) in
+    let t = subst (λ (r : TransferReading). IsTransfer held name (layout_view c.args.layout.now) rose r) c.in-Unread.is c.in_ok-judged.ensures.transfer in
     if_ok _ _ c.not_read.result
     (λ o h.
-    let e = not_read_ends _ held counted Transfer c.args.names.now.transfer.now c.in-Err.refusal (outcome_of o) (λ q text. ReadsAll held counted (layout_view c.args.layout.now) ([] ++ (text ∷ [])) [] q) c.in-Err.ensures.cause c.in-Err.ensures.long h in
+    let e = unread_ends held counted rose name (layout_view c.args.layout.now) c.in-Unread.refusal (outcome_of o) (λ q text. ReadsAll held counted (layout_view c.args.layout.now) ([] ++ (text ∷ [])) [] q) t (λ r. r) h in
     record { gathered = e.0; reads = e.1; amounts = e.2 (check (names_of c.args.names.now)) })
     c.not_read.ensures

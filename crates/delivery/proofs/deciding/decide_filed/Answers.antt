@@ -11,21 +11,21 @@ use Rattle.delivery.proofs.Steps.{if_ok, not_read_ends}
 use Rattle.delivery.proofs.deciding.decide_filed.Goals as goal
 
 pub returns-in-Ok-clause-outcome : goal.returns-in-Ok-clause-outcome
-returns-in-Ok-clause-outcome g c =
-    if_ok _ _ c.verify_text.result
+returns-in-Ok-clause-outcome g c text j =
+    if_ok _ _ c.verified_by.result
     (λ o h. record {
-      gathered = texts (layout_view c.args.layout.now) (c.args.text.now ∷ c.in-Ok.filed.items ∷ []);
+      gathered = texts (layout_view c.args.layout.now) (text ∷ c.in-Ok.filed.items ∷ []);
       reads = inr (inr (c.in-Ok.filed.items, c.in-Ok.ensures.whole, refl));
-      amounts = subst (λ (filed : List ℕ). IsVerified (layout_view c.args.layout.now) c.args.text.now filed (outcome_of o)) c.deref.ensures.value h;
+      amounts = subst (λ (filed : List ℕ). IsVerified (layout_view c.args.layout.now) text filed (outcome_of o)) c.deref.ensures.value h;
     })
-    c.verify_text.ensures
+    (c.verified_by.ensures text j)
 
 pub returns-in-Err-clause-outcome : goal.returns-in-Err-clause-outcome
-returns-in-Err-clause-outcome g c =
+returns-in-Err-clause-outcome g c text j =
     let held = g.S.Shelf.held c.args.shelf.now in
     let counted : List ℕ → Type 0 = ReadRose (g.S.Shelf.read_faults c.args.shelf.now) (g.S.Shelf.read_faults c.read_file.new.shelf) in
     if_ok _ _ c.not_read.result
     (λ o h.
-    let e = not_read_ends _ held counted Certificate c.args.names.now.certificate.now c.in-Err.refusal (outcome_of o) (λ q filed. ReadsAll held counted (layout_view c.args.layout.now) ((c.args.text.now ∷ []) ++ (filed ∷ [])) [] q) c.in-Err.ensures.cause c.in-Err.ensures.long h in
+    let e = not_read_ends _ held counted Certificate c.args.names.now.certificate.now c.in-Err.refusal (outcome_of o) (λ q filed. ReadsAll held counted (layout_view c.args.layout.now) ((text ∷ []) ++ (filed ∷ [])) [] q) c.in-Err.ensures.cause c.in-Err.ensures.long h in
     record { gathered = e.0; reads = e.1; amounts = e.2 (verify (names_of c.args.names.now)) })
     c.not_read.ensures

@@ -1,4 +1,4 @@
-use Rattle.std.proofs.Common.{◌≡◌, ℕ, List, length, sym, ap, ◌∙◌}
+use Rattle.std.proofs.Common.{List, length, sym, ap, ◌∙◌}
 use Rattle.plane.specs.Runs.Timetables.{Timed}
 use Rattle.delivery.proofs.trial.counts.events_are_counted.Goals as goal
 

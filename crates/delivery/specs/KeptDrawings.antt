@@ -1,0 +1,89 @@
+-- The drawing of an area from what is kept of the rows.
+use Rattle.std.specs.Prelude.{◌≡◌, ℕ, ◌+◌, ◌≤◌, Bool, nat_lt, ◌||◌, List, [], ◌∷◌, length, take, drop, Option, Some, None, slice_get, slice_index_or}
+use Rattle.std.specs.List.{All, list_any, flat_map}
+use Rattle.table_layout.specs.Layouts.{AreaOf, Layout}
+use Rattle.itf_reader.specs.Forms.{Row}
+use Rattle.itf_reader.specs.StrokeFindings.{Seen}
+use Rattle.plane.specs.Rule.Plans.{Plan}
+use Rattle.plane.specs.Rule.Windows.{IsInside}
+use Rattle.plane.specs.declared.kinds.Curve.{Curve}
+use Rattle.plane.specs.declared.kinds.Placed.{Placed}
+use Rattle.plane.specs.declared.window.Window2.{Window2}
+use Rattle.delivery.specs.AreaLimits.{area_limit}
+use Rattle.delivery.specs.Drawable.{HasForms, IsIn}
+use Rattle.delivery.specs.Drawings.{curves_after, IsWindowOf}
+use Rattle.delivery.specs.KeptRows.{Kept, PointColumn}
+
+-- the curves of a line by its vertices
+abbrev pub seen_curves : List Seen → List Curve
+seen_curves [] = []
+seen_curves (v ∷ vs) = curves_after v.at None vs
+
+-- vertices of rows, one row behind another, by how many each has
+abbrev pub cut : List ℕ → List Seen → List (List Seen)
+cut [] vs = []
+cut (n ∷ ns) vs = take n vs ∷ cut ns (drop n vs)
+
+abbrev pub total : List ℕ → ℕ
+total [] = 0
+total (n ∷ ns) = n + total ns
+
+abbrev pub kept_curves : List ℕ → List Seen → List Curve
+kept_curves counts vertices = flat_map seen_curves (cut counts vertices)
+
+-- places that are in a window
+abbrev pub AreIn : Window2 → List Seen → Type 0
+AreIn w vs = All (λ (v : Seen). IsIn w v.at) vs
+
+abbrev pub ArePointsIn : Window2 → List Placed → Type 0
+ArePointsIn w ps = All (λ (p : Placed). IsInside w.low w.high p.at) ps
+
+-- the vertices that are kept of a table, none where there is no such table
+abbrev pub vertices_there : Option Kept → List Seen
+vertices_there None = []
+vertices_there (Some k) = k.vertices
+
+abbrev pub kept_vertices : List Kept → ℕ → List Seen
+kept_vertices ks n = vertices_there (slice_get ks n)
+
+-- an area of rows is too large by what is kept
+abbrev pub is_kept_large : List Kept → List (List Row) → AreaOf → Bool
+is_kept_large ks rows a = nat_lt area_limit (length (kept_vertices ks a.lines)) || nat_lt area_limit (length (slice_index_or rows a.main []))
+
+abbrev pub has_kept_large : List Kept → List (List Row) → List AreaOf → Bool
+has_kept_large ks rows as_ = list_any (is_kept_large ks rows) as_
+
+-- what is kept has all that an area is drawn from: its forms are known, all places are in its window, and there are not too many
+pub record CanBeDrawn (l : Layout) (ks : List Kept) (a : AreaOf) : Type 0 where
+  pub forms : HasForms l a
+  pub strokes : Kept
+  pub lines : slice_get ks a.lines ≡ Some strokes
+  pub counted : total strokes.counts ≤ length strokes.vertices
+  pub inside : (w : Window2) → IsWindowOf forms.line.window w → AreIn w strokes.vertices
+  pub few : length strokes.vertices ≤ area_limit
+  pub objects : Kept
+  pub main : slice_get ks a.main ≡ Some objects
+  pub column : PointColumn
+  pub point : slice_get objects.columns a.column ≡ Some column
+  pub points : (w : Window2) → IsWindowOf forms.line.window w → ArePointsIn w column.points
+  pub few_points : length column.points ≤ area_limit
+
+-- the points that are kept in a column, none where there is no such column
+abbrev pub points_there : Option PointColumn → List Placed
+points_there None = []
+points_there (Some c) = c.points
+
+abbrev pub column_points : ℕ → Option Kept → List Placed
+column_points column None = []
+column_points column (Some k) = points_there (slice_get k.columns column)
+
+abbrev pub curves_there : Option Kept → List Curve
+curves_there None = []
+curves_there (Some k) = kept_curves k.counts k.vertices
+
+-- the drawing of an area from what is kept
+pub record IsDrawnFrom (l : Layout) (ks : List Kept) (a : AreaOf) (d : Plan) : Type 0 where
+  pub forms : HasForms l a
+  pub window : IsWindowOf forms.line.window d.window
+  pub curves : d.curves ≡ curves_there (slice_get ks a.lines)
+  pub points : d.points ≡ column_points a.column (slice_get ks a.main)

@@ -1,0 +1,149 @@
+// Drawings from what is kept of rows.
+ghost use Rattle.std.specs.Prelude.{◌≡◌, ◌+◌, ◌<◌, ◌≤◌, ◌++◌, ◌^◌, length, vec_len, IfOk, OnOk};
+ghost use Rattle.std.specs.Prelude.{Some, None, slice_get};
+ghost use Rattle.std.specs.List.{All, AllZip};
+ghost use Rattle.itf_reader.specs.RowReadings.{vertices_view};
+ghost use Rattle.field_values.specs.Places.{place_view};
+ghost use Rattle.plane.specs.Rule.Plans.{plan};
+ghost use Rattle.table_layout.specs.Values.{area_view, areas_view, layout_view};
+ghost use Rattle.delivery.specs.AreaAnswers.{plans};
+ghost use Rattle.delivery.specs.Drawable.{IsIn};
+ghost use Rattle.delivery.specs.Drawings.{curves_after};
+ghost use Rattle.delivery.specs.KeptDrawings.{AreIn, ArePointsIn, CanBeDrawn, IsDrawnFrom};
+ghost use Rattle.delivery.specs.KeptDrawings.{kept_curves, points_there, seen_curves, total};
+ghost use Rattle.delivery.specs.KeptViews.{places_in, point_columns_view};
+
+use super::curves::{Pen, draw_to};
+use super::forms::{line_form, plane_window};
+use crate::judging::{PointColumn, TableKept};
+use field_values::Place;
+use itf_reader::ReadVertex;
+use plane::{Drawing, Placed};
+use ports::Memory;
+use std::alloc::Global;
+use table_layout::{AreaOf, Layout, TableId};
+
+// Adds the curves of the vertices that follow a place.
+fn add_after(start: Place, vertices: &[ReadVertex], drawing: &mut Drawing) -> Result<(), Memory>
+    requires start_in { IsIn drawing.old.window (place_view start) }
+    requires inside { AreIn drawing.old.window (vertices_view vertices.now) }
+    requires room { vec_len drawing.old.curves + length vertices.now < 2 ^ 30 }
+    ensures curves { OnOk result (drawing.new.curves.items ≡ drawing.old.curves.items ++
+        curves_after (place_view start) None (vertices_view vertices.now)) }
+    ensures few { OnOk result (vec_len drawing.new.curves ≤ vec_len drawing.old.curves +
+        length vertices.now) }
+    ensures window { OnOk result (drawing.new.window ≡ drawing.old.window) }
+    ensures points { OnOk result (drawing.new.points.items ≡ drawing.old.points.items) }
+{
+    let mut pen = Pen {
+        at: start,
+        over: None,
+    };
+    for vertex in vertices {
+        pen = draw_to(pen, *vertex, drawing)?;
+    }
+    Ok(())
+}
+
+// Adds the curves of a line by its vertices.
+fn add_stroke(vertices: &[ReadVertex], drawing: &mut Drawing) -> Result<(), Memory>
+    requires inside { AreIn drawing.old.window (vertices_view vertices.now) }
+    requires room { vec_len drawing.old.curves + length vertices.now < 2 ^ 30 }
+    ensures curves { OnOk result (drawing.new.curves.items ≡ drawing.old.curves.items ++
+        seen_curves (vertices_view vertices.now)) }
+    ensures few { OnOk result (vec_len drawing.new.curves ≤ vec_len drawing.old.curves +
+        length vertices.now) }
+    ensures window { OnOk result (drawing.new.window ≡ drawing.old.window) }
+    ensures points { OnOk result (drawing.new.points.items ≡ drawing.old.points.items) }
+{
+    match vertices {
+        [first, others @ ..] => add_after(first.at, others, drawing),
+        [] => Ok(()),
+    }
+}
+
+// Adds the curves of lines whose vertices stand one line behind another, by how many each has.
+fn add_strokes(
+    counts: &[usize],
+    vertices: &[ReadVertex],
+    drawing: &mut Drawing,
+) -> Result<(), Memory>
+    requires counted { total counts.now ≤ length vertices.now }
+    requires inside { AreIn drawing.old.window (vertices_view vertices.now) }
+    requires room { vec_len drawing.old.curves + length vertices.now < 2 ^ 30 }
+    ensures curves { OnOk result (drawing.new.curves.items ≡ drawing.old.curves.items ++
+        kept_curves counts.now (vertices_view vertices.now)) }
+    ensures window { OnOk result (drawing.new.window ≡ drawing.old.window) }
+    ensures points { OnOk result (drawing.new.points.items ≡ drawing.old.points.items) }
+{
+    let mut rest = vertices;
+    for count in counts {
+        let (own, after) = rest.split_at(*count);
+        add_stroke(own, drawing)?;
+        rest = after;
+    }
+    Ok(())
+}
+
+// Adds points of objects.
+fn add_placed(points: &[Placed], drawing: &mut Drawing) -> Result<(), Memory>
+    requires inside { ArePointsIn drawing.old.window points.now }
+    requires room { vec_len drawing.old.points + length points.now < 2 ^ 30 }
+    ensures points { OnOk result (drawing.new.points.items ≡ drawing.old.points.items ++
+        points.now) }
+    ensures window { OnOk result (drawing.new.window ≡ drawing.old.window) }
+    ensures curves { OnOk result (drawing.new.curves.items ≡ drawing.old.curves.items) }
+{
+    for point in points {
+        drawing.add_point(point.at, point.line)?;
+    }
+    Ok(())
+}
+
+// The points that are kept in the column of that number, none where there is no such column.
+fn points_in(columns: &[PointColumn], number: u32) -> &[Placed]
+    ensures { result.now ≡ points_there (slice_get (point_columns_view columns.now) number) }
+{
+    match columns.get(number as usize) {
+        Some(column) => &column.points,
+        None => &[],
+    }
+}
+
+// The drawing of an area from what is kept of its two tables.
+fn drawing_from(
+    alloc: Global,
+    layout: &Layout,
+    tables: &[TableKept],
+    area: &AreaOf,
+) -> Result<Drawing, Memory>
+    requires { CanBeDrawn (layout_view layout.now) (places_in tables.now) (area_view area.now) }
+    ensures { IfOk result (λ d. IsDrawnFrom (layout_view layout.now) (places_in tables.now)
+        (area_view area.now) (plan d)) }
+{
+    let form = line_form(layout, area);
+    let mut drawing = Drawing::new(alloc, plane_window(&form.window));
+    let lines = &tables[area.lines.0 as usize];
+    add_strokes(&lines.counts, &lines.vertices, &mut drawing)?;
+    let objects = &tables[area.main.0 as usize];
+    add_placed(points_in(&objects.columns, area.column), &mut drawing)?;
+    Ok(drawing)
+}
+
+/// The drawings of all areas from what is kept of the rows, in order.
+pub fn drawings_from(
+    alloc: Global,
+    layout: &Layout,
+    tables: &[TableKept],
+) -> Result<Vec<Drawing>, Memory>
+    requires { All (CanBeDrawn (layout_view layout.now) (places_in tables.now))
+        (areas_view layout.now.areas.items) }
+    ensures { IfOk result (λ ds. AllZip (IsDrawnFrom (layout_view layout.now) (places_in tables.now))
+        (areas_view layout.now.areas.items) (plans ds.items)) }
+{
+    let mut drawings = Vec::with_capacity(alloc, layout.areas.len())?;
+    for area in &layout.areas {
+        drawings.push(drawing_from(alloc, layout, tables, area)?)?;
+    }
+    Ok(drawings)
+}

@@ -1,0 +1,248 @@
+// What the text of a transfer comes to.
+ghost use Rattle.std.specs.Prelude.{◌≡◌, ◌≢◌, ◌≤◌, ◌++◌, ℕ, List, [], false, length, map, IfOk, OnOk, Err};
+ghost use Rattle.std.specs.Prelude.{IsTrue, IsFalse};
+ghost use Rattle.itf_lines.specs.Feeds.{line_if};
+ghost use Rattle.itf_lines.specs.Views.{line_seen};
+ghost use Rattle.itf_reader.specs.Layouts.{form_of};
+ghost use Rattle.itf_reader.specs.Names.{form_in};
+ghost use Rattle.itf_reader.specs.RowFeeds.{after_lines, shown_rows};
+ghost use Rattle.itf_reader.specs.Findings.{findings_of, in_order};
+ghost use Rattle.itf_reader.specs.Forms.{Row as GivenRow};
+ghost use Rattle.table_layout.specs.Layouts.{Layout as GivenLayout};
+ghost use Rattle.table_layout.specs.Valid.{IsValid};
+ghost use Rattle.table_layout.specs.Values.{area_view, areas_view, layout_view};
+ghost use Rattle.ident_refs.specs.FedRows.{fed_keys};
+ghost use Rattle.ident_refs.specs.KeptViews.{HasRows};
+ghost use Rattle.delivery.specs.Judging.{objects};
+ghost use Rattle.delivery.specs.KeptDrawings.{has_kept_large, is_kept_large, kept_vertices};
+ghost use Rattle.delivery.specs.KeptRows.{all_found, places_of, transfer_so_far};
+ghost use Rattle.delivery.specs.KeptViews.{HasTaken, kept_in, kept_of};
+ghost use Rattle.delivery.specs.Pieces.{AreKept, HasText, IsJudged, IsKept};
+
+use super::kept::TableKept;
+use super::lines::Judge;
+use super::rows::{RowJudge, TransferKept};
+use crate::area_limits::AREA_LIMIT;
+use crate::drawings::drawings_from;
+use ident_refs::{KeyFeed, fed_transfer};
+use itf_lines::{Line, from_the_opening, numbers_rise};
+use itf_reader::{Finding, Names, ReadRefusal, Structure, sort_findings, strokes_counted};
+use plane::Drawing;
+use ports::Memory;
+use std::alloc::Global;
+use table_layout::{AreaOf, Layout, TableId};
+
+/// What the text of a transfer comes to.
+#[derive(Drop)]
+pub enum Judged {
+    /// No transfer: the first line at fault, and its code.
+    Misbuilt(u32, Structure),
+    /// All findings, in the order of the report.
+    Faulty(Vec<Finding>),
+    /// No finding, and an area that is over its limit.
+    Oversized,
+    /// No finding: the number of objects, and the drawings of all areas.
+    Clean(u128, Vec<Drawing>),
+}
+
+// Takes the last line, where there is one.
+fn take_last(
+    rows: &mut RowJudge,
+    layout: &Layout,
+    names: &Names,
+    whole: bool,
+    line: &Line,
+) -> Result<(), Memory>
+    requires valid { IsValid (layout_view layout.now) }
+    requires named { form_in names.now ≡ form_of (layout_view layout.now) }
+    ensures at { OnOk result (rows.new.feed.at ≡ after_lines (form_of (layout_view layout.now))
+        rows.old.feed.at (line_if whole (line_seen line.now))) }
+    ensures sound { OnOk result (rows.old.feed.failed ≡ false → rows.new.feed.failed ≡ false) }
+    ensures taken { OnOk result ((came : List (ℕ × GivenRow))
+        → HasTaken (layout_view layout.now) came rows.old.kept
+        → HasTaken (layout_view layout.now) (came ++ shown_rows
+        (form_of (layout_view layout.now)) rows.old.feed.at (line_if whole (line_seen line.now)))
+        rows.new.kept) }
+{
+    if whole {
+        return rows.take(layout, names, line);
+    }
+    Ok(())
+}
+
+impl<'a> Judge<'a> {
+    // The text ends here: what is kept of its rows, or the line at fault.
+    fn end(self, layout: &Layout, names: &Names) -> Result<TransferKept<'a>, ReadRefusal>
+        requires valid { IsValid (layout_view layout.now) }
+        requires named { form_in names.now ≡ form_of (layout_view layout.now) }
+        requires text { (text : List ℕ) × HasText (layout_view layout.now) text self }
+        ensures { (text : List ℕ) → HasText (layout_view layout.now) text self.entry
+            → IsKept (layout_view layout.now) text result }
+    {
+        let Judge {
+            lines,
+            mut line,
+            mut rows,
+        } = self;
+        from_the_opening();
+        numbers_rise();
+        itf_reader::from_the_opening();
+        let (whole, end) = lines.finish_line(&mut line)?;
+        take_last(&mut rows, layout, names, whole, &line)?;
+        rows.feed.finish(end)?;
+        Ok(rows.kept)
+    }
+
+    /// The text ends here: what it comes to.
+    pub fn finish(self, alloc: Global, layout: &Layout, names: &Names) -> Result<Judged, Memory>
+        requires valid { IsValid (layout_view layout.now) }
+        requires named { form_in names.now ≡ form_of (layout_view layout.now) }
+        requires text { (text : List ℕ) × HasText (layout_view layout.now) text self }
+        ensures { (text : List ℕ) → HasText (layout_view layout.now) text self.entry
+            → IfOk result (IsJudged (layout_view layout.now) text) }
+    {
+        match self.end(layout, names) {
+            Ok(kept) => judge_rows(alloc, layout, kept),
+            Err(refusal) => misbuilt(refusal),
+        }
+    }
+}
+
+// What a text comes to that is no transfer.
+fn misbuilt(refusal: ReadRefusal) -> Result<Judged, Memory>
+    ensures { (l : GivenLayout) (text : List ℕ) → IsKept l text (Err refusal)
+        → IfOk result (IsJudged l text) }
+{
+    match refusal {
+        ReadRefusal::At { line, code } => Ok(Judged::Misbuilt(line, code)),
+        ReadRefusal::Memory => Err(Memory),
+    }
+}
+
+// The number of objects, those of helper tables included.
+fn count_objects(layout: &Layout, keys: &KeyFeed) -> u128
+    requires { length layout.now.tables.items ≤ 4194304 }
+    ensures { (rows : List (ℕ × GivenRow)) → HasRows (layout_view layout.now) keys.now rows
+        → result ≡ objects (transfer_so_far (layout_view layout.now) rows) }
+{
+    let mut count: u128 = 0;
+    for number in 0..layout.tables.len() {
+        count += keys.row_count(TableId(number as u32)) as u128;
+    }
+    count
+}
+
+// How many vertices are kept of the rows of that table, none where there is no such table.
+fn count_vertices(tables: &[TableKept], id: TableId) -> usize
+    ensures { result ≡ length (kept_vertices (kept_in tables.now) id.0) }
+{
+    match tables.get(id.0 as usize) {
+        Some(kept) => kept.vertices.len(),
+        None => 0,
+    }
+}
+
+// The table of the area's lines, or its main table, has more than the limit.
+fn is_too_large(kept: &TransferKept, area: &AreaOf) -> bool
+    ensures { (l : GivenLayout) (rows : List (ℕ × GivenRow)) → HasRows l kept.now.keys rows
+        → result ≡ is_kept_large (kept_in kept.now.tables.items) (transfer_so_far l rows)
+        (area_view area.now) }
+{
+    AREA_LIMIT < count_vertices(&kept.tables, area.lines)
+        || AREA_LIMIT < kept.keys.row_count(area.main)
+}
+
+// Some area is too large.
+fn has_too_large(kept: &TransferKept, areas: &[AreaOf]) -> bool
+    ensures { (l : GivenLayout) (rows : List (ℕ × GivenRow)) → HasRows l kept.now.keys rows
+        → result ≡ has_kept_large (kept_in kept.now.tables.items) (transfer_so_far l rows)
+        (areas_view areas.now) }
+{
+    for area in areas {
+        if is_too_large(kept, area) {
+            return true;
+        }
+    }
+    false
+}
+
+// Moves the findings of a table behind others.
+fn take_found(kept: &mut TableKept, all: &mut Vec<Finding>) -> Result<(), Memory>
+    ensures found { OnOk result (findings_of all.new.items ≡ findings_of all.old.items ++
+        (kept_of kept.old).found) }
+    ensures places { OnOk result (places_of (kept_of kept.new) ≡ places_of (kept_of kept.old)) }
+{
+    all.append(&mut kept.found)?;
+    Ok(())
+}
+
+// The findings of all rows, in the order of the tables.
+fn gather(alloc: Global, tables: &mut [TableKept]) -> Result<Vec<Finding>, Memory>
+    ensures found { IfOk result (λ found. findings_of found.items ≡ all_found
+        (kept_in tables.old)) }
+    ensures places { IfOk result (λ found. map places_of (kept_in tables.new) ≡ map places_of
+        (kept_in tables.old)) }
+{
+    let mut all = Vec::new(alloc);
+    for place in 0..tables.len() {
+        take_found(&mut tables[place], &mut all)?;
+    }
+    Ok(all)
+}
+
+// All findings, in the order of the report: those of the rows and those of the keys. Each list is
+// put in order, and then both together.
+fn all_findings(
+    alloc: Global,
+    tables: &mut [TableKept],
+    keys: KeyFeed,
+) -> Result<Vec<Finding>, Memory>
+    ensures found { (l : GivenLayout) (rows : List (ℕ × GivenRow)) → HasRows l keys.entry rows
+        → IfOk result (λ found. findings_of found.items ≡ in_order (in_order (all_found
+        (kept_in tables.old)) ++ in_order (fed_keys l rows))) }
+    ensures places { IfOk result (λ found. map places_of (kept_in tables.new) ≡ map places_of
+        (kept_in tables.old)) }
+{
+    let mut found = gather(alloc, tables)?;
+    sort_findings(&mut found)?;
+    let mut of_keys = Vec::new(alloc);
+    keys.finish(&mut of_keys)?;
+    sort_findings(&mut of_keys)?;
+    found.append(&mut of_keys)?;
+    sort_findings(&mut found)?;
+    Ok(found)
+}
+
+// There are findings.
+fn has_any(found: &[Finding]) -> bool
+    ensures some { IsTrue result → findings_of found.now ≢ [] }
+    ensures none { IsFalse result → findings_of found.now ≡ [] }
+{
+    match found {
+        [] => false,
+        [_, ..] => true,
+    }
+}
+
+// What rows come to that a text tells.
+fn judge_rows(alloc: Global, layout: &Layout, kept: TransferKept) -> Result<Judged, Memory>
+    requires valid { IsValid (layout_view layout.now) }
+    requires text { (text : List ℕ) × AreKept (layout_view layout.now) text kept }
+    ensures { (text : List ℕ) → AreKept (layout_view layout.now) text kept.entry
+        → IfOk result (IsJudged (layout_view layout.now) text) }
+{
+    strokes_counted();
+    fed_transfer();
+    let objects = count_objects(layout, &kept.keys);
+    let oversized = has_too_large(&kept, &layout.areas);
+    let TransferKept { mut tables, keys } = kept;
+    let found = all_findings(alloc, &mut tables, keys)?;
+    if has_any(&found) {
+        return Ok(Judged::Faulty(found));
+    }
+    if oversized {
+        return Ok(Judged::Oversized);
+    }
+    let drawings = drawings_from(alloc, layout, &tables)?;
+    Ok(Judged::Clean(objects, drawings))
+}

@@ -1,0 +1,149 @@
+// A transfer that is read and judged in pieces.
+ghost use Rattle.std.specs.Prelude.{◌≡◌, ◌≤◌, ◌<◌, ◌+◌, ◌++◌, ℕ, List, [], length, take, IfOk, IfErr};
+ghost use Rattle.std.specs.Prelude.{IsErrOf, OnOk};
+ghost use Rattle.ports.specs.Faults.{Rose, NoReadFell};
+ghost use Rattle.itf_reader.specs.Layouts.{form_of};
+ghost use Rattle.itf_reader.specs.Names.{form_in};
+ghost use Rattle.table_layout.specs.Valid.{IsValid};
+ghost use Rattle.table_layout.specs.Values.{layout_view};
+ghost use Rattle.delivery.specs.Pieces.{Takes, ArePieces, IsTransfer};
+ghost use Rattle.delivery.specs.Reading.{IsWhole, IsLonger, IsFront, IsEnd};
+ghost use Rattle.delivery.specs.declared.files.File.TheVariants.{Transfer as TransferFile};
+
+use crate::files::{File, FileRefusal, buffer};
+use crate::judging::{Judge, Judged};
+use itf_reader::Names;
+use ports::{Memory, Shelf};
+use std::alloc::Global;
+use table_layout::Layout;
+
+/// What the file of a transfer is.
+#[derive(Drop)]
+pub enum TransferReading {
+    Unread(FileRefusal),
+    Judged(Judged),
+}
+
+// The length of a piece, in bytes.
+const PIECE: usize = 65_536;
+
+// Reads the next piece: how many bytes it has, none at the end of the file.
+fn read_piece<S: Shelf>(
+    shelf: &mut S,
+    name: &str,
+    from: u64,
+    piece: &mut [u8],
+) -> Result<usize, FileRefusal>
+    requires room { 0 < length piece.old }
+    ensures front { IfOk result (λ n. (front : List ℕ) → length front ≡ from
+        → IsFront (S.held shelf.old) name.now front
+        → IsFront (S.held shelf.old) name.now (front ++ take n piece.new)) }
+    ensures ended { IfOk result (λ n. n ≡ 0 → (front : List ℕ) → length front ≡ from
+        → IsFront (S.held shelf.old) name.now front
+        → IsEnd (S.held shelf.old) name.now front) }
+    ensures fits { IfOk result (λ n. n ≤ length piece.new) }
+    ensures same { length piece.new ≡ length piece.old }
+    ensures held { S.held shelf.new ≡ S.held shelf.old }
+    ensures writes { S.write_faults shelf.old ≤ S.write_faults shelf.new }
+    ensures reads { NoReadFell (S.read_faults shelf.old) (S.read_faults shelf.new) }
+    ensures cause { IsErrOf result FileRefusal.Failed
+        → Rose (S.read_faults shelf.old name.now) (S.read_faults shelf.new name.now) }
+    ensures refusal { IsErrOf result FileRefusal.TooLong → ⊥ }
+{
+    match shelf.read(name, from, piece) {
+        Ok(n) => Ok(n),
+        Err(_) => Err(FileRefusal::Failed),
+    }
+}
+
+// Takes a piece of the text.
+fn take_piece(
+    judge: &mut Judge,
+    layout: &Layout,
+    names: &Names,
+    piece: &[u8],
+) -> Result<(), FileRefusal>
+    requires valid { IsValid (layout_view layout.now) }
+    requires named { form_in names.now ≡ form_of (layout_view layout.now) }
+    requires few { judge.old.lines.ended + length piece.now < 4294967295 }
+    ensures takes { OnOk result (Takes (layout_view layout.now) judge.old piece.now
+        judge.new []) }
+    ensures few { OnOk result (judge.new.lines.ended ≤ judge.old.lines.ended + length piece.now) }
+    ensures memory { IfErr result (λ e. e ≡ FileRefusal.Memory) }
+{
+    match judge.take(layout, names, piece) {
+        Ok(()) => Ok(()),
+        Err(_) => Err(FileRefusal::Memory),
+    }
+}
+
+// Reads a file to its end, or until more bytes were read than the limit, piece by piece.
+fn read_pieces<S: Shelf>(
+    alloc: Global,
+    shelf: &mut S,
+    name: &str,
+    layout: &Layout,
+    names: &Names,
+    judge: &mut Judge,
+) -> Result<(), FileRefusal>
+    requires valid { IsValid (layout_view layout.now) }
+    requires named { form_in names.now ≡ form_of (layout_view layout.now) }
+    requires start { judge.old.lines.ended ≡ 0 }
+    ensures pieces { OnOk result (ArePieces (S.held shelf.old) name.now
+        (layout_view layout.now) judge.old judge.new) }
+    ensures long { IsErrOf result FileRefusal.TooLong
+        → IsLonger (S.held shelf.old) name.now 268435456 }
+    ensures held { S.held shelf.new ≡ S.held shelf.old }
+    ensures writes { S.write_faults shelf.old ≤ S.write_faults shelf.new }
+    ensures reads { NoReadFell (S.read_faults shelf.old) (S.read_faults shelf.new) }
+    ensures cause { IsErrOf result FileRefusal.Failed
+        → Rose (S.read_faults shelf.old name.now) (S.read_faults shelf.new name.now) }
+{
+    let mut piece = match buffer(alloc, PIECE) {
+        Ok(piece) => piece,
+        Err(_) => return Err(FileRefusal::Memory),
+    };
+    let limit = File::Transfer.limit();
+    let mut from: u64 = 0;
+    // A shelf may give as little as one byte a call, and each call but the last gives one.
+    for _ in 0..limit + 1 {
+        let n = read_piece(shelf, name, from, &mut piece)?;
+        if n == 0 {
+            return Ok(());
+        }
+        from += n as u64;
+        if limit < from {
+            return Err(FileRefusal::TooLong);
+        }
+        take_piece(judge, layout, names, &piece[..n])?;
+    }
+    Err(FileRefusal::TooLong)
+}
+
+/// Reads the file of a transfer in pieces of 65,536 bytes, and judges it by the layout of its
+/// model. It is read to its end, or up to a piece past its limit, whatever its first lines hold.
+///
+/// Cost: time in proportion to the file, and what its findings and keys take to sort. Held are a
+/// piece, one line, the row that is open and the one that was closed last, and of all rows their
+/// findings and keys and the places that areas are drawn from.
+pub fn read_transfer<S: Shelf>(
+    alloc: Global,
+    shelf: &mut S,
+    name: &str,
+    layout: &Layout,
+) -> Result<TransferReading, Memory>
+    requires valid { IsValid (layout_view layout.now) }
+    ensures transfer { IfOk result (IsTransfer (S.held shelf.old) name.now (layout_view layout.now)
+        (Rose (S.read_faults shelf.old name.now) (S.read_faults shelf.new name.now))) }
+    ensures held { S.held shelf.new ≡ S.held shelf.old }
+    ensures writes { S.write_faults shelf.old ≤ S.write_faults shelf.new }
+    ensures reads { NoReadFell (S.read_faults shelf.old) (S.read_faults shelf.new) }
+{
+    let names = Names::new(alloc, layout)?;
+    let mut judge = Judge::new(alloc, layout)?;
+    match read_pieces(alloc, shelf, name, layout, &names, &mut judge) {
+        Ok(()) => Ok(TransferReading::Judged(judge.finish(alloc, layout, &names)?)),
+        Err(FileRefusal::Memory) => Err(Memory),
+        Err(refusal) => Ok(TransferReading::Unread(refusal)),
+    }
+}
