@@ -1,11 +1,9 @@
 // How large an area may be.
-ghost use Rattle.std.specs.Prelude.{◌≡◌, ◌+◌, ◌<◌, length, slice_index_or, [], nat_lt, IfSome};
-ghost use Rattle.itf_reader.specs.Views.{rows_of, strokes_of, tables_seen};
-ghost use Rattle.table_layout.specs.Values.{area_view, areas_view};
-ghost use Rattle.delivery.specs.AreaLimits.{area_limit, vertices_in, vertex_count, is_too_large, has_too_large};
+ghost use Rattle.std.specs.Prelude.{◌≡◌, [], slice_index_or};
+ghost use Rattle.itf_reader.specs.Views.{rows_of, tables_seen};
 
-use itf_reader::{Row, Stroke, TableRows};
-use table_layout::{AreaOf, TableId};
+use itf_reader::{Row, TableRows};
+use table_layout::TableId;
 
 /// The greatest number of vertices of an area's lines, and of rows of its main table.
 pub const AREA_LIMIT: usize = 16_000_000;

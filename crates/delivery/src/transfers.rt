@@ -1,6 +1,6 @@
 // A transfer that is read and judged in pieces.
-ghost use Rattle.std.specs.Prelude.{◌≡◌, ◌≤◌, ◌<◌, ◌+◌, ◌++◌, ℕ, List, [], length, take, IfOk, IfErr};
-ghost use Rattle.std.specs.Prelude.{IsErrOf, OnOk};
+ghost use Rattle.std.specs.Prelude.{◌≡◌, ◌≤◌, ◌<◌, ◌+◌, ◌++◌, ℕ, List, [], length, take};
+ghost use Rattle.std.specs.Prelude.{IfOk, IfErr, IsErrOf, OnOk};
 ghost use Rattle.ports.specs.Faults.{Rose, NoReadFell};
 ghost use Rattle.itf_reader.specs.Layouts.{form_of};
 ghost use Rattle.itf_reader.specs.Names.{form_in};
@@ -8,7 +8,6 @@ ghost use Rattle.table_layout.specs.Valid.{IsValid};
 ghost use Rattle.table_layout.specs.Values.{layout_view};
 ghost use Rattle.delivery.specs.Pieces.{Takes, ArePieces, IsTransfer};
 ghost use Rattle.delivery.specs.Reading.{IsWhole, IsLonger, IsFront, IsEnd};
-ghost use Rattle.delivery.specs.declared.files.File.TheVariants.{Transfer as TransferFile};
 
 use crate::files::{File, FileRefusal, buffer};
 use crate::judging::{Judge, Judged};

@@ -1,6 +1,6 @@
 // Drawings from what is kept of rows.
-ghost use Rattle.std.specs.Prelude.{◌≡◌, ◌+◌, ◌<◌, ◌≤◌, ◌++◌, ◌^◌, length, vec_len, IfOk, OnOk};
-ghost use Rattle.std.specs.Prelude.{Some, None, slice_get};
+ghost use Rattle.std.specs.Prelude.{◌≡◌, ◌+◌, ◌<◌, ◌≤◌, ◌++◌, ◌^◌, length, vec_len};
+ghost use Rattle.std.specs.Prelude.{None, slice_get, IfOk, OnOk};
 ghost use Rattle.std.specs.List.{All, AllZip};
 ghost use Rattle.itf_reader.specs.RowReadings.{vertices_view};
 ghost use Rattle.field_values.specs.Places.{place_view};
@@ -138,7 +138,8 @@ pub fn drawings_from(
 ) -> Result<Vec<Drawing>, Memory>
     requires { All (CanBeDrawn (layout_view layout.now) (places_in tables.now))
         (areas_view layout.now.areas.items) }
-    ensures { IfOk result (λ ds. AllZip (IsDrawnFrom (layout_view layout.now) (places_in tables.now))
+    ensures { IfOk result (λ ds. AllZip
+        (IsDrawnFrom (layout_view layout.now) (places_in tables.now))
         (areas_view layout.now.areas.items) (plans ds.items)) }
 {
     let mut drawings = Vec::with_capacity(alloc, layout.areas.len())?;

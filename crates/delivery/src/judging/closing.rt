@@ -1,6 +1,6 @@
 // What the text of a transfer comes to.
-ghost use Rattle.std.specs.Prelude.{◌≡◌, ◌≢◌, ◌≤◌, ◌++◌, ℕ, List, [], false, length, map, IfOk, OnOk, Err};
-ghost use Rattle.std.specs.Prelude.{IsTrue, IsFalse};
+ghost use Rattle.std.specs.Prelude.{◌≡◌, ◌≢◌, ◌≤◌, ◌++◌, ℕ, List, [], false, length, map};
+ghost use Rattle.std.specs.Prelude.{IfOk, OnOk, Err, IsTrue, IsFalse};
 ghost use Rattle.itf_lines.specs.Feeds.{line_if};
 ghost use Rattle.itf_lines.specs.Views.{line_seen};
 ghost use Rattle.itf_reader.specs.Layouts.{form_of};
@@ -57,7 +57,8 @@ fn take_last(
     requires named { form_in names.now ≡ form_of (layout_view layout.now) }
     ensures at { OnOk result (rows.new.feed.at ≡ after_lines (form_of (layout_view layout.now))
         rows.old.feed.at (line_if whole (line_seen line.now))) }
-    ensures sound { OnOk result (rows.old.feed.failed ≡ false → rows.new.feed.failed ≡ false) }
+    ensures sound { OnOk result (rows.old.feed.failed ≡ false
+        → rows.new.feed.failed ≡ false) }
     ensures taken { OnOk result ((came : List (ℕ × GivenRow))
         → HasTaken (layout_view layout.now) came rows.old.kept
         → HasTaken (layout_view layout.now) (came ++ shown_rows

@@ -58,7 +58,8 @@ fn is_area_point(form: &Form) -> bool
 // The columns of a table without rows.
 fn point_columns(alloc: Global, columns: &[Column]) -> Result<Vec<PointColumn>, Memory>
     ensures { IfOk result (λ kept. (codes : GivenCodes) (t : GivenTable)
-        → point_columns_view kept.items ≡ point_columns codes t [] 0 (columns_view columns.now)) }
+        → point_columns_view kept.items ≡ point_columns codes t [] 0
+        (columns_view columns.now)) }
 {
     let mut kept = Vec::with_capacity(alloc, columns.len())?;
     for (number, column) in columns.iter().enumerate() {
@@ -110,8 +111,8 @@ fn add_point(line: u32, cells: &[Cell], column: &mut PointColumn) -> Result<(), 
 
 // Adds the points of a row to all columns.
 fn add_points(line: u32, cells: &[Cell], columns: &mut [PointColumn]) -> Result<(), Memory>
-    ensures { OnOk result (point_columns_view columns.new ≡ map (with_point line (cells_view cells.now))
-        (point_columns_view columns.old)) }
+    ensures { OnOk result (point_columns_view columns.new ≡ map
+        (with_point line (cells_view cells.now)) (point_columns_view columns.old)) }
 {
     for place in 0..columns.len() {
         add_point(line, cells, &mut columns[place])?;

@@ -1,5 +1,5 @@
 // How the bytes of a transfer are judged, one piece after another.
-ghost use Rattle.std.specs.Prelude.{◌≡◌, ◌+◌, ◌<◌, ◌≤◌, [], length, IfOk, IfErr, OnOk};
+ghost use Rattle.std.specs.Prelude.{◌≡◌, ◌+◌, ◌<◌, ◌≤◌, [], length, IfOk, OnOk};
 ghost use Rattle.itf_reader.specs.Layouts.{form_of};
 ghost use Rattle.itf_reader.specs.Names.{form_in};
 ghost use Rattle.table_layout.specs.Valid.{IsValid};
@@ -43,7 +43,8 @@ impl<'a> Judge<'a> {
         requires few { self.old.lines.ended + length piece.now < 4294967295 }
         ensures takes { OnOk result (Takes (layout_view layout.now) self.old piece.now
             self.new []) }
-        ensures few { OnOk result (self.new.lines.ended ≤ self.old.lines.ended + length piece.now) }
+        ensures few { OnOk result
+            (self.new.lines.ended ≤ self.old.lines.ended + length piece.now) }
     {
         let mut at = 0;
         while let Some(n) = self.lines.next(&piece[at..], &mut self.line)? {
