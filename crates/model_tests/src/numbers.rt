@@ -113,13 +113,19 @@ const WRITTEN: [(i64, u8, &str); 22] = [
 #[test]
 fn a_value_is_written_with_its_decimals_and_read_back(rt: HostRuntime) {
     for (value, scale, want) in &WRITTEN {
-        assert!(rt; value.unsigned_abs() < 1_000_000_000_000_000_000, "18 digits");
+        assert!(rt;
+            value.unsigned_abs() < 1_000_000_000_000_000_000,
+            "18 digits"
+        );
         assert!(rt; *scale <= 9, "a scale");
         let mut into = [b'#'; 24];
         let length = write_scaled(*value, *scale, &mut into);
         assert!(rt; length <= into.len(), "a length");
         assert_eq!(rt; &into[..length], want.as_bytes(), "{value} at {scale}");
-        assert!(rt; into[length..].iter().all(|byte| *byte == b'#'), "behind {want}");
+        assert!(rt;
+            into[length..].iter().all(|byte| *byte == b'#'),
+            "behind {want}"
+        );
         assert_eq!(rt; read_scaled(&into[..length], *scale), Ok(*value), "{want}");
     }
 }
