@@ -10,12 +10,12 @@ use Rattle.table_layout.specs.Layouts.{Layout}
 use Rattle.delivery.specs.declared.files.File.{File}
 use Rattle.delivery.specs.declared.status.Status.{Status}
 use Rattle.delivery.specs.declared.status.Status.TheVariants.{ReadFault, WriteFault}
-use Rattle.delivery.specs.Answers.{same, AgreeLines, AgreeFilings, Agree, AgreeUnlessUnread, Answers, IsStopped, IsAnswer}
+use Rattle.delivery.specs.Answers.{AgreeFilings, Agree, AgreeUnlessUnread, Answers, IsStopped, IsAnswer}
 use Rattle.delivery.specs.AreaAnswers.{AreAnswers}
 use Rattle.delivery.specs.Verifying.{IsVerification}
 use Rattle.plane.specs.Rule.Plans.{Plan}
 use Rattle.delivery.proofs.Windows.{same_drawings}
-use Rattle.delivery.specs.Commands.{Command, Source, compile, check, verify, limit_of, model_of, further_files}
+use Rattle.delivery.specs.Commands.{Command, Source, from_file, made, compile, check, verify, trial, limit_of, model_of, further_files}
 use Rattle.delivery.specs.Deciding.{Decides, formless, formed}
 use Rattle.delivery.specs.FiledTexts as filed_texts
 use Rattle.delivery.specs.FiledTexts.{AreVerified, IsRowsVerified, IsVerified}
@@ -23,20 +23,15 @@ use Rattle.delivery.specs.Gathering as gathering
 use Rattle.delivery.specs.Gathering.{Gathered, Reads, ReadsAll, Compiles, Gathers}
 use Rattle.delivery.specs.Amounting.{Amounts}
 use Rattle.delivery.specs.Judging.{lines_of, objects, AreJudged, IsRowsChecked, faulty, oversized, judged, IsChecked, at_fault, well_formed}
-use Rattle.delivery.specs.Lines.{Line}
 use Rattle.delivery.specs.ModelTexts.{Refusal, IsRefused, HasLayout}
-use Rattle.delivery.specs.Outcomes.{Filing, Outcome, misbuilt, areas_told, arcs_left, verified, report_of}
+use Rattle.delivery.specs.Outcomes.{Filing, Target, check_target, trial_target, Outcome, misbuilt, areas_told, arcs_left, verified, report_of}
 use Rattle.delivery.specs.Reading.{IsWhole, IsLonger}
-use Rattle.delivery.proofs.AreaLemmas.{AreaLaws, areas_agree}
+use Rattle.delivery.proofs.AreaLemmas.{AreaLaws, same_lines, areas_agree}
 use Rattle.delivery.proofs.Causes.{by_write}
-use Rattle.delivery.proofs.CommandLemmas.{one_command}
+use Rattle.delivery.proofs.OneCommand.{one_command}
 use Rattle.delivery.proofs.ModelTextLemmas.{one_layout, one_refusal, not_refused}
 
 -- ---- an outcome agrees with itself
-same_lines : (ls : List Line) → AgreeLines ls ls
-same_lines [] = tt
-same_lines (l ∷ ls) = (same refl, same_lines ls)
-
 same_filings : (f : Option Filing) → AgreeFilings f f
 same_filings None = tt
 same_filings (Some f) = refl
@@ -69,33 +64,37 @@ abbrev Same : Gathered → Gathered → Type 0
 Same g h = IsUnread g ⊎ (IsUnread h ⊎ (g ≡ h))
 
 module _ (files : Files) (far near : List ℕ → Type 0) where
-  module _ (s : Source) (g h : Gathered) (P Q : List ℕ → Type 0) (one : (text : List ℕ) → P text → Q text → Same g h) where
-    text_after : (text : List ℕ) → IsWhole (Some files) s.name (limit_of s.file) text → P text → Reads (Some files) near s h Q → Same g h
+  module _ (f : File) (name : List ℕ) (g h : Gathered) (P Q : List ℕ → Type 0) (one : (text : List ℕ) → P text → Q text → Same g h) where
+    text_after : (text : List ℕ) → IsWhole (Some files) name (limit_of f) text → P text → Reads (Some files) near (from_file f name) h Q → Same g h
     text_after text w p k = elim k as (λ z. Same g h) [
-      | inl n ↦ inr (inl (is_unread h s.file n.1))
+      | inl n ↦ inr (inl (is_unread h f n.1))
       | inr n ↦ elim n as (λ z. Same g h) [
-        | inl m ↦ absurd (not_longer files s.name (limit_of s.file) text w m.0)
-        | inr m ↦ one text p (subst Q (one_text files s.name (limit_of s.file) m.0 text m.1 w) m.2)
+        | inl m ↦ absurd (not_longer files name (limit_of f) text w m.0)
+        | inr m ↦ one text p (subst Q (one_text files name (limit_of f) m.0 text m.1 w) m.2)
       ]
     ]
 
-    long_after : IsLonger (Some files) s.name (limit_of s.file) → g ≡ gathering.too_long s.file → Reads (Some files) near s h Q → Same g h
+    long_after : IsLonger (Some files) name (limit_of f) → g ≡ gathering.too_long f → Reads (Some files) near (from_file f name) h Q → Same g h
     long_after l e k = elim k as (λ z. Same g h) [
-      | inl n ↦ inr (inl (is_unread h s.file n.1))
+      | inl n ↦ inr (inl (is_unread h f n.1))
       | inr n ↦ elim n as (λ z. Same g h) [
         | inl m ↦ inr (inr (e ∙ sym m.1))
-        | inr m ↦ absurd (not_longer files s.name (limit_of s.file) m.0 m.1 l)
+        | inr m ↦ absurd (not_longer files name (limit_of f) m.0 m.1 l)
       ]
     ]
 
-    same_read : Reads (Some files) far s g P → Reads (Some files) near s h Q → Same g h
-    same_read r k = elim r as (λ z. Same g h) [
-      | inl n ↦ inl (is_unread g s.file n.1)
+    same_file : Reads (Some files) far (from_file f name) g P → Reads (Some files) near (from_file f name) h Q → Same g h
+    same_file r k = elim r as (λ z. Same g h) [
+      | inl n ↦ inl (is_unread g f n.1)
       | inr n ↦ elim n as (λ z. Same g h) [
         | inl m ↦ long_after m.0 m.1 k
         | inr m ↦ text_after m.0 m.1 m.2 k
       ]
     ]
+
+  same_read : (s : Source) (g h : Gathered) (P Q : List ℕ → Type 0) → ((text : List ℕ) → P text → Q text → Same g h) → Reads (Some files) far s g P → Reads (Some files) near s h Q → Same g h
+  same_read (from_file f name) g h P Q one r k = same_file f name g h P Q one r k
+  same_read (made text) g h P Q one r k = one text r k
 
   same_all : (l : Layout) (before : List (List ℕ)) (ss : List Source) (g h : Gathered) → ReadsAll (Some files) far l before ss g → ReadsAll (Some files) near l before ss h → Same g h
   same_all l before [] g h r k = inr (inr (r ∙ sym k))
@@ -141,33 +140,33 @@ unread_status c (gathering.refused r) o u e = absurd u
 unread_status c (gathering.texts l ts) o u e = absurd u
 
 module _ (laws : AreaLaws) where
-  agree_areas : (name : List ℕ) (l : Layout) (rows : List (List Row)) (o p : Outcome) → AreJudged name l rows o → AreJudged name l rows p → Agree o p
-  agree_areas name l rows o p j k =
+  agree_areas : (target : Target) (l : Layout) (rows : List (List Row)) (o p : Outcome) → AreJudged target l rows o → AreJudged target l rows p → Agree o p
+  agree_areas target l rows o p j k =
       subst (λ (x : Outcome). Agree x p) (sym j.told)
-      (subst (Agree (areas_told l (objects rows) name j.answers j.certificates)) (sym k.told)
-      (areas_agree laws l (objects rows) name k.drawings j.answers k.answers j.certificates k.certificates
+      (subst (Agree (areas_told l (objects rows) target j.answers j.certificates)) (sym k.told)
+      (areas_agree laws l (objects rows) target k.drawings j.answers k.answers j.certificates k.certificates
       (subst (λ (ds : List Plan). AreAnswers l l.areas ds j.answers j.certificates) (same_drawings l rows l.areas j.drawings k.drawings j.drawn k.drawn) j.answered) k.answered))
 
-  agree_rows : (name : List ℕ) (l : Layout) (rows : List (List Row)) (o p : Outcome) → IsRowsChecked name l rows o → IsRowsChecked name l rows p → Agree o p
-  agree_rows name l rows o p (faulty n e) (faulty m f) = agree_both o p _ e f
-  agree_rows name l rows o p (faulty n e) (oversized k b f) = absurd (n k)
-  agree_rows name l rows o p (faulty n e) (judged k b j) = absurd (n k)
-  agree_rows name l rows o p (oversized k b e) (faulty m f) = absurd (m k)
-  agree_rows name l rows o p (oversized k b e) (oversized m d f) = agree_both o p _ e f
-  agree_rows name l rows o p (oversized k b e) (judged m d j) = absurd (differ (sym b ∙ d))
-  agree_rows name l rows o p (judged k b i) (faulty m f) = absurd (m k)
-  agree_rows name l rows o p (judged k b i) (oversized m d f) = absurd (differ (sym d ∙ b))
-  agree_rows name l rows o p (judged k b i) (judged m d j) = agree_areas name l rows o p i j
+  agree_rows : (target : Target) (l : Layout) (rows : List (List Row)) (o p : Outcome) → IsRowsChecked target l rows o → IsRowsChecked target l rows p → Agree o p
+  agree_rows target l rows o p (faulty n e) (faulty m f) = agree_both o p _ e f
+  agree_rows target l rows o p (faulty n e) (oversized k b f) = absurd (n k)
+  agree_rows target l rows o p (faulty n e) (judged k b j) = absurd (n k)
+  agree_rows target l rows o p (oversized k b e) (faulty m f) = absurd (m k)
+  agree_rows target l rows o p (oversized k b e) (oversized m d f) = agree_both o p _ e f
+  agree_rows target l rows o p (oversized k b e) (judged m d j) = absurd (differ (sym b ∙ d))
+  agree_rows target l rows o p (judged k b i) (faulty m f) = absurd (m k)
+  agree_rows target l rows o p (judged k b i) (oversized m d f) = absurd (differ (sym d ∙ b))
+  agree_rows target l rows o p (judged k b i) (judged m d j) = agree_areas target l rows o p i j
 
-  agree_text : (name : List ℕ) (l : Layout) (text : List ℕ) (o p : Outcome) → IsChecked name l text o → IsChecked name l text p → Agree o p
-  agree_text name l text o p (at_fault n c h e) (at_fault m d k f) =
+  agree_text : (target : Target) (l : Layout) (text : List ℕ) (o p : Outcome) → IsChecked target l text o → IsChecked target l text p → Agree o p
+  agree_text target l text o p (at_fault n c h e) (at_fault m d k f) =
       let q = one_fault (form_of l) (lines_of l text) n m c d h k in
       agree_same o p (e ∙ ap (λ (x : ℕ). misbuilt x c) q.0 ∙ ap (misbuilt m) q.1 ∙ sym f)
-  agree_text name l text o p (at_fault n c h e) (well_formed t k f) = absurd (never_both (form_of l) (lines_of l text) t n c k h)
-  agree_text name l text o p (well_formed t h e) (at_fault m d k f) = absurd (never_both (form_of l) (lines_of l text) t m d h k)
-  agree_text name l text o p (well_formed t h e) (well_formed u k f) =
+  agree_text target l text o p (at_fault n c h e) (well_formed t k f) = absurd (never_both (form_of l) (lines_of l text) t n c k h)
+  agree_text target l text o p (well_formed t h e) (at_fault m d k f) = absurd (never_both (form_of l) (lines_of l text) t m d h k)
+  agree_text target l text o p (well_formed t h e) (well_formed u k f) =
       let q = one_transfer (form_of l) (lines_of l text).lines t u h.1 k.1 in
-      agree_rows name l u o p (subst (λ (x : List (List Row)). IsRowsChecked name l x o) q e) f
+      agree_rows target l u o p (subst (λ (x : List (List Row)). IsRowsChecked target l x o) q e) f
 
   agree_verified : (l : Layout) (rows : List (List Row)) (filed : List ℕ) (o p : Outcome) → AreVerified l rows filed o → AreVerified l rows filed p → Agree o p
   agree_verified l rows filed o p j k =
@@ -213,12 +212,15 @@ module _ (laws : AreaLaws) where
   agree_amount c (gathering.refused r) o p h k = agree_both o p _ h k
   agree_amount (compile m) (gathering.texts l ts) o p h k = agree_both o p _ h k
   agree_amount (check c) (gathering.texts l []) o p h k = absurd h
-  agree_amount (check c) (gathering.texts l (text ∷ [])) o p h k = agree_text c.certificate l text o p h k
+  agree_amount (check c) (gathering.texts l (text ∷ [])) o p h k = agree_text (check_target c.certificate) l text o p h k
   agree_amount (check c) (gathering.texts l (t ∷ u ∷ ts)) o p h k = absurd h
   agree_amount (verify c) (gathering.texts l []) o p h k = absurd h
   agree_amount (verify c) (gathering.texts l (text ∷ [])) o p h k = absurd h
   agree_amount (verify c) (gathering.texts l (text ∷ filed ∷ [])) o p h k = agree_filed l text filed o p h k
   agree_amount (verify c) (gathering.texts l (t ∷ u ∷ v ∷ ts)) o p h k = absurd h
+  agree_amount (trial n c) (gathering.texts l []) o p h k = absurd h
+  agree_amount (trial n c) (gathering.texts l (text ∷ [])) o p h k = agree_text (trial_target n c) l text o p h k
+  agree_amount (trial n c) (gathering.texts l (t ∷ u ∷ ts)) o p h k = absurd h
 
   files_agree : (c : Command) (g h : Gathered) (o p : Outcome) → Same g h → Amounts c g o → Amounts c h p → AgreeUnlessUnread o p
   files_agree c g h o p s a b = elim s as (λ z. AgreeUnlessUnread o p) [

@@ -1,5 +1,5 @@
 -- Answers to areas: what they say of the areas, and that two of one area agree.
-use Rattle.std.proofs.Common.{◌≡◌, ◌⊎◌, inl, inr, ℕ, zero, suc, ◌<◌, Bool, true, false, ◌||◌, List, [], ◌∷◌, ◌++◌, length, get_or, refl, sym, ap, ◌∙◌, subst, arith}
+use Rattle.std.proofs.Common.{◌≡◌, ◌⊎◌, inl, inr, ℕ, zero, suc, ◌+◌, ◌<◌, Bool, true, false, ◌||◌, List, [], ◌∷◌, ◌++◌, length, get_or, Option, None, Some, append_assoc, refl, sym, ap, ◌∙◌, subst, arith}
 use Rattle.std.specs.List.{All, AllZip, Any, list_any}
 use Rattle.std.specs.Prelude.{if◌then◌else◌}
 use Rattle.std.proofs.lemmas.List.Elements.{All-nil, All-cons, All-head, All-tail}
@@ -26,7 +26,8 @@ use Rattle.delivery.specs.AreaNames.{topic_name, table_name}
 use Rattle.delivery.specs.Drawings.{IsDrawing, AreDrawings}
 use Rattle.delivery.specs.Lines as lines
 use Rattle.delivery.specs.Lines.{Line}
-use Rattle.delivery.specs.Outcomes.{Outcome, reported, accepted, with_verdict, area_line, area_lines, areas_told}
+use Rattle.delivery.specs.Outcomes.{Target, Outcome, trial_line, size_lines, trial_lines, reported, accepted, with_verdict, area_line, area_lines, areas_told}
+use Rattle.delivery.specs.TrialCounts.{HasEvents}
 use Rattle.delivery.specs.Verifying as verifying
 use Rattle.delivery.specs.Verifying.{Verification, IsVerification}
 use Rattle.delivery.specs.declared.report.lines.AreaAnswer.{AreaAnswer}
@@ -55,12 +56,21 @@ VerificationsAgree = (l : Layout) (ds : List Plan) (text : List ℕ) (v w : Veri
 abbrev pub VerifiedPartitions : Type 0
 VerifiedPartitions = (l : Layout) (ds : List Plan) (text levels : List ℕ) → IsVerification l ds text (verifying.proved levels) → All IsPartition ds
 
+-- a drawing has one number of events, and a certificate that proves it a position for each
+abbrev pub EventsAreOne : Type 0
+EventsAreOne = (d : Plan) (m n : ℕ) → HasEvents d m → HasEvents d n → m ≡ n
+
+abbrev pub PositionsAreEvents : Type 0
+PositionsAreEvents = (d : Plan) (c : Claims) → Proves d c → HasEvents d (length c.positions)
+
 pub record AreaLaws : Type 0 where
   pub agree : AnswersAgree
   pub partitions : PartitionsAreProved
   pub proofs : ProofsHold
   pub verifications : VerificationsAgree
   pub verified : VerifiedPartitions
+  pub events : EventsAreOne
+  pub positions : PositionsAreEvents
 
 pub differ : {P : Type 0} (b : Bool) → b ≡ true → b ≡ false → P
 differ b h k = absurd (let e = sym h ∙ k in cc)
@@ -256,11 +266,15 @@ module _ (l : Layout) (rows : List (List Row)) where
   no_arc ds b w e t h = no_arc_from l.areas ds w (sym e ∙ t) h.0 h.1 h.2 (sym h.3) h.4
 
 -- what is told of answers, by whether one is a fault and whether one is left
-abbrev pub told_by : Layout → ℕ → List ℕ → List AreaAnswer → List Plain → Bool → Bool → Outcome
-told_by l objects name xs cs b c =
+abbrev pub told_by : Layout → ℕ → Target → List AreaAnswer → List Plain → Bool → Bool → Outcome
+told_by l objects target xs cs b c =
     if b then reported status.Rejected (with_verdict (area_lines l l.areas xs) verdict.Rejected)
     else if c then reported status.Undecided (with_verdict (area_lines l l.areas xs) verdict.Undecided)
-    else accepted (area_lines l l.areas xs) objects name cs
+    else accepted (area_lines l l.areas xs ++ trial_lines target.trial xs cs) objects target.name cs
+
+pub same_lines : (ls : List Line) → AgreeLines ls ls
+same_lines [] = tt
+same_lines (l ∷ ls) = (same refl, same_lines ls)
 
 -- ---- two answers to one area
 data AreAlike (x y : AreaAnswer) : Type 0 where
@@ -322,24 +336,78 @@ module _ (laws : AreaLaws) (l : Layout) where
   same_left (a ∷ as_) (d ∷ ds) (x ∷ xs) (y ∷ ys) cs es h k =
       ap (λ (b : Bool). b || has_left xs) (alike_left x y (alike a d x y h.0 k.0 h.2 k.2)) ∙ ap (λ (b : Bool). is_left y || b) (same_left as_ ds xs ys h.1 k.1 h.3 k.3)
 
-  alike_all : (as_ : List AreaOf) (ds : List Plan) (xs ys : List AreaAnswer) (cs es : List Plain) (v : Line) → AreAnswers l as_ ds xs cs → AreAnswers l as_ ds ys es → AgreeLines (area_lines l as_ xs ++ (v ∷ [])) (area_lines l as_ ys ++ (v ∷ []))
-  alike_all [] [] [] [] cs es v h k = (same refl, tt)
-  alike_all [] [] [] (y ∷ ys) cs es v h k = absurd k
-  alike_all [] [] (x ∷ xs) ys cs es v h k = absurd h
-  alike_all [] (d ∷ ds) xs ys cs es v h k = absurd h
-  alike_all (a ∷ as_) [] xs ys cs es v h k = absurd h
-  alike_all (a ∷ as_) (d ∷ ds) [] ys cs es v h k = absurd h
-  alike_all (a ∷ as_) (d ∷ ds) (x ∷ xs) [] cs es v h k = absurd k
-  alike_all (a ∷ as_) (d ∷ ds) (x ∷ xs) (y ∷ ys) cs es v h k = (alike_lines l a x y (alike a d x y h.0 k.0 h.2 k.2), alike_all as_ ds xs ys h.1 k.1 v h.3 k.3)
+  alike_all : (as_ : List AreaOf) (ds : List Plan) (xs ys : List AreaAnswer) (cs es : List Plain) (t u : List Line) → AgreeLines t u → AreAnswers l as_ ds xs cs → AreAnswers l as_ ds ys es → AgreeLines (area_lines l as_ xs ++ t) (area_lines l as_ ys ++ u)
+  alike_all [] [] [] [] cs es t u v h k = v
+  alike_all [] [] [] (y ∷ ys) cs es t u v h k = absurd k
+  alike_all [] [] (x ∷ xs) ys cs es t u v h k = absurd h
+  alike_all [] (d ∷ ds) xs ys cs es t u v h k = absurd h
+  alike_all (a ∷ as_) [] xs ys cs es t u v h k = absurd h
+  alike_all (a ∷ as_) (d ∷ ds) [] ys cs es t u v h k = absurd h
+  alike_all (a ∷ as_) (d ∷ ds) (x ∷ xs) [] cs es t u v h k = absurd k
+  alike_all (a ∷ as_) (d ∷ ds) (x ∷ xs) (y ∷ ys) cs es t u v h k = (alike_lines l a x y (alike a d x y h.0 k.0 h.2 k.2), alike_all as_ ds xs ys h.1 k.1 t u v h.3 k.3)
 
-  module _ (objects : ℕ) (name : List ℕ) where
-    agree_by : (ds : List Plan) (xs ys : List AreaAnswer) (cs es : List Plain) (b c : Bool) → AreAnswers l l.areas ds xs cs → AreAnswers l l.areas ds ys es → Agree (told_by l objects name xs cs b c) (told_by l objects name ys es b c)
-    agree_by ds xs ys cs es true c h k = record { status = refl; lines = alike_all l.areas ds xs ys cs es (lines.verdict verdict.Rejected) h k; filings = tt }
-    agree_by ds xs ys cs es false true h k = record { status = refl; lines = alike_all l.areas ds xs ys cs es (lines.verdict verdict.Undecided) h k; filings = tt }
-    agree_by ds xs ys cs es false false h k = record { status = refl; lines = alike_all l.areas ds xs ys cs es (lines.verdict (verdict.Accepted objects)) h k; filings = refl }
+  -- two certificates of one drawing have one number of positions
+  module _ (n : ℕ) where
+    proved_line : (a : AreaOf) (d : Plan) (x : AreaAnswer) (cs : List Plain) → IsAnswer l a d x cs → is_fault x ≡ false → is_left x ≡ false
+        → (e : ℕ) × HasEvents d e × (c : Plain) × (cs ≡ c ∷ []) × (trial_line n x c ≡ lines.trial n (length d.curves) e (length d.points) ∷ [])
+    proved_line a d x cs (later i h e z) f g = differ (is_left x) (ap is_left e) g
+    proved_line a d x cs (faulty p s h e z) f g = differ (is_fault x) (ap is_fault e ∙ fault_is_fault d p) f
+    proved_line a d x cs (proved c s h v e z) f g = (length c.positions, laws.positions d _ h.proves, c, z, ap (λ (y : AreaAnswer). trial_line n y c) e)
 
-    pub areas_agree : (ds : List Plan) (xs ys : List AreaAnswer) (cs es : List Plain) → AreAnswers l l.areas ds xs cs → AreAnswers l l.areas ds ys es → Agree (areas_told l objects name xs cs) (areas_told l objects name ys es)
+    same_line : (a : AreaOf) (d : Plan) (x y : AreaAnswer) (cs es : List Plain) → IsAnswer l a d x cs → IsAnswer l a d y es → is_fault x ≡ false → is_left x ≡ false → is_fault y ≡ false → is_left y ≡ false
+        → (c : Plain) × (e : Plain) × (cs ≡ c ∷ []) × (es ≡ e ∷ []) × (trial_line n x c ≡ trial_line n y e)
+    same_line a d x y cs es h k fx gx fy gy =
+        let p = proved_line a d x cs h fx gx in
+        let q = proved_line a d y es k fy gy in
+        (p.2, q.2, p.3, q.3, p.4 ∙ ap (λ (m : ℕ). lines.trial n (length d.curves) m (length d.points) ∷ []) (laws.events d p.0 q.0 p.1 q.1) ∙ sym q.4)
+
+    same_sizes : (as_ : List AreaOf) (ds : List Plan) (xs ys : List AreaAnswer) (cs es : List Plain) → AreAnswers l as_ ds xs cs → AreAnswers l as_ ds ys es → has_fault xs ≡ false → has_left xs ≡ false → has_fault ys ≡ false → has_left ys ≡ false → size_lines n xs cs ≡ size_lines n ys es
+    same_sizes [] [] [] [] cs es h k fx gx fy gy = refl
+    same_sizes [] [] [] (y ∷ ys) cs es h k fx gx fy gy = absurd k
+    same_sizes [] [] (x ∷ xs) ys cs es h k fx gx fy gy = absurd h
+    same_sizes [] (d ∷ ds) xs ys cs es h k fx gx fy gy = absurd h
+    same_sizes (a ∷ as_) [] xs ys cs es h k fx gx fy gy = absurd h
+    same_sizes (a ∷ as_) (d ∷ ds) [] ys cs es h k fx gx fy gy = absurd h
+    same_sizes (a ∷ as_) (d ∷ ds) (x ∷ xs) [] cs es h k fx gx fy gy = absurd k
+    same_sizes (a ∷ as_) (d ∷ ds) (x ∷ xs) (y ∷ ys) cs es h k fx gx fy gy =
+        let f = neither (is_fault x) (has_fault xs) fx in
+        let g = neither (is_left x) (has_left xs) gx in
+        let p = neither (is_fault y) (has_fault ys) fy in
+        let q = neither (is_left y) (has_left ys) gy in
+        let one = same_line a d x y h.0 k.0 h.2 k.2 f.0 g.0 p.0 q.0 in
+        let rest = same_sizes as_ ds xs ys h.1 k.1 h.3 k.3 f.1 g.1 p.1 q.1 in
+        let left : cs ≡ one.0 ∷ h.1 = h.4 ∙ ap (λ (here : List Plain). here ++ h.1) one.2 in
+        let right : es ≡ one.1 ∷ k.1 = k.4 ∙ ap (λ (here : List Plain). here ++ k.1) one.3 in
+        ap (size_lines n (x ∷ xs)) left
+        ∙ ap (λ (here : List Line). here ++ size_lines n xs h.1) one.4
+        ∙ ap (λ (more : List Line). trial_line n y one.1 ++ more) rest
+        ∙ sym (ap (size_lines n (y ∷ ys)) right)
+
+  same_trials : (trial : Option ℕ) (ds : List Plan) (xs ys : List AreaAnswer) (cs es : List Plain) → AreAnswers l l.areas ds xs cs → AreAnswers l l.areas ds ys es → has_fault xs ≡ false → has_left xs ≡ false → has_fault ys ≡ false → has_left ys ≡ false → trial_lines trial xs cs ≡ trial_lines trial ys es
+  same_trials None ds xs ys cs es h k fx gx fy gy = refl
+  same_trials (Some n) ds xs ys cs es h k fx gx fy gy = same_sizes n l.areas ds xs ys cs es h k fx gx fy gy
+
+  -- the lines of areas, of a trial, and a verdict
+  accepted_lines : (ds : List Plan) (xs ys : List AreaAnswer) (cs es : List Plain) (t u : List Line) (v : Line) → t ≡ u → AreAnswers l l.areas ds xs cs → AreAnswers l l.areas ds ys es → AgreeLines ((area_lines l l.areas xs ++ t) ++ (v ∷ [])) ((area_lines l l.areas ys ++ u) ++ (v ∷ []))
+  accepted_lines ds xs ys cs es t u v e h k =
+      let tails : AgreeLines (t ++ (v ∷ [])) (u ++ (v ∷ [])) = subst (λ (w : List Line). AgreeLines (t ++ (v ∷ [])) (w ++ (v ∷ []))) e (same_lines (t ++ (v ∷ []))) in
+      subst (λ (w : List Line). AgreeLines w ((area_lines l l.areas ys ++ u) ++ (v ∷ []))) (sym (append_assoc (area_lines l l.areas xs) t (v ∷ [])))
+      (subst (AgreeLines (area_lines l l.areas xs ++ (t ++ (v ∷ [])))) (sym (append_assoc (area_lines l l.areas ys) u (v ∷ [])))
+      (alike_all l.areas ds xs ys cs es (t ++ (v ∷ [])) (u ++ (v ∷ [])) tails h k))
+
+  module _ (objects : ℕ) (target : Target) where
+    agree_by : (ds : List Plan) (xs ys : List AreaAnswer) (cs es : List Plain) (b c : Bool) → has_fault xs ≡ b → has_left xs ≡ c → AreAnswers l l.areas ds xs cs → AreAnswers l l.areas ds ys es → Agree (told_by l objects target xs cs b c) (told_by l objects target ys es b c)
+    agree_by ds xs ys cs es true c f g h k = record { status = refl; lines = alike_all l.areas ds xs ys cs es (lines.verdict verdict.Rejected ∷ []) (lines.verdict verdict.Rejected ∷ []) (same refl, tt) h k; filings = tt }
+    agree_by ds xs ys cs es false true f g h k = record { status = refl; lines = alike_all l.areas ds xs ys cs es (lines.verdict verdict.Undecided ∷ []) (lines.verdict verdict.Undecided ∷ []) (same refl, tt) h k; filings = tt }
+    agree_by ds xs ys cs es false false f g h k = record {
+      status = refl;
+      lines = accepted_lines ds xs ys cs es (trial_lines target.trial xs cs) (trial_lines target.trial ys es) (lines.verdict (verdict.Accepted objects))
+          (same_trials target.trial ds xs ys cs es h k f g (sym (same_faults l.areas ds xs ys cs es h k) ∙ f) (sym (same_left l.areas ds xs ys cs es h k) ∙ g)) h k;
+      filings = refl;
+    }
+
+    pub areas_agree : (ds : List Plan) (xs ys : List AreaAnswer) (cs es : List Plain) → AreAnswers l l.areas ds xs cs → AreAnswers l l.areas ds ys es → Agree (areas_told l objects target xs cs) (areas_told l objects target ys es)
     areas_agree ds xs ys cs es h k =
-        subst (λ (b : Bool). Agree (told_by l objects name xs cs (has_fault xs) (has_left xs)) (told_by l objects name ys es b (has_left ys))) (same_faults l.areas ds xs ys cs es h k)
-        (subst (λ (c : Bool). Agree (told_by l objects name xs cs (has_fault xs) (has_left xs)) (told_by l objects name ys es (has_fault xs) c)) (same_left l.areas ds xs ys cs es h k)
-        (agree_by ds xs ys cs es (has_fault xs) (has_left xs) h k))
+        subst (λ (b : Bool). Agree (told_by l objects target xs cs (has_fault xs) (has_left xs)) (told_by l objects target ys es b (has_left ys))) (same_faults l.areas ds xs ys cs es h k)
+        (subst (λ (c : Bool). Agree (told_by l objects target xs cs (has_fault xs) (has_left xs)) (told_by l objects target ys es (has_fault xs) c)) (same_left l.areas ds xs ys cs es h k)
+        (agree_by ds xs ys cs es (has_fault xs) (has_left xs) refl refl h k))

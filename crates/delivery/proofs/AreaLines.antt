@@ -9,7 +9,9 @@ use Rattle.delivery.specs.Lines.{Line}
 use Rattle.plane.specs.Rule.Plans.{plan}
 use Rattle.plane.specs.declared.drawing.Drawing.{Drawing}
 use Rattle.delivery.specs.AreaAnswers.{plans, proof_told}
-use Rattle.delivery.specs.Outcomes.{area_line, area_lines, arc_line, arc_lines, proofs_told}
+use Rattle.certificate.specs.Spelling.{view, views}
+use Rattle.certificate.specs.declared.notes.Certificate.{Certificate}
+use Rattle.delivery.specs.Outcomes.{area_line, area_lines, arc_line, arc_lines, trial_line, size_lines, proofs_told}
 use Rattle.delivery.specs.declared.report.lines.AreaAnswer.{AreaAnswer}
 use Rattle.delivery.specs.declared.report.lines.Line as code
 
@@ -41,6 +43,19 @@ pub arcs_more : (l : Layout) (all : List AreaOf) (a : AreaOf) (as_ : List AreaOf
     → new ≡ old ++ arc_line l (area_view a) (plan d) → old ++ arc_lines l (areas_view all) (plans whole) ≡ result → new ++ arc_lines l (areas_view as_) (plans ds) ≡ result
 arcs_more l all a as_ whole d ds old new result e f g k =
     let same : arc_lines l (areas_view all) (plans whole) ≡ arc_line l (area_view a) (plan d) ++ arc_lines l (areas_view as_) (plans ds) = rw (e, f) refl in
+    rw (g, append_assoc, ← same) k
+
+-- ---- the lines of a trial
+pub sizes_end : (n : ℕ) (xs : List AreaAnswer) (cs : List Certificate) → (xs ≡ []) ⊎ (cs ≡ []) → size_lines n xs (views cs) ≡ []
+sizes_end n [] cs h = refl
+sizes_end n (x ∷ xs) [] h = refl
+sizes_end n (x ∷ xs) (c ∷ cs) (inl h) = absurd (cc)
+sizes_end n (x ∷ xs) (c ∷ cs) (inr h) = absurd (cc)
+
+pub sizes_more : (n : ℕ) (all : List AreaAnswer) (x : AreaAnswer) (xs : List AreaAnswer) (whole : List Certificate) (c : Certificate) (cs : List Certificate) (old new result : List Line) → all ≡ x ∷ xs → whole ≡ c ∷ cs
+    → new ≡ old ++ trial_line n x (view c) → old ++ size_lines n all (views whole) ≡ result → new ++ size_lines n xs (views cs) ≡ result
+sizes_more n all x xs whole c cs old new result e f g k =
+    let same : size_lines n all (views whole) ≡ trial_line n x (view c) ++ size_lines n xs (views cs) = rw (e, f) refl in
     rw (g, append_assoc, ← same) k
 
 -- ---- the answers to drawings that are proved

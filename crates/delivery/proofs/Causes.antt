@@ -1,21 +1,21 @@
 -- What the outcome of the words and the files says of the answer.
 use Rattle.std.proofs.Common.{◌≡◌, ℕ, Bool, true, false, List, [], ◌∷◌, Option, refl, sym, ◌∙◌, subst, inl, inr}
-use Rattle.std.specs.Prelude.{◌≢◌, ⊤, codes}
+use Rattle.std.specs.Prelude.{◌≢◌, ◌⊎◌, ⊤, codes}
 use Rattle.ports.specs.Files.{Files}
 use Rattle.itf_reader.specs.Forms.{Row}
 use Rattle.table_layout.specs.Layouts.{Layout}
 use Rattle.delivery.specs.declared.status.Status.{Status}
 use Rattle.delivery.specs.declared.status.Status.TheVariants.{Accepted, Rejected, Undecided, ModelRefused, Usage, ReadFault, WriteFault, OverLimit, Memory, NotProved}
 use Rattle.delivery.specs.Answers.{Means}
-use Rattle.delivery.specs.Commands.{FileNames, Command, compile, check, verify, IsSpelled, IsCommand}
+use Rattle.delivery.specs.Commands.{FileNames, Command, compile, check, verify, trial, IsSpelled, IsCommand}
 use Rattle.delivery.specs.Deciding.{Decides, formless, formed}
 use Rattle.delivery.specs.Gathering as gathering
 use Rattle.delivery.specs.Gathering.{Gathered, Gathers}
-use Rattle.delivery.specs.Amounting.{Amounts}
+use Rattle.delivery.specs.Amounting.{Amounts, HasSoundRows, HasFault, HasLargeArea, Accepts, Rejects, LeavesAreas, IsOversized}
 use Rattle.delivery.specs.Judging.{findings, objects, Tells, IsClean, AreJudged, IsRowsChecked, faulty, oversized, judged, IsChecked, at_fault, well_formed}
-use Rattle.delivery.specs.AreaAnswers.{has_fault, has_left}
+use Rattle.delivery.specs.AreaAnswers.{has_fault, has_left, HasFaultyArea, ArePartedAreas, AreLeftAreas}
 use Rattle.delivery.specs.AreaLimits.{has_too_large}
-use Rattle.delivery.specs.Outcomes.{Outcome, usage, unread, too_long, area_too_large, refused, compiled, misbuilt, rejected, areas_told, arcs_left, verified}
+use Rattle.delivery.specs.Outcomes.{Target, check_target, trial_target, Outcome, usage, unread, too_long, area_too_large, refused, compiled, misbuilt, rejected, areas_told, arcs_left, verified}
 use Rattle.delivery.specs.FiledTexts as filed_texts
 use Rattle.delivery.specs.FiledTexts.{AreVerified, IsRowsVerified, IsVerified}
 use Rattle.delivery.specs.Verifying as verifying
@@ -28,25 +28,30 @@ module _ (laws : AreaLaws) (told : Option Files) (counted : List ℕ → Type 0)
   moved : (o p : Outcome) → o ≡ p → Means told counted words p.status → Means told counted words o.status
   moved o p e h = subst (λ (x : Outcome). Means told counted words x.status) (sym e) h
 
-  module _ (c : FileNames) (i : IsSpelled (codes "check") words c) (l : Layout) (text : List ℕ) (g_ : Gathers told counted (check c) (gathering.texts l (text ∷ []))) where
+  -- a command whose transfer is judged, and what its tests say of one text
+  module _ (c : Command) (target : Target) (i : IsCommand words c) (l : Layout) (text : List ℕ) (g_ : Gathers told counted c (gathering.texts l (text ∷ [])))
+      (accepts : HasSoundRows l text (ArePartedAreas l) → Accepts c l (text ∷ []))
+      (rejects : HasFault l text ⊎ HasSoundRows l text (HasFaultyArea l) → Rejects c l (text ∷ []))
+      (leaves : HasSoundRows l text (AreLeftAreas l) → LeavesAreas c l (text ∷ []))
+      (exceeds : HasLargeArea l text → IsOversized c l (text ∷ [])) where
     -- the status of the answers to areas
-    areas_mean : (rows : List (List Row)) → Tells l text rows → IsClean l rows → has_too_large rows l.areas ≡ false → (o : Outcome) → AreJudged c.certificate l rows o → Means told counted words o.status
-    areas_mean rows t k b o j = moved o (areas_told l (objects rows) c.certificate j.answers j.certificates) j.told (by (has_fault j.answers) (has_left j.answers) refl refl)
+    areas_mean : (rows : List (List Row)) → Tells l text rows → IsClean l rows → has_too_large rows l.areas ≡ false → (o : Outcome) → AreJudged target l rows o → Means told counted words o.status
+    areas_mean rows t k b o j = moved o (areas_told l (objects rows) target j.answers j.certificates) j.told (by (has_fault j.answers) (has_left j.answers) refl refl)
       where
         by : (f g : Bool) → has_fault j.answers ≡ f → has_left j.answers ≡ g
-            → Means told counted words (told_by l (objects rows) c.certificate j.answers j.certificates f g).status
-        by true g f h = (check c, l, text ∷ [], i, g_, inr (rows, t, k, b, faulty_area laws l rows j.drawings j.answers j.certificates j.drawn j.answered f))
-        by false true f h = (check c, l, text ∷ [], i, g_, (rows, t, k, b, left_areas laws l rows j.drawings j.answers j.certificates j.drawn j.answered f h))
-        by false false f h = (check c, l, text ∷ [], i, g_, (rows, t, k, b, parted_areas laws l rows j.drawings j.answers j.certificates j.drawn j.answered f h))
+            → Means told counted words (told_by l (objects rows) target j.answers j.certificates f g).status
+        by true g f h = (c, l, text ∷ [], i, g_, rejects (inr (rows, t, k, b, faulty_area laws l rows j.drawings j.answers j.certificates j.drawn j.answered f)))
+        by false true f h = (c, l, text ∷ [], i, g_, leaves (rows, t, k, b, left_areas laws l rows j.drawings j.answers j.certificates j.drawn j.answered f h))
+        by false false f h = (c, l, text ∷ [], i, g_, accepts (rows, t, k, b, parted_areas laws l rows j.drawings j.answers j.certificates j.drawn j.answered f h))
 
-    rows_mean : (rows : List (List Row)) → Tells l text rows → (o : Outcome) → IsRowsChecked c.certificate l rows o → Means told counted words o.status
-    rows_mean rows t o (faulty n e) = moved o (rejected (findings l rows)) e (check c, l, text ∷ [], i, g_, inl (inr (rows, t, n)))
-    rows_mean rows t o (oversized k b e) = moved o area_too_large e (inr (check c, l, text ∷ [], i, g_, (rows, t, k, b)))
+    rows_mean : (rows : List (List Row)) → Tells l text rows → (o : Outcome) → IsRowsChecked target l rows o → Means told counted words o.status
+    rows_mean rows t o (faulty n e) = moved o (rejected (findings l rows)) e (c, l, text ∷ [], i, g_, rejects (inl (inr (rows, t, n))))
+    rows_mean rows t o (oversized k b e) = moved o area_too_large e (inr (c, l, text ∷ [], i, g_, exceeds (rows, t, k, b)))
     rows_mean rows t o (judged k b j) = areas_mean rows t k b o j
 
-    check_means : (o : Outcome) → IsChecked c.certificate l text o → Means told counted words o.status
-    check_means o (at_fault n code h e) = moved o (misbuilt n code) e (check c, l, text ∷ [], i, g_, inl (inl (n, code, h)))
-    check_means o (well_formed rows t h) = rows_mean rows t o h
+    checked_means : (o : Outcome) → IsChecked target l text o → Means told counted words o.status
+    checked_means o (at_fault n code h e) = moved o (misbuilt n code) e (c, l, text ∷ [], i, g_, rejects (inl (inl (n, code, h))))
+    checked_means o (well_formed rows t h) = rows_mean rows t o h
 
   module _ (c : FileNames) (i : IsSpelled (codes "verify") words c) (l : Layout) (text filed : List ℕ) (g_ : Gathers told counted (verify c) (gathering.texts l (text ∷ filed ∷ []))) where
     -- the status of what certificates prove
@@ -73,12 +78,15 @@ module _ (laws : AreaLaws) (told : Option Files) (counted : List ℕ → Type 0)
   files_mean c (gathering.refused r) i h o e = moved o (refused r) e (r, (c, i, h))
   files_mean (compile m) (gathering.texts l ts) i h o e = moved o (compiled l) e (compile m, l, ts, i, h, tt)
   files_mean (check c) (gathering.texts l []) i h o k = absurd k
-  files_mean (check c) (gathering.texts l (text ∷ [])) i h o k = check_means c i l text h o k
+  files_mean (check c) (gathering.texts l (text ∷ [])) i h o k = checked_means (check c) (check_target c.certificate) i l text h (λ x. x) (λ x. x) (λ x. x) (λ x. x) o k
   files_mean (check c) (gathering.texts l (t ∷ u ∷ ts)) i h o k = absurd k
   files_mean (verify c) (gathering.texts l []) i h o k = absurd k
   files_mean (verify c) (gathering.texts l (text ∷ [])) i h o k = absurd k
   files_mean (verify c) (gathering.texts l (text ∷ filed ∷ [])) i h o k = verify_means c i l text filed h o k
   files_mean (verify c) (gathering.texts l (t ∷ u ∷ v ∷ ts)) i h o k = absurd k
+  files_mean (trial n c) (gathering.texts l []) i h o k = absurd k
+  files_mean (trial n c) (gathering.texts l (text ∷ [])) i h o k = checked_means (trial n c) (trial_target n c) i l text h (λ x. x) (λ x. x) (λ x. x) (λ x. x) o k
+  files_mean (trial n c) (gathering.texts l (t ∷ u ∷ ts)) i h o k = absurd k
 
   -- the status of the outcome has its cause
   pub means : (o : Outcome) → Decides told counted words o → Means told counted words o.status
@@ -94,22 +102,22 @@ IsFixed _ = ⊤
 fixed_as : (o p : Outcome) → o ≡ p → IsFixed p.status → IsFixed o.status
 fixed_as o p e h = subst (λ (x : Outcome). IsFixed x.status) (sym e) h
 
-areas_fixed : (name : List ℕ) (l : Layout) (rows : List (List Row)) (o : Outcome) → AreJudged name l rows o → IsFixed o.status
-areas_fixed name l rows o j = fixed_as o (areas_told l (objects rows) name j.answers j.certificates) j.told (by (has_fault j.answers) (has_left j.answers))
+areas_fixed : (target : Target) (l : Layout) (rows : List (List Row)) (o : Outcome) → AreJudged target l rows o → IsFixed o.status
+areas_fixed target l rows o j = fixed_as o (areas_told l (objects rows) target j.answers j.certificates) j.told (by (has_fault j.answers) (has_left j.answers))
   where
-    by : (f g : Bool) → IsFixed (told_by l (objects rows) name j.answers j.certificates f g).status
+    by : (f g : Bool) → IsFixed (told_by l (objects rows) target j.answers j.certificates f g).status
     by true g = tt
     by false true = tt
     by false false = tt
 
-rows_fixed : (name : List ℕ) (l : Layout) (rows : List (List Row)) (o : Outcome) → IsRowsChecked name l rows o → IsFixed o.status
-rows_fixed name l rows o (faulty n e) = fixed_as o (rejected (findings l rows)) e tt
-rows_fixed name l rows o (oversized k b e) = fixed_as o area_too_large e tt
-rows_fixed name l rows o (judged k b j) = areas_fixed name l rows o j
+rows_fixed : (target : Target) (l : Layout) (rows : List (List Row)) (o : Outcome) → IsRowsChecked target l rows o → IsFixed o.status
+rows_fixed target l rows o (faulty n e) = fixed_as o (rejected (findings l rows)) e tt
+rows_fixed target l rows o (oversized k b e) = fixed_as o area_too_large e tt
+rows_fixed target l rows o (judged k b j) = areas_fixed target l rows o j
 
-check_fixed : (name : List ℕ) (l : Layout) (text : List ℕ) (o : Outcome) → IsChecked name l text o → IsFixed o.status
-check_fixed name l text o (at_fault n code h e) = fixed_as o (misbuilt n code) e tt
-check_fixed name l text o (well_formed rows t h) = rows_fixed name l rows o h
+check_fixed : (target : Target) (l : Layout) (text : List ℕ) (o : Outcome) → IsChecked target l text o → IsFixed o.status
+check_fixed target l text o (at_fault n code h e) = fixed_as o (misbuilt n code) e tt
+check_fixed target l text o (well_formed rows t h) = rows_fixed target l rows o h
 
 verified_fixed : (l : Layout) (rows : List (List Row)) (filed : List ℕ) (o : Outcome) → AreVerified l rows filed o → IsFixed o.status
 verified_fixed l rows filed o j = fixed_as o (verified l (objects rows) j.drawings j.verification) j.told (by j.verification)
@@ -134,12 +142,15 @@ files_fixed c (gathering.too_long f) o e = fixed_as o (too_long f) e tt
 files_fixed c (gathering.refused r) o e = fixed_as o (refused r) e tt
 files_fixed (compile m) (gathering.texts l ts) o e = fixed_as o (compiled l) e tt
 files_fixed (check c) (gathering.texts l []) o k = absurd k
-files_fixed (check c) (gathering.texts l (text ∷ [])) o k = check_fixed c.certificate l text o k
+files_fixed (check c) (gathering.texts l (text ∷ [])) o k = check_fixed (check_target c.certificate) l text o k
 files_fixed (check c) (gathering.texts l (t ∷ u ∷ ts)) o k = absurd k
 files_fixed (verify c) (gathering.texts l []) o k = absurd k
 files_fixed (verify c) (gathering.texts l (text ∷ [])) o k = absurd k
 files_fixed (verify c) (gathering.texts l (text ∷ filed ∷ [])) o k = filed_fixed l text filed o k
 files_fixed (verify c) (gathering.texts l (t ∷ u ∷ v ∷ ts)) o k = absurd k
+files_fixed (trial n c) (gathering.texts l []) o k = absurd k
+files_fixed (trial n c) (gathering.texts l (text ∷ [])) o k = check_fixed (trial_target n c) l text o k
+files_fixed (trial n c) (gathering.texts l (t ∷ u ∷ ts)) o k = absurd k
 
 fixed : (told : Option Files) (counted : List ℕ → Type 0) (words : List (List ℕ)) (o : Outcome) → Decides told counted words o → IsFixed o.status
 fixed told counted words o (formless u e) = fixed_as o usage e tt

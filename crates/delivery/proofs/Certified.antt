@@ -1,4 +1,4 @@
--- An accepted check leaves certificates that prove its areas.
+-- An accepted check or trial leaves certificates that prove its areas.
 use Rattle.std.proofs.Common.{◌≡◌, ℕ, Bool, true, false, List, [], ◌∷◌, ◌++◌, Option, Some, refl, sym, ap, ◌∙◌, subst}
 use Rattle.ports.specs.Files.{Files}
 use Rattle.certificate.specs.Spelling.{Plain}
@@ -9,18 +9,18 @@ use Rattle.delivery.specs.Amounting.{Amounts}
 use Rattle.delivery.specs.AreaAnswers.{IsAnswer, later, faulty, proved, AreAnswers, is_fault, is_left, has_fault, has_left}
 use Rattle.delivery.specs.AreaCertificates.{IsCertificateOf, AreCertificatesOf}
 use Rattle.delivery.specs.Certified.{AreCertified, Certifies}
-use Rattle.delivery.specs.Commands.{FileNames, Command, check}
+use Rattle.delivery.specs.Commands.{Command, compile, check, verify, trial, writes_to}
 use Rattle.delivery.specs.Deciding.{Decides, formless, formed}
 use Rattle.delivery.specs.Effects.{Filed}
 use Rattle.delivery.specs.Gathering as gathering
 use Rattle.delivery.specs.Gathering.{Gathered, Gathers}
 use Rattle.delivery.specs.Judging as judging
 use Rattle.delivery.specs.Judging.{Tells, IsClean, objects, AreJudged, IsRowsChecked, IsChecked}
-use Rattle.delivery.specs.Outcomes.{Outcome, Filing}
+use Rattle.delivery.specs.Outcomes.{Target, check_target, trial_target, Outcome, Filing}
 use Rattle.delivery.specs.declared.report.lines.AreaAnswer.{AreaAnswer}
 use Rattle.delivery.specs.declared.status.Status.TheVariants.{Accepted}
 use Rattle.delivery.proofs.AreaLemmas.{told_by, differ, neither, fault_is_fault}
-use Rattle.delivery.proofs.CommandLemmas.{one_command}
+use Rattle.delivery.proofs.OneCommand.{one_command}
 
 -- ---- one certificate for each area
 one_certificate : (l : Layout) (a : AreaOf) (d : Plan) (x : AreaAnswer) (here : List Plain) → IsAnswer l a d x here → is_fault x ≡ false → is_left x ≡ false → (c : Plain) × (here ≡ c ∷ []) × IsCertificateOf l a d c
@@ -41,28 +41,28 @@ certificates l (a ∷ as_) (d ∷ ds) (x ∷ xs) cs h f g =
     let whole : cs ≡ one.0 ∷ h.1 = h.4 ∙ ap (λ (here : List Plain). here ++ h.1) one.1 in
     subst (AreCertificatesOf l (a ∷ as_) (d ∷ ds)) (sym whole) (one.2, certificates l as_ ds xs h.1 h.3 n.1 m.1)
 
--- ---- what an accepted outcome of a check is
-record IsFiled (c : FileNames) (g : Gathered) (o : Outcome) : Type 0 where
+-- ---- what an accepted outcome is that writes to that file
+record IsFiled (name : List ℕ) (g : Gathered) (o : Outcome) : Type 0 where
   layout : Layout
   text : List ℕ
   certificates : List Plain
   read : g ≡ gathering.texts layout (text ∷ [])
   certified : AreCertified layout text certificates
-  filed : o.filing ≡ Some (record { name = c.certificate; certificates = certificates })
+  filed : o.filing ≡ Some (record { name = name; certificates = certificates })
 
 status_of : (o p : Outcome) → o ≡ p → o.status ≡ Accepted → p.status ≡ Accepted
 status_of o p e h = sym (ap (λ (x : Outcome). x.status) e) ∙ h
 
-module _ (c : FileNames) (l : Layout) (text : List ℕ) (o : Outcome) (s : o.status ≡ Accepted) where
-  filed_areas : (rows : List (List Row)) → Tells l text rows → IsClean l rows → AreJudged c.certificate l rows o → IsFiled c (gathering.texts l (text ∷ [])) o
+module _ (target : Target) (l : Layout) (text : List ℕ) (o : Outcome) (s : o.status ≡ Accepted) where
+  filed_areas : (rows : List (List Row)) → Tells l text rows → IsClean l rows → AreJudged target l rows o → IsFiled target.name (gathering.texts l (text ∷ [])) o
   filed_areas rows t k j = by (has_fault j.answers) (has_left j.answers) refl refl
     where
-      told : (f g : Bool) → has_fault j.answers ≡ f → has_left j.answers ≡ g → o ≡ told_by l (objects rows) c.certificate j.answers j.certificates f g
+      told : (f g : Bool) → has_fault j.answers ≡ f → has_left j.answers ≡ g → o ≡ told_by l (objects rows) target j.answers j.certificates f g
       told f g e h =
-          j.told ∙ ap (λ (b : Bool). told_by l (objects rows) c.certificate j.answers j.certificates b (has_left j.answers)) e
-          ∙ ap (told_by l (objects rows) c.certificate j.answers j.certificates f) h
+          j.told ∙ ap (λ (b : Bool). told_by l (objects rows) target j.answers j.certificates b (has_left j.answers)) e
+          ∙ ap (told_by l (objects rows) target j.answers j.certificates f) h
 
-      by : (f g : Bool) → has_fault j.answers ≡ f → has_left j.answers ≡ g → IsFiled c (gathering.texts l (text ∷ [])) o
+      by : (f g : Bool) → has_fault j.answers ≡ f → has_left j.answers ≡ g → IsFiled target.name (gathering.texts l (text ∷ [])) o
       by true g e h = absurd (let q = status_of o _ (told true g e h) s in cc)
       by false true e h = absurd (let q = status_of o _ (told false true e h) s in cc)
       by false false e h = record {
@@ -74,32 +74,42 @@ module _ (c : FileNames) (l : Layout) (text : List ℕ) (o : Outcome) (s : o.sta
         filed = ap (λ (x : Outcome). x.filing) (told false false e h);
       }
 
-  filed_rows : (rows : List (List Row)) → Tells l text rows → IsRowsChecked c.certificate l rows o → IsFiled c (gathering.texts l (text ∷ [])) o
+  filed_rows : (rows : List (List Row)) → Tells l text rows → IsRowsChecked target l rows o → IsFiled target.name (gathering.texts l (text ∷ [])) o
   filed_rows rows t (judging.faulty n e) = absurd (let q = status_of o _ e s in cc)
   filed_rows rows t (judging.oversized k b e) = absurd (let q = status_of o _ e s in cc)
   filed_rows rows t (judging.judged k b j) = filed_areas rows t k j
 
-  filed_text : IsChecked c.certificate l text o → IsFiled c (gathering.texts l (text ∷ [])) o
+  filed_text : IsChecked target l text o → IsFiled target.name (gathering.texts l (text ∷ [])) o
   filed_text (judging.at_fault n code h e) = absurd (let q = status_of o _ e s in cc)
   filed_text (judging.well_formed rows t h) = filed_rows rows t h
 
-filed_by : (c : FileNames) (g : Gathered) (o : Outcome) → Amounts (check c) g o → o.status ≡ Accepted → IsFiled c g o
-filed_by c (gathering.unread f) o e s = absurd (let q = status_of o _ e s in cc)
-filed_by c (gathering.too_long f) o e s = absurd (let q = status_of o _ e s in cc)
-filed_by c (gathering.refused r) o e s = absurd (let q = status_of o _ e s in cc)
-filed_by c (gathering.texts l []) o k s = absurd k
-filed_by c (gathering.texts l (text ∷ [])) o k s = filed_text c l text o s k
-filed_by c (gathering.texts l (t ∷ u ∷ ts)) o k s = absurd k
+filed_as : (target : Target) (name : List ℕ) (l : Layout) (text : List ℕ) (o : Outcome) → Some target.name ≡ Some name → IsChecked target l text o → o.status ≡ Accepted → IsFiled name (gathering.texts l (text ∷ [])) o
+filed_as target name l text o w k s =
+    let e : target.name ≡ name = cc in
+    subst (λ (x : List ℕ). IsFiled x (gathering.texts l (text ∷ [])) o) e (filed_text target l text o s k)
+
+filed_by : (c : Command) (name : List ℕ) (g : Gathered) (o : Outcome) → writes_to c ≡ Some name → Amounts c g o → o.status ≡ Accepted → IsFiled name g o
+filed_by c name (gathering.unread f) o w e s = absurd (let q = status_of o _ e s in cc)
+filed_by c name (gathering.too_long f) o w e s = absurd (let q = status_of o _ e s in cc)
+filed_by c name (gathering.refused r) o w e s = absurd (let q = status_of o _ e s in cc)
+filed_by (compile m) name (gathering.texts l ts) o w k s = absurd (cc)
+filed_by (verify c) name (gathering.texts l ts) o w k s = absurd (cc)
+filed_by (check c) name (gathering.texts l []) o w k s = absurd k
+filed_by (check c) name (gathering.texts l (text ∷ [])) o w k s = filed_as (check_target c.certificate) name l text o w k s
+filed_by (check c) name (gathering.texts l (t ∷ u ∷ ts)) o w k s = absurd k
+filed_by (trial n c) name (gathering.texts l []) o w k s = absurd k
+filed_by (trial n c) name (gathering.texts l (text ∷ [])) o w k s = filed_as (trial_target n c) name l text o w k s
+filed_by (trial n c) name (gathering.texts l (t ∷ u ∷ ts)) o w k s = absurd k
 
 pub certifies : (told : Option Files) (counted : List ℕ → Type 0) (words : List (List ℕ)) (o : Outcome) (new : Option Files) → Decides told counted words o → o.status ≡ Accepted → Filed o.filing told new → Certifies told counted words new
-certifies told counted words o new (formless u e) s f c i = absurd (u (check c) i)
-certifies told counted words o new (formed d g j h a) s f c i =
-    let q = one_command words d (check c) j i in
-    let n = filed_by c g o (subst (λ (x : Command). Amounts x g o) q a) s in (
+certifies told counted words o new (formless u e) s f c name i w = absurd (u c i)
+certifies told counted words o new (formed d g j h a) s f c name i w =
+    let q = one_command words d c j i in
+    let n = filed_by c name g o w (subst (λ (x : Command). Amounts x g o) q a) s in (
       n.layout,
       n.text,
       n.certificates,
-      subst (Gathers told counted (check c)) n.read (subst (λ (x : Command). Gathers told counted x g) q h),
+      subst (Gathers told counted c) n.read (subst (λ (x : Command). Gathers told counted x g) q h),
       n.certified,
       subst (λ (x : Option Filing). Filed x told new) n.filed f,
     )

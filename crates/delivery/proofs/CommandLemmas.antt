@@ -2,7 +2,7 @@
 use Rattle.std.specs.Prelude.{codes}
 use Rattle.std.specs.Cmp.Lexicographic.{pointwise}
 use Rattle.std.proofs.lemmas.Slice.Eq.{bytes_eq-Decides}
-use Rattle.delivery.specs.Commands.{FileNames, Command, compile, check, verify, IsCompile, IsSpelled, IsCommand}
+use Rattle.delivery.specs.Commands.{FileNames, IsCompile, IsSpelled}
 use Rattle.std.proofs.Common.{◌≡◌, ◌≤◌, ◌<◌, ℕ, true, nat_eq, List, [], ◌∷◌, length, get_or, sym, ap, ◌∙◌, arith}
 
 pub same_word : (a b : List ℕ) → pointwise nat_eq a b ≡ true → a ≡ b
@@ -29,7 +29,7 @@ pub files_spelled : (ws : List (List ℕ)) (a b c d word named m t e : List ℕ)
 files_spelled ws a b c d word named m t e h ha hk hm ht he = cc
 
 -- the words spell one command only
-one_spelling : (words : List (List ℕ)) (command : List ℕ) (c d : FileNames) → IsSpelled command words c → IsSpelled command words d → c ≡ d
+pub one_spelling : (words : List (List ℕ)) (command : List ℕ) (c d : FileNames) → IsSpelled command words c → IsSpelled command words d → c ≡ d
 one_spelling words command c d h k =
     let e : command ∷ c.model ∷ c.transfer ∷ c.certificate ∷ [] ≡ command ∷ d.model ∷ d.transfer ∷ d.certificate ∷ [] = sym h.spelled ∙ k.spelled in
     let m : c.model ≡ d.model = cc in
@@ -37,26 +37,15 @@ one_spelling words command c d h k =
     let f : c.certificate ≡ d.certificate = cc in
     λ i. record { model = m i; transfer = t i; certificate = f i }
 
-one_word : (words : List (List ℕ)) (a b : List ℕ) (c d : FileNames) → IsSpelled a words c → IsSpelled b words d → a ≡ b
+pub one_word : (words : List (List ℕ)) (a b : List ℕ) (c d : FileNames) → IsSpelled a words c → IsSpelled b words d → a ≡ b
 one_word words a b c d h k =
     let e : a ∷ c.model ∷ c.transfer ∷ c.certificate ∷ [] ≡ b ∷ d.model ∷ d.transfer ∷ d.certificate ∷ [] = sym h.spelled ∙ k.spelled in cc
 
-other_words : codes "check" ≡ codes "verify" → ⊥
+pub other_words : codes "check" ≡ codes "verify" → ⊥
 other_words e = absurd (cc)
 
 pub one_compile : (words : List (List ℕ)) (m n : List ℕ) → IsCompile words m → IsCompile words n → m ≡ n
 one_compile words m n h k = let e : codes "compile" ∷ m ∷ [] ≡ codes "compile" ∷ n ∷ [] = sym h.spelled ∙ k.spelled in cc
 
-not_both : (words : List (List ℕ)) (m command : List ℕ) (c : FileNames) → IsCompile words m → IsSpelled command words c → ⊥
+pub not_both : (words : List (List ℕ)) (m command : List ℕ) (c : FileNames) → IsCompile words m → IsSpelled command words c → ⊥
 not_both words m command c h k = let e : codes "compile" ∷ m ∷ [] ≡ command ∷ c.model ∷ c.transfer ∷ c.certificate ∷ [] = sym h.spelled ∙ k.spelled in absurd (cc)
-
-pub one_command : (words : List (List ℕ)) (c d : Command) → IsCommand words c → IsCommand words d → c ≡ d
-one_command words (compile m) (compile n) h k = ap compile (one_compile words m n h k)
-one_command words (compile m) (check d) h k = absurd (not_both words m (codes "check") d h k)
-one_command words (compile m) (verify d) h k = absurd (not_both words m (codes "verify") d h k)
-one_command words (check c) (compile n) h k = absurd (not_both words n (codes "check") c k h)
-one_command words (check c) (check d) h k = ap check (one_spelling words (codes "check") c d h k)
-one_command words (check c) (verify d) h k = absurd (other_words (one_word words (codes "check") (codes "verify") c d h k))
-one_command words (verify c) (compile n) h k = absurd (not_both words n (codes "verify") c k h)
-one_command words (verify c) (check d) h k = absurd (other_words (one_word words (codes "check") (codes "verify") d c k h))
-one_command words (verify c) (verify d) h k = ap verify (one_spelling words (codes "verify") c d h k)

@@ -15,6 +15,7 @@ pub mod KeptAt
 pub mod KeptPlaces
 pub mod KeptSteps
 pub mod ModelTextLemmas
+pub mod OneCommand
 pub mod Pieces
 pub mod PieceSteps
 pub mod PointLemmas

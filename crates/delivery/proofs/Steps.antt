@@ -5,9 +5,9 @@ use Rattle.ports.specs.Faults.{Rose}
 use Rattle.ports.specs.Files.{Files}
 use Rattle.itf_reader.specs.Forms.{Row}
 use Rattle.table_layout.specs.Layouts.{Layout}
-use Rattle.delivery.specs.Commands.{Command, compile, Source, limit_of, model_of, further_files}
+use Rattle.delivery.specs.Commands.{Command, compile, trial, Source, from_file, made, limit_of, model_of, further_files}
 use Rattle.delivery.specs.Deciding.{Decides, formless, formed}
-use Rattle.delivery.specs.Ending.{Ends, EndsAfter}
+use Rattle.delivery.specs.Ending.{Ends, EndsAfter, EndsModel}
 use Rattle.delivery.specs.FiledTexts as filed_texts
 use Rattle.delivery.specs.FiledTexts.{IsRowsVerified}
 use Rattle.delivery.specs.AreaLimits.{has_too_large}
@@ -17,8 +17,9 @@ use Rattle.delivery.specs.RowsRead as rows_read
 use Rattle.delivery.specs.Gathering as gathering
 use Rattle.delivery.specs.Gathering.{Gathered, Reads, ReadsAll, Compiles, Gathers}
 use Rattle.delivery.specs.Amounting.{Amounts}
-use Rattle.delivery.specs.Judging.{IsClean}
-use Rattle.delivery.specs.Outcomes.{Outcome, compiled}
+use Rattle.delivery.specs.Judging.{IsClean, IsChecked}
+use Rattle.delivery.specs.Outcomes.{Outcome, trial_target, compiled}
+use Rattle.delivery.specs.TrialFiles.{transfer_text}
 use Rattle.delivery.specs.Reading.{IsLonger}
 use Rattle.delivery.specs.FileRefusals.{IsNotRead}
 use Rattle.delivery.specs.RowsRead.{IsDrawnVerified}
@@ -49,11 +50,12 @@ rose_before a b c h k = omega arith
 -- what is read is read still where more counts have risen
 module _ (told : Option Files) (near far : List ℕ → Type 0) (counted : (name : List ℕ) → near name → far name) where
   reads_on : (s : Source) (g : Gathered) (P Q : List ℕ → Type 0) → ((text : List ℕ) → P text → Q text) → Reads told near s g P → Reads told far s g Q
-  reads_on s g P Q f h = elim h as (λ z. Reads told far s g Q) [
-    | inl k ↦ inl (counted s.name k.0, k.1)
-    | inr k ↦ elim k as (λ z. Reads told far s g Q) [
-      | inl n ↦ inr (inl n)
-      | inr n ↦ inr (inr (n.0, n.1, f n.0 n.2))
+  reads_on (made text) g P Q f h = f text h
+  reads_on (from_file n name) g P Q f h = elim h as (λ z. Reads told far (from_file n name) g Q) [
+    | inl k ↦ inl (counted name k.0, k.1)
+    | inr k ↦ elim k as (λ z. Reads told far (from_file n name) g Q) [
+      | inl l ↦ inr (inl l)
+      | inr t ↦ inr (inr (t.0, t.1, f t.0 t.2))
     ]
   ]
 
@@ -75,13 +77,16 @@ module _ (told : Option Files) (near far : List ℕ → Type 0) (counted : (name
   pub ends_on : (c : Command) (l : Layout) (before : List (List ℕ)) (rest : List Source) (o : Outcome) → EndsAfter told near c l before rest o → EndsAfter told far c l before rest o
   ends_on c l before rest o h = record { gathered = h.gathered; reads = all_on l before rest h.gathered h.reads; amounts = h.amounts }
 
+  pub model_on : (c : Command) (text : List ℕ) (o : Outcome) → EndsModel told near c text o → EndsModel told far c text o
+  model_on c text o h = record { gathered = h.gathered; compiles = compiles_on c text h.gathered h.compiles; amounts = h.amounts }
+
   pub decides_on : (words : List (List ℕ)) (o : Outcome) → Decides told near words o → Decides told far words o
   decides_on words o (formless u e) = formless u e
   decides_on words o (formed c g i h a) = formed c g i (gathers_on c g h) a
 
 -- a file that was not read ends the call
 pub not_read_ends : (T : Type 0) (told : Option Files) (counted : List ℕ → Type 0) (f : File) (name : List ℕ) (r : FileRefusal) (o : Outcome) (P : Gathered → List ℕ → Type 0) → (IsErrOf {T = T} (Err r) Failed → counted name) → (IsErrOf {T = T} (Err r) TooLong → IsLonger told name (limit_of f)) → IsNotRead f r o
-    → (g : Gathered) × Reads told counted (record { file = f; name = name }) g (P g) × ((c : Command) → Amounts c g o)
+    → (g : Gathered) × Reads told counted (from_file f name) g (P g) × ((c : Command) → Amounts c g o)
 not_read_ends T told counted f name Failed o P a b e = (gathering.unread f, inl (a refl, refl), λ c. e)
 not_read_ends T told counted f name TooLong o P a b e = (gathering.too_long f, inr (inl (b refl, refl)), λ c. e)
 not_read_ends T told counted f name Memory o P a b e = absurd e
@@ -91,9 +96,14 @@ pub compile_ends : (told : Option Files) (counted : List ℕ → Type 0) (c : Co
 compile_ends told counted c model l o e h =
     subst (λ (x : Command). Ends told counted x l o) (sym e) (record { gathered = gathering.texts l []; reads = refl; amounts = h })
 
+-- a trial, whose transfer is made
+pub trial_ends : (told : Option Files) (counted : List ℕ → Type 0) (c : Command) (n : ℕ) (name : List ℕ) (l : Layout) (o : Outcome) → c ≡ trial n name → IsChecked (trial_target n name) l (transfer_text n) o → Ends told counted c l o
+trial_ends told counted c n name l o e h =
+    subst (λ (x : Command). Ends told counted x l o) (sym e) (record { gathered = gathering.texts l (transfer_text n ∷ []); reads = refl; amounts = h })
+
 -- and the transfer's, which is judged while it is read
 pub unread_ends : (told : Option Files) (counted : List ℕ → Type 0) (rose : Type 0) (name : List ℕ) (l : Layout) (r : FileRefusal) (o : Outcome) (P : Gathered → List ℕ → Type 0) → IsTransfer told name l rose (reading.Unread r) → (rose → counted name) → IsNotRead Transfer r o
-    → (g : Gathered) × Reads told counted (record { file = Transfer; name = name }) g (P g) × ((c : Command) → Amounts c g o)
+    → (g : Gathered) × Reads told counted (from_file Transfer name) g (P g) × ((c : Command) → Amounts c g o)
 unread_ends told counted rose name l Failed o P h f e = (gathering.unread Transfer, inl (f h, refl), λ c. e)
 unread_ends told counted rose name l TooLong o P h f e = (gathering.too_long Transfer, inr (inl (h, refl)), λ c. e)
 unread_ends told counted rose name l Memory o P h f e = absurd e

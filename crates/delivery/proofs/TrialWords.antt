@@ -3,9 +3,8 @@ use Rattle.std.specs.Prelude.{codes}
 use Rattle.std.specs.Cmp.Lexicographic.{pointwise}
 use Rattle.std.proofs.Common.{◌≡◌, ◌≤◌, ◌<◌, ℕ, Bool, true, false, not, nat_eq, List, [], ◌∷◌, length, get_or, arith, refl, sym, subst, ◌∙◌}
 use Rattle.std.proofs.lemmas.Fmt.{decimal_injective}
-use Rattle.delivery.specs.Commands.{Command, compile, check, verify, IsCommand}
+use Rattle.delivery.specs.Commands.{FileNames, IsCompile, IsSpelled, IsTrial}
 use Rattle.delivery.specs.TrialFiles.{IsSize}
-use Rattle.delivery.specs.TrialWords.{IsTrial}
 use Rattle.delivery.proofs.CommandLemmas.{same_word}
 
 pub three_words : (ws : List (List ℕ)) (a b c : List ℕ) → 3 ≤ length ws → length ws < 4 → a ≡ get_or ws 0 a → b ≡ get_or ws 1 b → c ≡ get_or ws 2 c → ws ≡ a ∷ b ∷ c ∷ []
@@ -36,10 +35,10 @@ one_trial words m n a b h k =
     let w : h.word ≡ k.word = cc in
     (one_number k.word m n (subst (λ (x : List ℕ). IsSize x m) w h.is_size) k.is_size, cc)
 
-pub no_other_command : (words : List (List ℕ)) (n : ℕ) (a : List ℕ) (c : Command) → IsTrial words n a → IsCommand words c → ⊥
-no_other_command words n a (compile m) h k =
+pub no_compile : (words : List (List ℕ)) (n : ℕ) (a m : List ℕ) → IsTrial words n a → IsCompile words m → ⊥
+no_compile words n a m h k =
     let e : codes "trial" ∷ h.word ∷ a ∷ [] ≡ codes "compile" ∷ m ∷ [] = sym h.spelled ∙ k.spelled in absurd (cc)
-no_other_command words n a (check c) h k =
-    let e : codes "trial" ∷ h.word ∷ a ∷ [] ≡ codes "check" ∷ c.model ∷ c.transfer ∷ c.certificate ∷ [] = sym h.spelled ∙ k.spelled in absurd (cc)
-no_other_command words n a (verify c) h k =
-    let e : codes "trial" ∷ h.word ∷ a ∷ [] ≡ codes "verify" ∷ c.model ∷ c.transfer ∷ c.certificate ∷ [] = sym h.spelled ∙ k.spelled in absurd (cc)
+
+pub no_names : (words : List (List ℕ)) (n : ℕ) (a command : List ℕ) (c : FileNames) → IsTrial words n a → IsSpelled command words c → ⊥
+no_names words n a command c h k =
+    let e : codes "trial" ∷ h.word ∷ a ∷ [] ≡ command ∷ c.model ∷ c.transfer ∷ c.certificate ∷ [] = sym h.spelled ∙ k.spelled in absurd (cc)

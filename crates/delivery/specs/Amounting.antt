@@ -5,14 +5,14 @@ use Rattle.itf_reader.specs.Readings.{Structure}
 use Rattle.table_layout.specs.Layouts.{Layout}
 use Rattle.delivery.specs.AreaAnswers.{HasArcArea, HasFaultyArea, ArePartedAreas, AreLeftAreas}
 use Rattle.delivery.specs.AreaLimits.{has_too_large}
-use Rattle.delivery.specs.Commands.{Command, compile, check, verify}
+use Rattle.delivery.specs.Commands.{Command, compile, check, verify, trial}
 use Rattle.delivery.specs.FiledTexts.{IsVerified}
 use Rattle.delivery.specs.Drawings.{AreDrawings}
 use Rattle.plane.specs.Rule.Plans.{Plan}
 use Rattle.delivery.specs.Gathering as gathering
 use Rattle.delivery.specs.Gathering.{Gathered}
 use Rattle.delivery.specs.Judging.{findings, IsMisbuilt, Tells, IsClean, IsChecked}
-use Rattle.delivery.specs.Outcomes.{Outcome, unread, too_long, refused, compiled}
+use Rattle.delivery.specs.Outcomes.{Outcome, check_target, trial_target, unread, too_long, refused, compiled}
 use Rattle.delivery.specs.Verifying.{proved, not_proved, IsVerification}
 
 -- the outcome of what was read for a command
@@ -21,10 +21,12 @@ Amounts c (gathering.unread f) o = o ≡ unread f
 Amounts c (gathering.too_long f) o = o ≡ too_long f
 Amounts c (gathering.refused r) o = o ≡ refused r
 Amounts (compile model) (gathering.texts l ts) o = o ≡ compiled l
-Amounts (check c) (gathering.texts l (text ∷ [])) o = IsChecked c.certificate l text o
+Amounts (check c) (gathering.texts l (text ∷ [])) o = IsChecked (check_target c.certificate) l text o
 Amounts (check c) (gathering.texts l ts) o = ⊥
 Amounts (verify c) (gathering.texts l (text ∷ filed ∷ [])) o = IsVerified l text filed o
 Amounts (verify c) (gathering.texts l ts) o = ⊥
+Amounts (trial n c) (gathering.texts l (text ∷ [])) o = IsChecked (trial_target n c) l text o
+Amounts (trial n c) (gathering.texts l ts) o = ⊥
 
 -- ---- the tests that the causes of the answers are made of
 -- the transfer tells rows that meet the declarations, and no AREA is over its limit; and of the rows so much
@@ -35,33 +37,39 @@ HasSoundRows l text test = (rows : List (List Row)) × Tells l text rows × IsCl
 abbrev pub AreProved : Layout → List ℕ → List (List Row) → Type 0
 AreProved l filed rows = ((ds : List Plan) × AreDrawings l rows ds × (levels : List ℕ) × IsVerification l ds filed (proved levels)) × ArePartedAreas l rows
 
--- `compile`: the model has no fault. `check`: the drawing of each AREA is a partition. `verify`: the certificates prove it, too.
+-- `compile`: the model has no fault. `check` and `trial`: the drawing of each AREA is a partition. `verify`: the certificates prove it, too.
 abbrev pub Accepts : Command → Layout → List (List ℕ) → Type 0
 Accepts (compile model) l ts = ⊤
 Accepts (check c) l (text ∷ []) = HasSoundRows l text (ArePartedAreas l)
 Accepts (check c) l ts = ⊥
 Accepts (verify c) l (text ∷ filed ∷ []) = HasSoundRows l text (AreProved l filed)
 Accepts (verify c) l ts = ⊥
+Accepts (trial n c) l (text ∷ []) = HasSoundRows l text (ArePartedAreas l)
+Accepts (trial n c) l ts = ⊥
 
 -- a line of the transfer is at fault, or its rows have findings
 abbrev pub HasFault : Layout → List ℕ → Type 0
 HasFault l text = ((n : ℕ) × (code : Structure) × IsMisbuilt l text n code) ⊎ ((rows : List (List Row)) × Tells l text rows × (findings l rows ≢ []))
 
--- `check`: or the drawing of an AREA has a fault, so that it is no partition
+-- `check` and `trial`: or the drawing of an AREA has a fault, so that it is no partition
 abbrev pub Rejects : Command → Layout → List (List ℕ) → Type 0
 Rejects (compile model) l ts = ⊥
 Rejects (check c) l (text ∷ []) = HasFault l text ⊎ HasSoundRows l text (HasFaultyArea l)
 Rejects (check c) l ts = ⊥
 Rejects (verify c) l (text ∷ filed ∷ []) = HasFault l text
 Rejects (verify c) l ts = ⊥
+Rejects (trial n c) l (text ∷ []) = HasFault l text ⊎ HasSoundRows l text (HasFaultyArea l)
+Rejects (trial n c) l ts = ⊥
 
--- the drawing of some AREA has a half arc; `check`: and each other one is a partition
+-- the drawing of some AREA has a half arc; `check` and `trial`: and each other one is a partition
 abbrev pub LeavesAreas : Command → Layout → List (List ℕ) → Type 0
 LeavesAreas (compile model) l ts = ⊥
 LeavesAreas (check c) l (text ∷ []) = HasSoundRows l text (AreLeftAreas l)
 LeavesAreas (check c) l ts = ⊥
 LeavesAreas (verify c) l (text ∷ filed ∷ []) = HasSoundRows l text (HasArcArea l)
 LeavesAreas (verify c) l ts = ⊥
+LeavesAreas (trial n c) l (text ∷ []) = HasSoundRows l text (AreLeftAreas l)
+LeavesAreas (trial n c) l ts = ⊥
 
 -- all lines of AREAs are straights, and a certificate, the first that does, breaks a rule
 abbrev pub AreUnproved : Layout → List ℕ → List (List Row) → Type 0
@@ -81,3 +89,5 @@ IsOversized (check c) l (text ∷ []) = HasLargeArea l text
 IsOversized (check c) l ts = ⊥
 IsOversized (verify c) l (text ∷ filed ∷ []) = HasLargeArea l text
 IsOversized (verify c) l ts = ⊥
+IsOversized (trial n c) l (text ∷ []) = HasLargeArea l text
+IsOversized (trial n c) l ts = ⊥

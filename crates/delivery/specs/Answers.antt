@@ -25,9 +25,9 @@ abbrev pub Passes : Option Files → (List ℕ → Type 0) → List (List ℕ) �
 Passes told counted words test = (c : Command) × (l : Layout) × (ts : List (List ℕ)) × IsCommand words c × Gathers told counted c (texts l ts) × test c l ts
 
 -- The cause of each answer.
--- Accepted: the model has no fault; for `check`, every object meets the declarations of its table, and the drawing of every AREA is a partition; for `verify`, the filed certificates prove that, too.
--- Rejected: a line of the transfer is at fault, or the objects have findings; for `check`, or they have none, and the drawing of an AREA, of straights alone, has a fault, so that it is no partition.
--- Undecided: every object meets the declarations of its table, no AREA is over its limit, and some drawing has a half arc; for `check`, each other one is a partition. So it never comes where all lines of AREAs are straights.
+-- Accepted: the model has no fault; for `check` and `trial`, every object meets the declarations of its table, and the drawing of every AREA is a partition; for `verify`, the filed certificates prove that, too.
+-- Rejected: a line of the transfer is at fault, or the objects have findings; for `check` and `trial`, or they have none, and the drawing of an AREA, of straights alone, has a fault, so that it is no partition.
+-- Undecided: every object meets the declarations of its table, no AREA is over its limit, and some drawing has a half arc; for `check` and `trial`, each other one is a partition. So it never comes where all lines of AREAs are straights.
 -- NotProved: for `verify`, every object meets the declarations of its table, all lines of AREAs are straights, and the filed text breaks a rule of certificates.
 -- ModelRefused: the model has this first fault of its tokens, of its grammar, or of its names and types.
 -- Usage: the words are no command. ReadFault: a fault was counted for a file that was to be read. OverLimit: a file is longer than its limit, or every object meets the declarations of its table and an area is over its limit.

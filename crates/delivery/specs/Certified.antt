@@ -1,11 +1,11 @@
--- What an accepted check leaves behind.
-use Rattle.std.specs.Prelude.{ℕ, List, [], ◌∷◌, Option, codes}
+-- What an accepted check or trial leaves behind.
+use Rattle.std.specs.Prelude.{◌≡◌, ℕ, List, [], ◌∷◌, Option, Some}
 use Rattle.ports.specs.Files.{Files, Puts}
 use Rattle.certificate.specs.Spelling.{Plain, spelling}
 use Rattle.itf_reader.specs.Forms.{Row}
 use Rattle.table_layout.specs.Layouts.{Layout}
 use Rattle.delivery.specs.AreaCertificates.{AreCertificatesOf}
-use Rattle.delivery.specs.Commands.{FileNames, check, IsSpelled}
+use Rattle.delivery.specs.Commands.{Command, IsCommand, writes_to}
 use Rattle.delivery.specs.Drawings.{AreDrawings}
 use Rattle.plane.specs.Rule.Plans.{Plan}
 use Rattle.delivery.specs.Gathering.{texts, Gathers}
@@ -20,7 +20,7 @@ pub record AreCertified (l : Layout) (text : List ℕ) (cs : List Plain) : Type 
   pub drawn : AreDrawings l rows drawings
   pub proved : AreCertificatesOf l l.areas drawings cs
 
--- the file of a check's certificates holds the text of such a list, and no other file has changed
+-- where the words are a command that writes certificates, their file holds the text of such a list, and no other file has changed
 abbrev pub Certifies : Option Files → (List ℕ → Type 0) → List (List ℕ) → Option Files → Type 0
-Certifies told counted words new = (c : FileNames) → IsSpelled (codes "check") words c
-    → (l : Layout) × (text : List ℕ) × (cs : List Plain) × Gathers told counted (check c) (texts l (text ∷ [])) × AreCertified l text cs × Puts told c.certificate (λ file. spelling cs) new
+Certifies told counted words new = (c : Command) (name : List ℕ) → IsCommand words c → writes_to c ≡ Some name
+    → (l : Layout) × (text : List ℕ) × (cs : List Plain) × Gathers told counted c (texts l (text ∷ [])) × AreCertified l text cs × Puts told name (λ file. spelling cs) new

@@ -1,5 +1,5 @@
 -- The command of the code, without where it lies in memory.
-use Rattle.delivery.specs.Commands.{FileNames, Command, compile, check, verify}
+use Rattle.delivery.specs.Commands.{FileNames, Command, compile, check, verify, trial}
 use Rattle.delivery.specs.declared.command.FileNames.{FileNames as CodeNames}
 use Rattle.delivery.specs.declared.command.Command.{Command as CodeCommand}
 use Rattle.delivery.specs.declared.command.Command.TheVariants as commands
@@ -11,3 +11,4 @@ abbrev pub command_of : CodeCommand → Command
 command_of (commands.Compile model) = compile model.now
 command_of (commands.Check c) = check (names_of c)
 command_of (commands.Verify c) = verify (names_of c)
+command_of (commands.Trial t) = trial t.size t.certificate.now

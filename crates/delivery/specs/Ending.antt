@@ -3,7 +3,7 @@ use Rattle.std.specs.Prelude.{ℕ, List, [], Option}
 use Rattle.ports.specs.Files.{Files}
 use Rattle.table_layout.specs.Layouts.{Layout}
 use Rattle.delivery.specs.Commands.{Command, Source, further_files}
-use Rattle.delivery.specs.Gathering.{Gathered, ReadsAll, Gathers}
+use Rattle.delivery.specs.Gathering.{Gathered, ReadsAll, Compiles, Gathers}
 use Rattle.delivery.specs.Amounting.{Amounts}
 use Rattle.delivery.specs.Outcomes.{Outcome}
 
@@ -17,6 +17,12 @@ pub record EndsAfter (told : Option Files) (counted : List ℕ → Type 0) (c : 
 -- the outcome of a command whose model has this layout
 abbrev pub Ends : Option Files → (List ℕ → Type 0) → Command → Layout → Outcome → Type 0
 Ends told counted c l o = EndsAfter told counted c l [] (further_files c) o
+
+-- the outcome of a command whose model has this text
+pub record EndsModel (told : Option Files) (counted : List ℕ → Type 0) (c : Command) (text : List ℕ) (o : Outcome) : Type 0 where
+  pub gathered : Gathered
+  pub compiles : Compiles told counted c text gathered
+  pub amounts : Amounts c gathered o
 
 -- the outcome of a command
 pub record EndsCommand (told : Option Files) (counted : List ℕ → Type 0) (c : Command) (o : Outcome) : Type 0 where

@@ -2,7 +2,7 @@
 use Rattle.std.specs.Prelude.{◌≡◌, ℕ, List, [], ◌∷◌, ◌++◌, Option, ◌⊎◌}
 use Rattle.ports.specs.Files.{Files}
 use Rattle.table_layout.specs.Layouts.{Layout}
-use Rattle.delivery.specs.Commands.{Command, Source, limit_of, model_of, further_files}
+use Rattle.delivery.specs.Commands.{Command, Source, from_file, made, limit_of, model_of, further_files}
 use Rattle.delivery.specs.ModelTexts.{Refusal, IsRefused, HasLayout}
 use Rattle.delivery.specs.Reading.{IsWhole, IsLonger}
 use Rattle.delivery.specs.declared.files.File.{File}
@@ -17,9 +17,10 @@ pub data Gathered : Type 0 where
   -- the layout of the model, and the texts of the further files in order
   texts : Layout → List (List ℕ) → Gathered
 
--- a file is read: it could not be, with a fault of it counted; or it is too long; or its text goes on
+-- a file is read: it could not be, with a fault of it counted; or it is too long; or its text goes on. A text that is made goes on.
 abbrev pub Reads : Option Files → (List ℕ → Type 0) → Source → Gathered → (List ℕ → Type 0) → Type 0
-Reads told counted s g goes_on = (counted s.name × (g ≡ unread s.file)) ⊎ ((IsLonger told s.name (limit_of s.file) × (g ≡ too_long s.file)) ⊎ ((text : List ℕ) × IsWhole told s.name (limit_of s.file) text × goes_on text))
+Reads told counted (from_file f name) g goes_on = (counted name × (g ≡ unread f)) ⊎ ((IsLonger told name (limit_of f) × (g ≡ too_long f)) ⊎ ((text : List ℕ) × IsWhole told name (limit_of f) text × goes_on text))
+Reads told counted (made text) g goes_on = goes_on text
 
 -- files are read in order, behind those whose texts these are
 abbrev pub ReadsAll : Option Files → (List ℕ → Type 0) → Layout → List (List ℕ) → List Source → Gathered → Type 0

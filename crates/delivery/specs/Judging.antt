@@ -13,7 +13,7 @@ use Rattle.delivery.specs.AreaAnswers.{AreAnswers}
 use Rattle.delivery.specs.AreaLimits.{has_too_large}
 use Rattle.delivery.specs.Drawings.{AreDrawings}
 use Rattle.plane.specs.Rule.Plans.{Plan}
-use Rattle.delivery.specs.Outcomes.{Outcome, area_too_large, misbuilt, rejected, areas_told}
+use Rattle.delivery.specs.Outcomes.{Target, Outcome, area_too_large, misbuilt, rejected, areas_told}
 use Rattle.delivery.specs.declared.report.lines.AreaAnswer.{AreaAnswer}
 
 -- the logical lines of a transfer, by the codes of its layout
@@ -43,24 +43,24 @@ abbrev pub IsClean : Layout → List (List Row) → Type 0
 IsClean l rows = findings l rows ≡ []
 
 -- the areas of rows are drawn, and the outcome tells the answers to their drawings
-pub record AreJudged (name : List ℕ) (l : Layout) (rows : List (List Row)) (o : Outcome) : Type 0 where
+pub record AreJudged (target : Target) (l : Layout) (rows : List (List Row)) (o : Outcome) : Type 0 where
   pub drawings : List Plan
   pub answers : List AreaAnswer
   pub certificates : List Plain
   pub drawn : AreDrawings l rows drawings
   pub answered : AreAnswers l l.areas drawings answers certificates
-  pub told : o ≡ areas_told l (objects rows) name answers certificates
+  pub told : o ≡ areas_told l (objects rows) target answers certificates
 
--- the outcome of rows, whose certificates go to the file of that name
-pub data IsRowsChecked (name : List ℕ) (l : Layout) (rows : List (List Row)) (o : Outcome) : Type 0 where
+-- the outcome of rows, whose certificates go to that target
+pub data IsRowsChecked (target : Target) (l : Layout) (rows : List (List Row)) (o : Outcome) : Type 0 where
   -- they break a rule
-  faulty : findings l rows ≢ [] → o ≡ rejected (findings l rows) → IsRowsChecked name l rows o
+  faulty : findings l rows ≢ [] → o ≡ rejected (findings l rows) → IsRowsChecked target l rows o
   -- they meet the declarations, and an area is over its limit
-  oversized : IsClean l rows → has_too_large rows l.areas ≡ true → o ≡ area_too_large → IsRowsChecked name l rows o
+  oversized : IsClean l rows → has_too_large rows l.areas ≡ true → o ≡ area_too_large → IsRowsChecked target l rows o
   -- they meet the declarations, and no area is over its limit: the areas are judged
-  judged : IsClean l rows → has_too_large rows l.areas ≡ false → AreJudged name l rows o → IsRowsChecked name l rows o
+  judged : IsClean l rows → has_too_large rows l.areas ≡ false → AreJudged target l rows o → IsRowsChecked target l rows o
 
 -- the outcome of a transfer's text: a line is at fault, or it tells rows
-pub data IsChecked (name : List ℕ) (l : Layout) (text : List ℕ) (o : Outcome) : Type 0 where
-  at_fault : (n : ℕ) (code : Structure) → IsMisbuilt l text n code → o ≡ misbuilt n code → IsChecked name l text o
-  well_formed : (rows : List (List Row)) → Tells l text rows → IsRowsChecked name l rows o → IsChecked name l text o
+pub data IsChecked (target : Target) (l : Layout) (text : List ℕ) (o : Outcome) : Type 0 where
+  at_fault : (n : ℕ) (code : Structure) → IsMisbuilt l text n code → o ≡ misbuilt n code → IsChecked target l text o
+  well_formed : (rows : List (List Row)) → Tells l text rows → IsRowsChecked target l rows o → IsChecked target l text o

@@ -33,6 +33,5 @@ pub mod RowsRead
 pub mod Statuses
 pub mod TrialCounts
 pub mod TrialFiles
-pub mod TrialWords
 pub mod VerificationViews
 pub mod Verifying

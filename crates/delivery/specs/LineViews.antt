@@ -10,7 +10,7 @@ use Rattle.delivery.specs.RefusalViews.{refusal_of}
 use Rattle.delivery.specs.declared.report.lines.TableLine as table
 use Rattle.delivery.specs.declared.report.lines.AreaLine as area
 use Rattle.delivery.specs.declared.report.lines.Line as code
-use Rattle.delivery.specs.declared.report.lines.Line.TheVariants.{UsageFault, UsageWords, Unread, TooLong, AreaLimit, ModelFault, Model, Table, Structure, Area, NotProved, Verdict}
+use Rattle.delivery.specs.declared.report.lines.Line.TheVariants.{UsageFault, UsageWords, Unread, TooLong, AreaLimit, ModelFault, Model, Table, Structure, Area, NotProved, Trial, Verdict}
 
 abbrev pub table_of : table.TableLine → TableLine
 table_of t = record { topic = t.topic; name = t.name; role = role_view t.role; columns = t.columns; lines = t.lines }
@@ -30,6 +30,7 @@ line_of (Table t) = lines.table (table_of t)
 line_of (Structure n code) = lines.structure n (fault_of code)
 line_of (Area a) = lines.area (area_of a)
 line_of (NotProved a rule place) = lines.not_proved a rule place
+line_of (Trial n curves events points) = lines.trial n curves events points
 line_of (Verdict v) = lines.verdict v
 
 abbrev pub lines_of : List code.Line → List Line

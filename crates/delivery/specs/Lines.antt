@@ -48,6 +48,8 @@ pub data Line : Type 0 where
   area : AreaLine → Line
   -- the area, the rule that its certificate breaks first, and the place
   not_proved : ℕ → ℕ → ℕ → Line
+  -- a trial: its size, and how many curves, events and points its area has
+  trial : ℕ → ℕ → ℕ → ℕ → Line
   verdict : Verdict → Line
 
 abbrev pub file_text : File → List ℕ
@@ -119,6 +121,9 @@ verdict_text (verdicts.Compiled tables) = codes "VERDICT COMPILED " ++ decimal t
 abbrev pub not_proved_words : ℕ → ℕ → ℕ → List ℕ
 not_proved_words a rule place = codes "NOTPROVED " ++ decimal a ++ codes " " ++ decimal rule ++ codes " " ++ decimal place
 
+abbrev pub trial_words : ℕ → ℕ → ℕ → ℕ → List ℕ
+trial_words n curves events points = codes "TRIAL " ++ decimal n ++ codes " " ++ decimal curves ++ codes " " ++ decimal events ++ codes " " ++ decimal points
+
 abbrev pub words_of : Line → List ℕ
 words_of usage_fault = codes "FAULT USAGE"
 words_of usage_words = codes "usage: itfcheck compile M, check M T C, verify M T C, trial N C"
@@ -132,6 +137,7 @@ words_of (structure n code) = structure_words n code
 words_of (finding f) = finding_words f
 words_of (area a) = area_words a
 words_of (not_proved a rule place) = not_proved_words a rule place
+words_of (trial n curves events points) = trial_words n curves events points
 words_of (verdict v) = verdict_text v
 
 -- each line ends with LF

@@ -7,12 +7,16 @@ use Rattle.table_layout.specs.Layouts.{Table}
 use Rattle.table_layout.specs.Values.{table_view}
 use Rattle.table_layout.specs.declared.layouts.Table as table
 use Rattle.delivery.specs.LineViews.{findings_seen, lines_of}
-use Rattle.delivery.specs.Outcomes.{Filing, Outcome}
+use Rattle.delivery.specs.Outcomes.{Filing, Target, Outcome}
 use Rattle.delivery.specs.declared.outcome.Filing as filing
 use Rattle.delivery.specs.declared.outcome.Outcome as outcome
+use Rattle.delivery.specs.declared.outcome.Target as target
 
 abbrev pub filing_of : filing.Filing → Filing
 filing_of f = record { name = f.name.now; certificates = views f.certificates.items }
+
+abbrev pub target_of : target.Target → Target
+target_of t = record { name = t.name.now; trial = t.trial }
 
 -- the lines for the findings come first
 abbrev pub outcome_of : outcome.Outcome → Outcome

@@ -25,6 +25,17 @@ pub record Filing : Type 0 where
   pub name : List ℕ
   pub certificates : List Plain
 
+-- where certificates go: the name of their file; and for a trial its size, which the report tells
+pub record Target : Type 0 where
+  pub name : List ℕ
+  pub trial : Option ℕ
+
+abbrev pub check_target : List ℕ → Target
+check_target name = record { name = name; trial = None }
+
+abbrev pub trial_target : ℕ → List ℕ → Target
+trial_target n name = record { name = name; trial = Some n }
+
 -- a status, the lines of the report, and the certificates where there are any to write
 pub record Outcome : Type 0 where
   pub status : Status
@@ -85,6 +96,21 @@ area_lines l [] xs = []
 area_lines l (a ∷ as_) [] = []
 area_lines l (a ∷ as_) (x ∷ xs) = area_line l a x ∷ area_lines l as_ xs
 
+-- what a trial of that size tells of an area that is proved: its curves, the events that its certificate has positions for, and its points
+abbrev pub trial_line : ℕ → AreaAnswer → Plain → List Line
+trial_line n (answer.Proved level curves points) c = lines.trial n curves (length c.positions) points ∷ []
+trial_line n x c = []
+
+abbrev pub size_lines : ℕ → List AreaAnswer → List Plain → List Line
+size_lines n [] cs = []
+size_lines n (x ∷ xs) [] = []
+size_lines n (x ∷ xs) (c ∷ cs) = trial_line n x c ++ size_lines n xs cs
+
+-- nothing where it is no trial
+abbrev pub trial_lines : Option ℕ → List AreaAnswer → List Plain → List Line
+trial_lines None xs cs = []
+trial_lines (Some n) xs cs = size_lines n xs cs
+
 -- the lines of a report and its verdict
 abbrev pub with_verdict : List Line → verdicts.Verdict → List Line
 with_verdict ls v = ls ++ (lines.verdict v ∷ [])
@@ -94,12 +120,12 @@ abbrev pub accepted : List Line → ℕ → List ℕ → List Plain → Outcome
 accepted ls objects name cs = record { status = status.Accepted; lines = with_verdict ls (verdict.Accepted objects); filing = Some (record { name = name; certificates = cs }) }
 
 -- So many objects without a finding, and these are the answers to the areas of the layout. One at fault rejects the transfer, else one
--- that is left leaves it undecided, else it is accepted, with these certificates for the file of that name.
-abbrev pub areas_told : Layout → ℕ → List ℕ → List AreaAnswer → List Plain → Outcome
-areas_told l objects name xs cs =
+-- that is left leaves it undecided, else it is accepted, with these certificates for the target.
+abbrev pub areas_told : Layout → ℕ → Target → List AreaAnswer → List Plain → Outcome
+areas_told l objects target xs cs =
     if has_fault xs then reported status.Rejected (with_verdict (area_lines l l.areas xs) verdict.Rejected)
     else if has_left xs then reported status.Undecided (with_verdict (area_lines l l.areas xs) verdict.Undecided)
-    else accepted (area_lines l l.areas xs) objects name cs
+    else accepted (area_lines l l.areas xs ++ trial_lines target.trial xs cs) objects target.name cs
 
 -- an area with a half arc leaves the certificates for later: these are the lines of such areas
 abbrev pub arc_line : Layout → AreaOf → Plan → List Line

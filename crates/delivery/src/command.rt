@@ -4,6 +4,7 @@ ghost use Rattle.delivery.specs.Commands.{FileNames as AnyNames, is_file_name};
 ghost use Rattle.delivery.specs.Commands.{IsSpelled, IsCompile, IsCommand, IsUsage};
 ghost use Rattle.delivery.specs.CommandViews.{names_of, command_of as command_seen};
 
+use crate::trial::{TrialWords, trial_of};
 use crate::word::Word;
 
 /// The names of the model, of the transfer, and of the file of the certificates.
@@ -23,6 +24,8 @@ pub enum Command<'a> {
     Check(FileNames<'a>),
     /// `verify M T C`: the certificates are read from their file.
     Verify(FileNames<'a>),
+    /// `trial N C`: the files are made, and the certificates written to their file.
+    Trial(TrialWords<'a>),
 }
 
 /// A name of a file is not empty and does not begin with a minus.
@@ -85,6 +88,9 @@ pub fn command_of(words: &[Word]) -> Option<Command<'_>>
     }
     if let Some(names) = files_of(words, "verify") {
         return Some(Command::Verify(names));
+    }
+    if let Some(trial) = trial_of(words) {
+        return Some(Command::Trial(trial));
     }
     match compile_of(words) {
         Some(model) => Some(Command::Compile(model)),

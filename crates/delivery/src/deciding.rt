@@ -1,23 +1,29 @@
 // The outcome of the words and the files.
-ghost use Rattle.std.specs.Prelude.{◌≡◌, ◌≤◌, ◌∷◌, ℕ, List, [], IfOk};
+ghost use Rattle.std.specs.Prelude.{◌≡◌, ◌≤◌, ◌∷◌, ℕ, List, [], length, IfOk};
 ghost use Rattle.ports.specs.Faults.{NoReadFell, ReadRose};
 ghost use Rattle.table_layout.specs.Valid.{IsValid};
 ghost use Rattle.table_layout.specs.Values.{layout_view};
 ghost use Rattle.delivery.specs.Commands.{check as check_command, verify as verify_command};
-ghost use Rattle.delivery.specs.Commands.{certificate_source, model_name};
+ghost use Rattle.delivery.specs.Commands.{certificate_source};
+ghost use Rattle.delivery.specs.Commands.{IsWithin, from_file, made, model_of};
 ghost use Rattle.delivery.specs.CommandViews.{names_of, command_of as command_seen};
 ghost use Rattle.delivery.specs.Deciding.{Decides};
-ghost use Rattle.delivery.specs.Ending.{Ends, EndsAfter, EndsCommand};
+ghost use Rattle.delivery.specs.Ending.{Ends, EndsAfter, EndsModel, EndsCommand};
+ghost use Rattle.delivery.specs.Judging.{IsChecked};
+ghost use Rattle.delivery.specs.Outcomes.{trial_target};
 ghost use Rattle.delivery.specs.OutcomeViews.{outcome_of};
 ghost use Rattle.delivery.specs.Pieces.{IsJudged};
+ghost use Rattle.delivery.specs.TrialFiles.{model_text as the_model};
+ghost use Rattle.delivery.specs.TrialFiles.{transfer_text as the_transfer};
 
 use crate::command::{Command, FileNames, command_of};
 use crate::files::{File, read_file};
 use crate::judging::Judged;
 use crate::model::{ModelReading, read_model};
 use crate::outcome::{Outcome, compiled, not_read, refused, usage};
-use crate::rows::{checked, verified_by};
-use crate::transfers::{TransferReading, read_transfer};
+use crate::rows::{checked, tried, verified_by};
+use crate::transfers::{TransferReading, judge_text, read_transfer};
+use crate::trial::{TrialWords, files_are_short, model_text, transfer_text};
 use crate::word::Word;
 use ports::{Memory, Shelf};
 use std::alloc::Global;
@@ -89,6 +95,33 @@ fn decide_verify<'a, S: Shelf>(
     }
 }
 
+// What the transfer of a trial comes to. Its text is held no longer.
+fn judge_trial(alloc: Global, layout: &Layout, size: u32) -> Result<Judged, Memory>
+    requires valid { IsValid (layout_view layout.now) }
+    requires size { size ≤ 500 }
+    ensures { IfOk result (IsJudged (layout_view layout.now) (the_transfer size)) }
+{
+    files_are_short();
+    let text = transfer_text(alloc, size)?;
+    judge_text(alloc, layout, &text)
+}
+
+// The outcome of a trial once its model is compiled.
+fn decide_trial<'a>(
+    alloc: Global,
+    trial: &TrialWords<'a>,
+    layout: &Layout,
+) -> Result<Outcome<'a>, Memory>
+    requires valid { IsValid (layout_view layout.now) }
+    requires size { trial.now.size ≤ 500 }
+    ensures { IfOk result (λ o. IsChecked
+        (trial_target trial.now.size trial.now.certificate.now) (layout_view layout.now)
+        (the_transfer trial.now.size) (outcome_of o)) }
+{
+    let judged = judge_trial(alloc, layout, trial.size)?;
+    tried(alloc, trial, layout, judged)
+}
+
 // The outcome of a command once its model is compiled.
 fn decide_compiled<'a, S: Shelf>(
     alloc: Global,
@@ -97,6 +130,7 @@ fn decide_compiled<'a, S: Shelf>(
     shelf: &mut S,
 ) -> Result<Outcome<'a>, Memory>
     requires valid { IsValid (layout_view layout.now) }
+    requires size { IsWithin (command_seen command.now) }
     ensures outcome { IfOk result (λ o. Ends (S.held shelf.old)
         (ReadRose (S.read_faults shelf.old) (S.read_faults shelf.new)) (command_seen command.now)
         (layout_view layout.now) (outcome_of o)) }
@@ -108,17 +142,72 @@ fn decide_compiled<'a, S: Shelf>(
         Command::Compile(_) => compiled(alloc, layout),
         Command::Check(names) => decide_check(alloc, names, layout, shelf),
         Command::Verify(names) => decide_verify(alloc, names, layout, shelf),
+        Command::Trial(trial) => decide_trial(alloc, trial, layout),
     }
 }
 
-// The name of the model.
-fn model_name<'a>(command: &Command<'a>) -> &'a str
-    ensures { result.now ≡ model_name (command_seen command.now) }
+// The outcome of a command whose model has that text.
+fn decide_text<'a, S: Shelf>(
+    alloc: Global,
+    command: &Command<'a>,
+    text: &[u8],
+    shelf: &mut S,
+) -> Result<Outcome<'a>, Memory>
+    requires short { length text.now ≤ 4194304 }
+    requires size { IsWithin (command_seen command.now) }
+    ensures outcome { IfOk result (λ o. EndsModel (S.held shelf.old)
+        (ReadRose (S.read_faults shelf.old) (S.read_faults shelf.new)) (command_seen command.now)
+        text.now (outcome_of o)) }
+    ensures held { S.held shelf.new ≡ S.held shelf.old }
+    ensures reads { NoReadFell (S.read_faults shelf.old) (S.read_faults shelf.new) }
+    ensures writes { S.write_faults shelf.old ≤ S.write_faults shelf.new }
 {
-    match command {
-        Command::Compile(model) => model,
-        Command::Check(names) | Command::Verify(names) => names.model,
+    match read_model(alloc, text)? {
+        ModelReading::Laid(layout) => decide_compiled(alloc, command, &layout, shelf),
+        ModelReading::Refused(refusal) => refused(alloc, refusal),
     }
+}
+
+// The outcome of a command whose model is the file of that name.
+fn decide_named<'a, S: Shelf>(
+    alloc: Global,
+    command: &Command<'a>,
+    name: &str,
+    shelf: &mut S,
+) -> Result<Outcome<'a>, Memory>
+    requires size { IsWithin (command_seen command.now) }
+    requires model { model_of (command_seen command.now) ≡ from_file File.Model name.now }
+    ensures outcome { IfOk result (λ o. EndsCommand (S.held shelf.old)
+        (ReadRose (S.read_faults shelf.old) (S.read_faults shelf.new)) (command_seen command.now)
+        (outcome_of o)) }
+    ensures held { S.held shelf.new ≡ S.held shelf.old }
+    ensures reads { NoReadFell (S.read_faults shelf.old) (S.read_faults shelf.new) }
+    ensures writes { S.write_faults shelf.old ≤ S.write_faults shelf.new }
+{
+    match read_file(alloc, shelf, File::Model, name) {
+        Ok(text) => decide_text(alloc, command, &text, shelf),
+        Err(refusal) => not_read(alloc, File::Model, refusal),
+    }
+}
+
+// The outcome of a trial's files, which are made.
+fn decide_made<'a, S: Shelf>(
+    alloc: Global,
+    command: &Command<'a>,
+    shelf: &mut S,
+) -> Result<Outcome<'a>, Memory>
+    requires size { IsWithin (command_seen command.now) }
+    requires model { model_of (command_seen command.now) ≡ made the_model }
+    ensures outcome { IfOk result (λ o. EndsCommand (S.held shelf.old)
+        (ReadRose (S.read_faults shelf.old) (S.read_faults shelf.new)) (command_seen command.now)
+        (outcome_of o)) }
+    ensures held { S.held shelf.new ≡ S.held shelf.old }
+    ensures reads { NoReadFell (S.read_faults shelf.old) (S.read_faults shelf.new) }
+    ensures writes { S.write_faults shelf.old ≤ S.write_faults shelf.new }
+{
+    files_are_short();
+    let text = model_text(alloc)?;
+    decide_text(alloc, command, &text, shelf)
 }
 
 // The outcome of a command's files.
@@ -127,6 +216,7 @@ fn decide_command<'a, S: Shelf>(
     command: &Command<'a>,
     shelf: &mut S,
 ) -> Result<Outcome<'a>, Memory>
+    requires size { IsWithin (command_seen command.now) }
     ensures outcome { IfOk result (λ o. EndsCommand (S.held shelf.old)
         (ReadRose (S.read_faults shelf.old) (S.read_faults shelf.new)) (command_seen command.now)
         (outcome_of o)) }
@@ -134,13 +224,12 @@ fn decide_command<'a, S: Shelf>(
     ensures reads { NoReadFell (S.read_faults shelf.old) (S.read_faults shelf.new) }
     ensures writes { S.write_faults shelf.old ≤ S.write_faults shelf.new }
 {
-    let text = match read_file(alloc, shelf, File::Model, model_name(command)) {
-        Ok(text) => text,
-        Err(refusal) => return not_read(alloc, File::Model, refusal),
-    };
-    match read_model(alloc, &text)? {
-        ModelReading::Laid(layout) => decide_compiled(alloc, command, &layout, shelf),
-        ModelReading::Refused(refusal) => refused(alloc, refusal),
+    match command {
+        Command::Compile(model) => decide_named(alloc, command, model, shelf),
+        Command::Check(names) | Command::Verify(names) => {
+            decide_named(alloc, command, names.model, shelf)
+        }
+        Command::Trial(_) => decide_made(alloc, command, shelf),
     }
 }
 

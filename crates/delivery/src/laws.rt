@@ -25,6 +25,7 @@ pub fn outcomes_are_right()
 {
     area_search::laws::answers_are_right();
     certificate_checker::laws::proves_partition();
+    crate::trial::events_are_counted();
     verifications_agree();
     verified_partitions();
 }

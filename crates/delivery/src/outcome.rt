@@ -1,18 +1,18 @@
 // Outcomes of a call, fixed before anything is written.
 ghost use Rattle.std.specs.Prelude.{◌≡◌, ◌++◌, map, IfOk, OnOk, Some, None};
-ghost use Rattle.certificate.specs.Spelling.{views};
+ghost use Rattle.certificate.specs.Spelling.{view, views};
 ghost use Rattle.itf_reader.specs.Findings.{findings_of};
 ghost use Rattle.itf_reader.specs.Refusals.{fault_of};
 ghost use Rattle.table_layout.specs.Values.{area_view, areas_view, layout_view, table_view, tables_view};
 ghost use Rattle.delivery.specs.Outcomes.{reported, usage, area_too_large};
 ghost use Rattle.delivery.specs.Outcomes.{refused, compiled, misbuilt, rejected, areas_told};
 ghost use Rattle.delivery.specs.Outcomes.{accepted, area_line, area_lines, table_line};
-ghost use Rattle.delivery.specs.Outcomes.{with_verdict};
+ghost use Rattle.delivery.specs.Outcomes.{with_verdict, trial_line, size_lines, trial_lines};
 ghost use Rattle.delivery.specs.Outcomes.{arc_line, arc_lines, arcs_left, proofs_told, verified};
 ghost use Rattle.plane.specs.Rule.Plans.{plan};
 ghost use Rattle.delivery.specs.AreaAnswers.{plans};
 ghost use Rattle.delivery.specs.LineViews.{line_of, lines_of};
-ghost use Rattle.delivery.specs.OutcomeViews.{outcome_of};
+ghost use Rattle.delivery.specs.OutcomeViews.{outcome_of, target_of};
 ghost use Rattle.delivery.specs.FileRefusals.{IsNotRead};
 ghost use Rattle.delivery.specs.RefusalViews.{refusal_of};
 ghost use Rattle.delivery.specs.VerificationViews.{verification_of};
@@ -30,6 +30,14 @@ use plane::Drawing;
 use ports::{Memory, Name};
 use std::alloc::Global;
 use table_layout::{AreaOf, Layout, Table};
+
+/// Where certificates go: the name of their file; and for a trial its size, which the report
+/// tells.
+#[derive(Clone, Copy)]
+pub struct Target<'a> {
+    pub name: &'a str,
+    pub trial: Option<u32>,
+}
 
 /// Certificates, and the name of the file that they go to.
 #[derive(Drop)]
@@ -196,6 +204,61 @@ fn area_lines(alloc: Global, layout: &Layout, answers: &[AreaAnswer]) -> Result<
     Ok(lines)
 }
 
+// Adds what a trial of that size tells of an area that is proved.
+fn add_trial_line(
+    size: u32,
+    answer: AreaAnswer,
+    certificate: &Certificate,
+    lines: &mut Vec<Line>,
+) -> Result<(), Memory>
+    ensures { OnOk result (lines_of lines.new.items ≡ lines_of lines.old.items
+        ++ trial_line size answer (view certificate.now)) }
+{
+    if let AreaAnswer::Proved { curves, points, .. } = answer {
+        lines.push(Line::Trial {
+            size,
+            curves,
+            events: certificate.positions.len() as u64,
+            points,
+        })?;
+    }
+    Ok(())
+}
+
+// What a trial of that size tells of its areas.
+fn size_lines(
+    alloc: Global,
+    size: u32,
+    answers: &[AreaAnswer],
+    certificates: &[Certificate],
+) -> Result<Vec<Line>, Memory>
+    ensures { IfOk result (λ lines. lines_of lines.items ≡ size_lines size answers.now
+        (views certificates.now)) }
+{
+    let mut lines = Vec::new(alloc);
+    for (answer, certificate) in answers.iter().zip(certificates) {
+        add_trial_line(size, *answer, certificate, &mut lines)?;
+    }
+    Ok(lines)
+}
+
+// Adds what the report of a trial tells of its areas, where it is one.
+fn add_trial_lines(
+    alloc: Global,
+    trial: Option<u32>,
+    answers: &Answers,
+    lines: &mut Vec<Line>,
+) -> Result<(), Memory>
+    ensures { OnOk result (lines_of lines.new.items ≡ lines_of lines.old.items
+        ++ trial_lines trial answers.now.told.items (views answers.now.certificates.items)) }
+{
+    if let Some(size) = trial {
+        let mut more = size_lines(alloc, size, &answers.told, &answers.certificates)?;
+        lines.append(&mut more)?;
+    }
+    Ok(())
+}
+
 // So many objects without a finding, and the certificates for that file.
 fn accepted(
     alloc: Global,
@@ -232,26 +295,27 @@ fn ended<'a>(
 }
 
 /// So many objects without a finding, and these answers to the areas of the layout, whose
-/// certificates go to the file of that name where all are proved.
+/// certificates go to the target where all are proved.
 pub fn areas_told<'a>(
     alloc: Global,
     layout: &Layout,
     objects: u128,
-    name: &'a str,
+    target: &Target<'a>,
     answers: Answers,
 ) -> Result<Outcome<'a>, Memory>
-    ensures { IfOk result (λ o. outcome_of o ≡ areas_told (layout_view layout.now) objects name.now
-        answers.told.items (views answers.certificates.items)) }
+    ensures { IfOk result (λ o. outcome_of o ≡ areas_told (layout_view layout.now) objects
+        (target_of target.now) answers.told.items (views answers.certificates.items)) }
 {
-    let lines = area_lines(alloc, layout, &answers.told)?;
+    let mut lines = area_lines(alloc, layout, &answers.told)?;
     if has_fault(&answers.told) {
         return ended(alloc, Status::Rejected, lines, Verdict::Rejected);
     }
     if has_left(&answers.told) {
         return ended(alloc, Status::Undecided, lines, Verdict::Undecided);
     }
+    add_trial_lines(alloc, target.trial, &answers, &mut lines)?;
     let filing = Filing {
-        name,
+        name: target.name,
         certificates: answers.certificates,
     };
     accepted(alloc, lines, objects, filing)

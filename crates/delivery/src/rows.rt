@@ -6,15 +6,17 @@ ghost use Rattle.delivery.specs.AreaAnswers.{plans};
 ghost use Rattle.delivery.specs.Drawings.{AreDrawings};
 ghost use Rattle.delivery.specs.FiledTexts.{IsVerified};
 ghost use Rattle.delivery.specs.Judging.{AreJudged, IsChecked, objects};
-ghost use Rattle.delivery.specs.OutcomeViews.{outcome_of};
+ghost use Rattle.delivery.specs.OutcomeViews.{outcome_of, target_of};
+ghost use Rattle.delivery.specs.Outcomes.{check_target, trial_target};
 ghost use Rattle.delivery.specs.Pieces.{IsJudged};
 ghost use Rattle.delivery.specs.RowsRead.{IsDrawnVerified};
 
 use crate::area_answers::{answers_of, has_arc};
 use crate::judging::Judged;
 use crate::outcome::{
-    Outcome, arcs_left, area_too_large, areas_told, misbuilt, rejected, verified,
+    Outcome, Target, arcs_left, area_too_large, areas_told, misbuilt, rejected, verified,
 };
+use crate::trial::TrialWords;
 use crate::verifying::verify_areas;
 use plane::Drawing;
 use ports::Memory;
@@ -24,7 +26,7 @@ use table_layout::Layout;
 // The outcome of so many objects without a finding and the drawings of all areas.
 fn check_areas<'a>(
     alloc: Global,
-    name: &'a str,
+    target: &Target<'a>,
     layout: &Layout,
     count: u128,
     drawings: &[Drawing],
@@ -32,10 +34,31 @@ fn check_areas<'a>(
     requires { length drawings.now ≡ length layout.now.areas.items }
     ensures { (rows : List (List GivenRow)) → count ≡ objects rows
         → AreDrawings (layout_view layout.now) rows (plans drawings.now)
-        → IfOk result (λ o. AreJudged name.now (layout_view layout.now) rows (outcome_of o)) }
+        → IfOk result (λ o. AreJudged (target_of target.now) (layout_view layout.now) rows
+        (outcome_of o)) }
 {
     let answers = answers_of(alloc, layout, drawings)?;
-    areas_told(alloc, layout, count, name, answers)
+    areas_told(alloc, layout, count, target, answers)
+}
+
+// The outcome of a transfer that came to that. The certificates go to the target.
+fn judged_for<'a>(
+    alloc: Global,
+    target: &Target<'a>,
+    layout: &Layout,
+    judged: Judged,
+) -> Result<Outcome<'a>, Memory>
+    requires { (text : List ℕ) × IsJudged (layout_view layout.now) text judged }
+    ensures { (text : List ℕ) → IsJudged (layout_view layout.now) text judged
+        → IfOk result (λ o. IsChecked (target_of target.now) (layout_view layout.now) text
+        (outcome_of o)) }
+{
+    match judged {
+        Judged::Misbuilt(line, code) => misbuilt(alloc, line, code),
+        Judged::Faulty(found) => rejected(alloc, found),
+        Judged::Oversized => area_too_large(alloc),
+        Judged::Clean(count, drawings) => check_areas(alloc, target, layout, count, &drawings),
+    }
 }
 
 /// The outcome of a check whose transfer came to that. The certificates go to the file of that
@@ -48,14 +71,30 @@ pub fn checked<'a>(
 ) -> Result<Outcome<'a>, Memory>
     requires { (text : List ℕ) × IsJudged (layout_view layout.now) text judged }
     ensures { (text : List ℕ) → IsJudged (layout_view layout.now) text judged
-        → IfOk result (λ o. IsChecked name.now (layout_view layout.now) text (outcome_of o)) }
+        → IfOk result (λ o. IsChecked (check_target name.now) (layout_view layout.now) text
+        (outcome_of o)) }
 {
-    match judged {
-        Judged::Misbuilt(line, code) => misbuilt(alloc, line, code),
-        Judged::Faulty(found) => rejected(alloc, found),
-        Judged::Oversized => area_too_large(alloc),
-        Judged::Clean(count, drawings) => check_areas(alloc, name, layout, count, &drawings),
-    }
+    let target = Target { name, trial: None };
+    judged_for(alloc, &target, layout, judged)
+}
+
+/// The outcome of a trial whose transfer came to that.
+pub fn tried<'a>(
+    alloc: Global,
+    trial: &TrialWords<'a>,
+    layout: &Layout,
+    judged: Judged,
+) -> Result<Outcome<'a>, Memory>
+    requires { (text : List ℕ) × IsJudged (layout_view layout.now) text judged }
+    ensures { (text : List ℕ) → IsJudged (layout_view layout.now) text judged
+        → IfOk result (λ o. IsChecked (trial_target trial.now.size trial.now.certificate.now)
+        (layout_view layout.now) text (outcome_of o)) }
+{
+    let target = Target {
+        name: trial.certificate,
+        trial: Some(trial.size),
+    };
+    judged_for(alloc, &target, layout, judged)
 }
 
 // Judges filed certificates against the drawings of all areas of so many objects.

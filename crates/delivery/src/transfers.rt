@@ -6,7 +6,7 @@ ghost use Rattle.itf_reader.specs.Layouts.{form_of};
 ghost use Rattle.itf_reader.specs.Names.{form_in};
 ghost use Rattle.table_layout.specs.Valid.{IsValid};
 ghost use Rattle.table_layout.specs.Values.{layout_view};
-ghost use Rattle.delivery.specs.Pieces.{Takes, ArePieces, IsTransfer};
+ghost use Rattle.delivery.specs.Pieces.{Takes, ArePieces, IsTransfer, IsJudged};
 ghost use Rattle.delivery.specs.Reading.{IsWhole, IsLonger, IsFront, IsEnd};
 
 use crate::files::{File, FileRefusal, buffer};
@@ -145,4 +145,16 @@ pub fn read_transfer<S: Shelf>(
         Err(FileRefusal::Memory) => Err(Memory),
         Err(refusal) => Ok(TransferReading::Unread(refusal)),
     }
+}
+
+/// Judges the text of a transfer that is held in memory, by the layout of its model.
+pub fn judge_text(alloc: Global, layout: &Layout, text: &[u8]) -> Result<Judged, Memory>
+    requires valid { IsValid (layout_view layout.now) }
+    requires short { length text.now ≤ 268435456 }
+    ensures { IfOk result (IsJudged (layout_view layout.now) text.now) }
+{
+    let names = Names::new(alloc, layout)?;
+    let mut judge = Judge::new(alloc, layout)?;
+    judge.take(layout, &names, text)?;
+    judge.finish(alloc, layout, &names)
 }

@@ -76,10 +76,24 @@ pub enum Line {
     Model(Name),
     Table(TableLine),
     /// The first line at fault of a transfer, and why it is.
-    Structure { line: u32, code: Structure },
+    Structure {
+        line: u32,
+        code: Structure,
+    },
     Area(AreaLine),
     /// The area whose certificate does not prove it, by its number from 0, the rule that is broken
     /// first, and its place.
-    NotProved { area: u32, rule: u8, place: u32 },
+    NotProved {
+        area: u32,
+        rule: u8,
+        place: u32,
+    },
+    /// A trial: its size, and how many curves, events and points its area has.
+    Trial {
+        size: u32,
+        curves: u64,
+        events: u64,
+        points: u64,
+    },
     Verdict(Verdict),
 }

@@ -8,7 +8,7 @@ ghost use Rattle.delivery.specs.Lines.{finding as finding_line, file_text, place
 ghost use Rattle.delivery.specs.Lines.{other_text, finding_words, table_words, area_text};
 ghost use Rattle.delivery.specs.Lines.{pair_text, empty_text, proof_text, area_words};
 ghost use Rattle.delivery.specs.Lines.{not_proved_words, structure_words, refusal_words};
-ghost use Rattle.delivery.specs.Lines.{verdict_text, words_of, line_text};
+ghost use Rattle.delivery.specs.Lines.{trial_words, verdict_text, words_of, line_text};
 ghost use Rattle.delivery.specs.LineViews.{findings_seen, line_of, lines_of, table_of, area_of};
 ghost use Rattle.delivery.specs.Outcomes.{report_of};
 ghost use Rattle.delivery.specs.OutcomeViews.{outcome_of};
@@ -281,6 +281,20 @@ impl Text {
         self.add(file_text(file))
     }
 
+    // TRIAL n curves events points
+    fn add_trial(&mut self, size: u32, curves: u64, events: u64, points: u64) -> Result<(), Memory>
+        ensures { OnOk result (self.new ≡ self.old ++ trial_words size curves events points) }
+    {
+        self.add(b"TRIAL ")?;
+        self.add_number(size)?;
+        self.add(b" ")?;
+        self.add_count(u128::from(curves))?;
+        self.add(b" ")?;
+        self.add_count(u128::from(events))?;
+        self.add(b" ")?;
+        self.add_count(u128::from(points))
+    }
+
     // The words of a line, without its end.
     fn add_words(&mut self, line: &Line) -> Result<(), Memory>
         ensures { OnOk result (self.new ≡ self.old ++ words_of (line_of line.now)) }
@@ -302,6 +316,12 @@ impl Text {
             Line::Structure { line, code } => self.add_structure(*line, *code),
             Line::Area(area) => self.add_area(area),
             Line::NotProved { area, rule, place } => self.add_not_proved(*area, *rule, *place),
+            Line::Trial {
+                size,
+                curves,
+                events,
+                points,
+            } => self.add_trial(*size, *curves, *events, *points),
             Line::Verdict(verdict) => self.add_verdict(*verdict),
         }
     }

@@ -1,7 +1,6 @@
 // The words of a trial.
 ghost use Rattle.std.specs.Prelude.{◌≡◌, ℕ, List, IfSome, IfNone};
-ghost use Rattle.delivery.specs.Commands.{Command as AnyCommand, IsCommand};
-ghost use Rattle.delivery.specs.TrialWords.{IsTrial};
+ghost use Rattle.delivery.specs.Commands.{IsTrial};
 
 use super::size_of;
 use crate::command::is_file_name;
@@ -34,10 +33,8 @@ pub fn trial_of(words: &[Word]) -> Option<TrialWords<'_>>
     }
 }
 
-/// Words ask for one trial at most, and those that do spell no other command.
+/// Words ask for one trial at most.
 pub fn one_trial()
-    ensures one { (words : List (List ℕ)) (m n : ℕ) (a b : List ℕ)
+    ensures { (words : List (List ℕ)) (m n : ℕ) (a b : List ℕ)
         → IsTrial words m a → IsTrial words n b → (m ≡ n) × (a ≡ b) }
-    ensures alone { (words : List (List ℕ)) (size : ℕ) (certificate : List ℕ) (c : AnyCommand)
-        → IsTrial words size certificate → IsCommand words c → ⊥ }
 {}

@@ -10,7 +10,7 @@ use Rattle.delivery.specs.Pieces.{IsJudged}
 use Rattle.delivery.specs.declared.judging.closing.Judged.{Judged}
 use Rattle.delivery.proofs.Steps.{if_ok}
 use Rattle.delivery.proofs.Zips.{drawn_count}
-use Rattle.delivery.proofs.rows.checked.Goals as goal
+use Rattle.delivery.proofs.rows.judged_for.Goals as goal
 
 pub check_areas-requires : goal.check_areas-requires
 check_areas-requires c =
