@@ -3,7 +3,7 @@ use Rattle.std.specs.Prelude.{codes}
 use Rattle.std.specs.Cmp.Lexicographic.{pointwise}
 use Rattle.std.proofs.lemmas.Slice.Eq.{bytes_eq-Decides}
 use Rattle.delivery.specs.Commands.{FileNames, IsCompile, IsSpelled}
-use Rattle.std.proofs.Common.{◌≡◌, ◌≤◌, ◌<◌, ℕ, true, nat_eq, List, [], ◌∷◌, length, get_or, sym, ap, ◌∙◌, arith}
+use Rattle.std.proofs.Common.{◌≡◌, ◌≤◌, ◌<◌, ℕ, true, nat_eq, List, [], ◌∷◌, length, get_or, sym, ◌∙◌, arith}
 
 pub same_word : (a b : List ℕ) → pointwise nat_eq a b ≡ true → a ≡ b
 same_word a b h = (bytes_eq-Decides a b).0 h

@@ -4,7 +4,8 @@
 //! the report, and only then writes. Its contract says the cause of every answer, the report word
 //! by word, and what becomes of every file.
 //!
-//! - **What is served.** `compile M`, `check M T C` and `verify M T C`. Every model is cut into
+//! - **What is served.** `compile M`, `check M T C`, `verify M T C` and `trial N C`, which checks a
+//!   large valid delivery that `trial` makes in memory. Every model is cut into
 //!   tokens, parsed, resolved and laid out; of a model with a fault, the first one is reported with
 //!   its code, line, column and word. Every transfer is read by the layout of its model; where a
 //!   line is at fault, the first one is reported with its code. All values, identifications, IDENT
@@ -22,9 +23,6 @@
 //!   without an object are decided; two words may name one file, since all reads come before the
 //!   first write. A vertex at the place before it draws nothing, an arc over three places of one
 //!   straight draws straights, and an area may have no line and no point.
-//!
-//! `trial` has the words and the files of a trial, a large valid delivery that is made in memory;
-//! `run` does not serve it yet.
 //!
 //! `transfers` reads a transfer in pieces, and `judging` judges them: lines, rows and what is kept
 //! of these. `deciding` fixes the outcome: a status, the lines of the report, and the certificates

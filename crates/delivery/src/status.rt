@@ -5,7 +5,7 @@ ghost use Rattle.delivery.specs.Statuses.{number};
 /// What the call answers.
 #[derive(Clone, Copy, Debug, PartialEq, Eq)]
 pub enum Status {
-    /// The files keep the rules; after `check` the certificates are written.
+    /// The files keep the rules; after `check` and `trial` the certificates are written.
     Accepted,
     /// The report names what is at fault.
     Rejected,

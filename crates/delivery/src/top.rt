@@ -20,7 +20,7 @@ use std::alloc::Global;
 /// Does what the words ask for, over files by name and an output, and answers with a status
 /// whose number is the exit status of the program.
 ///
-/// `words` are those after the program's name. The files that they name are read whole, in
+/// `words` are those after the program's name. The files that a command reads are read whole, in
 /// pieces of 65,536 bytes: 4,194,304 bytes are the limit for a model, 268,435,456 for a transfer,
 /// and at most a piece more is read. The verdict is fixed before anything is written. Out of
 /// memory is the one answer without a cause. It never comes after the first write.
@@ -29,8 +29,8 @@ pub fn run<S: Shelf, K: Sink>(alloc: Global, words: &[Word], shelf: &mut S, out:
     ensures means { Means (S.held shelf.old) (ReadRose (S.read_faults shelf.old) (S.read_faults shelf.new))
         words.now result }
 
-    // After an accepted check the file of the certificates holds a list that shows by itself that
-    // the areas are partitions.
+    // After an accepted check or trial the file of the certificates holds a list that shows by
+    // itself that the areas are partitions.
     ensures certified { result ≡ Status.Accepted → Certifies (S.held shelf.old)
         (ReadRose (S.read_faults shelf.old) (S.read_faults shelf.new)) words.now
         (S.held shelf.new) }

@@ -39,7 +39,7 @@ const ELEVEN: &str =
 const NO_NUMBER: &str =
     "SCNT\n////\nMTID x\nMODL M\nTOPI T\nTABL A\nOBJE 1 x\nETAB\nETOP\nEMOD\nENDE\n";
 
-const USAGE: &str =
+pub const USAGE: &str =
     "FAULT USAGE\nusage: itfcheck compile M, check M T C, verify M T C, trial N C\n";
 
 const EMPTY_LIST: &str = "ITFCERT 1\nAREAS 0\n";

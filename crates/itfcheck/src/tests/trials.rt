@@ -1,9 +1,11 @@
-//! The files of a trial: the words that spell a size, the text of the smallest transfer, and what
-//! the program says of small ones.
+//! Trials: the words that spell a size, the text of the smallest transfer, and what the program
+//! says of small ones, by their words and by their files.
 
 use super::inputs::report_on;
-use super::rows::words_of;
+use super::rows::{USAGE, words_of};
 use delivery::trial::{model_text, size_of, transfer_text, trial_of};
+use delivery::{Status, run};
+use ports::{MemoryShelf, MemorySink, Shelf};
 use std::alloc::Global;
 use std::process::Abort;
 use std::test::Fail;
@@ -46,6 +48,53 @@ const SMALLEST: &str = "SCNT\n////\nMTID Trial\nMODL Trial\nTOPI Grid\nTABL Cell
     OBJE 3\nSTPT 0.000 0.000\nLIPT 0.000 10.000\nELIN\n\
     OBJE 4\nSTPT 10.000 0.000\nLIPT 10.000 10.000\nELIN\n\
     ETAB\nTABL Cell\nOBJE 1 5.000 5.000\nETAB\nETOP\nEMOD\nENDE\n";
+
+// Words, the status, the report, and how the file C begins, where it is there.
+struct Call {
+    words: &'static [&'static str],
+    status: Status,
+    report: &'static str,
+    certificate: Option<&'static str>,
+}
+
+const CALLS: [Call; 6] = [
+    Call {
+        words: &["trial", "1", "C"],
+        status: Status::Accepted,
+        report: "AREA Grid Cell Form PROVED 0 4 1\nTRIAL 1 4 4 1\nVERDICT ACCEPTED 5\n",
+        certificate: Some("ITFCERT 1\nAREAS 1\nAREA Grid Cell Form\nSIZES 0 4 4 1\nV "),
+    },
+    Call {
+        words: &["trial", "2", "C"],
+        status: Status::Accepted,
+        report: "AREA Grid Cell Form PROVED 0 12 4\nTRIAL 2 12 9 4\nVERDICT ACCEPTED 16\n",
+        certificate: Some("ITFCERT 1\nAREAS 1\nAREA Grid Cell Form\nSIZES 0 12 9 4\nV "),
+    },
+    Call {
+        words: &["trial", "0", "C"],
+        status: Status::Usage,
+        report: USAGE,
+        certificate: None,
+    },
+    Call {
+        words: &["trial", "01", "C"],
+        status: Status::Usage,
+        report: USAGE,
+        certificate: None,
+    },
+    Call {
+        words: &["trial", "501", "C"],
+        status: Status::Usage,
+        report: USAGE,
+        certificate: None,
+    },
+    Call {
+        words: &["trial", "2", "-C"],
+        status: Status::Usage,
+        report: USAGE,
+        certificate: None,
+    },
+];
 
 // A size, and the report on its files.
 const REPORTS: [(u32, &str); 3] = [
@@ -104,6 +153,34 @@ fn reports(rt: &impl Abort, alloc: Global, size: u32, report: &str) -> Result<()
 fn the_files_of_a_trial_are_accepted(rt: HostRuntime) -> Result<(), Fail> {
     for (size, report) in &REPORTS {
         reports(&rt, rt.alloc(), *size, report)?;
+    }
+    Ok(())
+}
+
+fn begins(shelf: &mut MemoryShelf, text: Option<&str>) -> bool {
+    let mut buffer = [0u8; 512];
+    match (shelf.read("C", 0, &mut buffer), text) {
+        (Ok(length), Some(text)) => buffer[..length].starts_with(text.as_bytes()),
+        (Err(_), None) => true,
+        _ => false,
+    }
+}
+
+fn answers(rt: &impl Abort, alloc: Global, call: &Call) -> Result<(), Fail> {
+    let words = words_of(alloc, call.words)?;
+    let mut shelf = MemoryShelf::new(alloc);
+    let mut out = MemorySink::new(alloc);
+    let status = run(alloc, &words, &mut shelf, &mut out);
+    assert_eq!(rt; status, call.status);
+    assert_eq!(rt; out.bytes(), call.report.as_bytes());
+    assert!(rt; begins(&mut shelf, call.certificate), "the certificates");
+    Ok(())
+}
+
+#[test]
+fn trials_are_answered(rt: HostRuntime) -> Result<(), Fail> {
+    for call in &CALLS {
+        answers(&rt, rt.alloc(), call)?;
     }
     Ok(())
 }
