@@ -96,6 +96,15 @@ const CALLS: [Call; 6] = [
     },
 ];
 
+// The largest trial: its transfer has some 38 MB.
+const LARGEST: Call = Call {
+    words: &["trial", "500", "C"],
+    status: Status::Accepted,
+    report: "AREA Grid Cell Form PROVED 0 501000 250000\n\
+        TRIAL 500 501000 251001 250000\nVERDICT ACCEPTED 751000\n",
+    certificate: Some("ITFCERT 1\nAREAS 1\nAREA Grid Cell Form\nSIZES 0 501000 251001 250000\nV "),
+};
+
 // A size, and the report on its files.
 const REPORTS: [(u32, &str); 3] = [
     (1, "AREA Grid Cell Form PROVED 0 4 1\nVERDICT ACCEPTED 5\n"),
@@ -183,4 +192,9 @@ fn trials_are_answered(rt: HostRuntime) -> Result<(), Fail> {
         answers(&rt, rt.alloc(), call)?;
     }
     Ok(())
+}
+
+#[test]
+fn the_largest_trial_is_accepted(rt: HostRuntime) -> Result<(), Fail> {
+    answers(&rt, rt.alloc(), &LARGEST)
 }
