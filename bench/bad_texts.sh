@@ -1,0 +1,64 @@
+#!/usr/bin/env bash
+# Runs `check` of the built program on bad transfers of 32 MiB and of 256 MiB, the greatest size
+# that is read. Prints how much longer the large one takes, and the peak memory.
+#
+# usage: bench/bad_texts.sh [ITFCHECK]      (crates/itfcheck/out/itfcheck where none is given)
+set -euo pipefail
+top=$(cd "$(dirname "${BASH_SOURCE[0]}")/.." && pwd)
+itfcheck=$(realpath "${1:-$top/crates/itfcheck/out/itfcheck}")
+work=$(mktemp -d)
+trap 'rm -rf "$work"' EXIT
+cd "$work"
+python3 - "$itfcheck" <<'PY'
+import os, sys
+
+program = sys.argv[1]
+SMALL, FULL = 32 << 20, 256 << 20
+HEAD = b"SCNT\n////\nMTID x\nMODL M\nTOPI T\nTABL A\n"
+MODEL = """TRANSFER W; DOMAIN K = COORD2 0.000 0.000 1000.000 1000.000; MODEL M TOPIC T = TABLE A =
+F: OPTIONAL POLYLINE WITH (STRAIGHTS) VERTEX K; NO IDENT END A; END T. END M.
+FORMAT FREE; CODE BLANK = DEFAULT, UNDEFINED = DEFAULT, CONTINUE = DEFAULT; TID = ANY; END.
+"""
+with open("model", "w") as file:
+    file.write(MODEL)
+
+bad = [
+    ("one line without end", b"", b"OBJE", b"x" * 1024),
+    ("LF alone", b"", b"", b"\n" * 1024),
+    ("LF alone after the head", HEAD, b"", b"\n" * 1024),
+    ("lines of the continue code", HEAD, b"", b"\\\n" * 512),
+    ("OBJE lines of one field", HEAD, b"", b"OBJE 1\n" * 128),
+    ("lines that are continued without end", HEAD, b"OBJE 1 \\\n", b"CONT 2 \\\n" * 128),
+    ("one line of fields of one byte", HEAD, b"OBJE", b" x" * 512),
+    ("one stroke without end", HEAD, b"OBJE 1\nSTPT 1 2\n", b"LIPT 1 2\n" * 128),
+]
+
+
+def check():
+    """The last line of the report, the CPU seconds and the peak memory in bytes."""
+    pid = os.fork()
+    if pid == 0:
+        os.dup2(os.open("report", os.O_WRONLY | os.O_CREAT | os.O_TRUNC), 1)
+        os.execv(program, [program, "check", "model", "transfer", "certificates"])
+    _, status, usage = os.wait4(pid, 0)
+    with open("report") as file:
+        first = file.readline().strip()
+    return first, os.WEXITSTATUS(status), usage.ru_utime + usage.ru_stime, usage.ru_maxrss * 1024
+
+
+for name, head, first, part in bad:
+    costs = []
+    for full in (SMALL, FULL):
+        with open("transfer", "wb") as file:
+            file.write(head + first)
+            count = (full - len(head) - len(first)) // len(part)
+            for _ in range(count // 1024):
+                file.write(part * 1024)
+            file.write(part * (count % 1024))
+        line, status, cpu, peak = check()
+        costs.append((cpu, peak))
+    (small, _), (cpu, peak) = costs
+    told = "" if cpu / small < 1.5 * FULL / SMALL else ", MORE THAN IN PROPORTION"
+    print(f"{name}, 256 MiB: {line}, status {status}; {cpu / small:.1f} times the time of 32 MiB{told}; "
+          f"peak memory {peak / FULL:.2f} times the text", flush=True)
+PY
