@@ -114,6 +114,10 @@ CHECKS = [
 ]
 
 
+# the words of a command that names no transfer
+WORDS = {"trial": ["trial", "2", "C"]}
+
+
 def put(name, content):
     if content is None:
         if os.path.exists(name):
@@ -139,7 +143,7 @@ def run(command, before, number, on):
         settings["REFUSE_ON"] = "1"
     done = subprocess.run(
         ["sh", "-c", 'exec "$@" 9> refused', "sh", "env", *("%s=%s" % s for s in settings.items()),
-         sys.argv[1], command, "M", "T", "C"],
+         sys.argv[1], *WORDS.get(command, [command, "M", "T", "C"])],
         stdout=subprocess.PIPE, stderr=subprocess.STDOUT, check=False)
     return done.returncode, done.stdout, held("C"), held("refused") != b""
 
@@ -180,4 +184,6 @@ name, _, model, text, _, _ = CHECKS[0]
 refuse_all(name, "verify", model, text, made[0], 0)
 refuse_all("a square, a label changed", "verify", model, text, made[0].replace(b"R 0 1 R", b"R 0 2 R", 1), 9)
 refuse_all("a square, a text cut off", "verify", model, text, made[0][:40], 9)
+refuse_all("four squares that are made", "trial", "", "", None, 0)
+refuse_all("four squares that are made, filed before", "trial", "", "", b"as it was", 0)
 PY
