@@ -44,7 +44,7 @@ impl Shelf for Pieces {
     ghost write_faults = { λ s. s.faults };
 
     fn read(&mut self, name: &str, from: u64, into: &mut [u8]) -> Result<usize, Failed> {
-        let most = self.most(from).min(into.len());
+        let most = self.most(from).max(1).min(into.len());
         match self.files.read(name, from, &mut into[..most]) {
             Ok(length) => Ok(length.min(most)),
             Err(failed) => {
