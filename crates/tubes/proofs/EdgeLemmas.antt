@@ -1,5 +1,5 @@
 -- The edge of two points, and the edges of a drawing.
-use Rattle.std.proofs.Common.{◌≡◌, ℕ, zero, suc, ◌<◌, ◌⊎◌, ◌<ℤ◌, ◌≤ℤ◌, [], ◌∷◌, inl, inr, Bool, true, false, cond, List, length, map, get_or, refl, arith, ap, sym, ◌∙◌, subst, All, ◌+◌, ◌++◌, drop, append_assoc, add-one, drop-cons}
+use Rattle.std.proofs.Common.{◌≡◌, ℕ, zero, suc, ◌<◌, ◌⊎◌, ◌<ℤ◌, ◌≤ℤ◌, [], ◌∷◌, inl, inr, Bool, true, false, cond, List, length, map, get_or, refl, arith, ap, sym, ◌∙◌, subst, All}
 use Rattle.std.proofs.lemmas.List.{length-map}
 use Rattle.std.proofs.lemmas.Int.{ints, by_lt_z}
 use Rattle.plane.specs.declared.kinds.Point.{Point}
@@ -13,9 +13,7 @@ use Rattle.plane.specs.Rule.Windows.{IsDrawn, IsInside}
 use Rattle.straight_predicates.proofs.Orders.{int_less, int_equal, int_greater}
 use Rattle.straight_predicates.proofs.WindowEdges.{inside_close, window_close}
 use Rattle.straight_predicates.specs.EdgeLists.{AreAllClose, AreSorted, HasEnds, IsCloseToAll, edge_of, no_edge}
-use Rattle.tubes.specs.DrawnEdges.{AreStraights, HasTwoEnds, comes_first, edge_from, edges_of, nth_curve, owners_from, straight_edge}
-use Rattle.tubes.specs.declared.kinds.Owner.{Owner}
-use Rattle.tubes.specs.declared.kinds.Part.TheVariants as part
+use Rattle.tubes.specs.DrawnEdges.{AreStraights, comes_first, edge_from, edges_of, nth_curve, straight_edge}
 
 -- ---- the order of points as a test
 pub first_is : (p q : Point) → Before p q → comes_first p q ≡ true
@@ -93,18 +91,6 @@ are_near d drawn points j l = record {
   ends = λ e m. (are_close d drawn e e m m).first;
   point = λ e m. inside_close d.window.low d.window.high (edge_of (edges_of d) e).low (object d j) d.window.narrow (inside d drawn e m).0 (points j _ l);
 }
-
-pub two_ends : (low high : Point) (curves : List Curve) → All (λ (c : Curve). IsDrawn low high c) curves → All HasTwoEnds curves
-two_ends low high curves drawn k d l = (drawn k d l).distinct
-
-pub owners_step : (curves : List Curve) (i : ℕ) (owners new all : List Owner) → i < length curves → new ≡ owners ++ record { curve = i; part = part.Straight } ∷ [] → owners ++ owners_from i (drop i curves) ≡ all
-    → new ++ owners_from (i + 1) (drop (i + 1) curves) ≡ all
-owners_step curves i owners new all l e h =
-    ap (λ (xs : List Owner). xs ++ owners_from (i + 1) (drop (i + 1) curves)) e
-    ∙ append_assoc owners (record { curve = i; part = part.Straight } ∷ []) (owners_from (i + 1) (drop (i + 1) curves))
-    ∙ ap (λ (k : ℕ). owners ++ record { curve = i; part = part.Straight } ∷ owners_from k (drop k curves)) (add-one i)
-    ∙ ap (λ (cs : List Curve). owners ++ owners_from i cs) (sym (drop-cons curves i (nth_curve curves i) l))
-    ∙ h
 
 -- ---- the edges of a drawing of straights are those of its curves
 pub drawn_edges : (d : Plan) → AreStraights d → AreEdgesOf (edge_of (edges_of d)) d

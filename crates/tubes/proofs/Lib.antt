@@ -11,3 +11,7 @@ pub mod SpanNumbers
 pub mod TubePoints
 pub mod TubeTriangles
 pub mod UsableEdges
+pub mod LevelEdges
+pub mod SettledLevels
+pub mod FacingSides
+pub mod ForeignCorners

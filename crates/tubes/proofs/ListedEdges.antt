@@ -8,10 +8,9 @@ use Rattle.plane.specs.Tubes.Bays.{Bay, IsTube}
 use Rattle.plane.specs.declared.kinds.Curve.{Curve}
 use Rattle.plane.specs.declared.kinds.Point.{Point}
 use Rattle.straight_predicates.specs.EdgeLists.{edge_of}
-use Rattle.tubes.specs.DrawnEdges.{AreAllStraight, AreStraights, IsListOf, comes_first, edge_from, owners_from, straight_edge}
-use Rattle.tubes.specs.TubedEdges.{HasTube, IsTubedList, drawn_bays, edge_as, owner_as}
+use Rattle.tubes.specs.DrawnEdges.{AreAllStraight, AreStraights, comes_first, edge_from, edges_of, straight_edge}
+use Rattle.tubes.specs.TubedEdges.{HasTube, IsTubedList, drawn_bays, edge_as}
 use Rattle.tubes.specs.declared.kinds.EdgeList.{EdgeList}
-use Rattle.tubes.specs.declared.kinds.Part.TheVariants as part
 use Rattle.tubes.proofs.ChainEdges.{bays_are}
 use Rattle.tubes.proofs.TubePoints.{tube_is}
 
@@ -40,16 +39,12 @@ edge_by_number d level list t e l =
     (mapped (runs.edge_list (drawn_bays d level) 0 d.curves) e (subst (λ (n : ℕ). e < n) (count_by_curves d level list t) l))
 
 -- ---- drawings of straights
-as_straights : (B : ℕ → List Bay) (i : ℕ) (cs : List Curve) → AreAllStraight cs → (map edge_as (runs.edge_list B i cs) ≡ map straight_edge cs) × (map owner_as (runs.edge_list B i cs) ≡ owners_from i cs)
-as_straights B i [] h = (refl, refl)
+as_straights : (B : ℕ → List Bay) (i : ℕ) (cs : List Curve) → AreAllStraight cs → map edge_as (runs.edge_list B i cs) ≡ map straight_edge cs
+as_straights B i [] h = refl
 as_straights B i (c ∷ cs) h =
     let e = h 0 (omega arith) in
-    let r = as_straights B (suc i) cs (λ k l. h (suc k) (omega (arith, l))) in (
-      ap (λ k. map edge_as (runs.edges_of i k c (B i) ++ runs.edge_list B (suc i) cs)) e ∙ ap (λ es. straight_edge c ∷ es) r.0,
-      ap (λ k. map owner_as (runs.edges_of i k c (B i) ++ runs.edge_list B (suc i) cs)) e ∙ ap (λ os. record { curve = i; part = part.Straight } ∷ os) r.1,
-    )
+    let r = as_straights B (suc i) cs (λ k l. h (suc k) (omega (arith, l))) in
+    ap (λ k. map edge_as (runs.edges_of i k c (B i) ++ runs.edge_list B (suc i) cs)) e ∙ ap (λ es. straight_edge c ∷ es) r
 
-pub straights_list : (d : Plan) (level : ℕ) (list : EdgeList) → IsTubedList d level list → AreStraights d → IsListOf d list
-straights_list d level list t s =
-    let r = as_straights (drawn_bays d level) 0 d.curves s in
-    record { straights = s; edges = t.edges ∙ r.0; owners = t.owners ∙ r.1 }
+pub straights_list : (d : Plan) (level : ℕ) (list : EdgeList) → IsTubedList d level list → AreStraights d → list.edges.items ≡ edges_of d
+straights_list d level list t s = t.edges ∙ as_straights (drawn_bays d level) 0 d.curves s

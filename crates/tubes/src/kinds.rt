@@ -35,3 +35,11 @@ pub struct EdgeList {
     pub edges: Vec<Edge>,
     pub owners: Vec<Owner>,
 }
+
+/// Which side of an edge faces the tube of its curve from within: none for the edge of a straight.
+#[derive(Clone, Copy, Debug, PartialEq, Eq)]
+pub enum Facing {
+    Neither,
+    Below,
+    Above,
+}

@@ -2,10 +2,12 @@
 //!
 //! - **What it answers.** `tube` gives the tube of a half arc at a level from 0 to 5: corners by
 //!   whole numbers, whose triangles cover the half arc. `holds` tells whether a point is in one of
-//!   a tube's closed triangles. `tubed_edge_list` gives the edges that stand for the curves of a
+//!   a tube's closed triangles. `edge_list` gives the edges that stand for the curves of a
 //!   drawing at a level, in their order, each with its curve: for a straight its edge, from the end
 //!   that comes first by x, then y, to the other one; for a half arc the inner chain of its tube,
-//!   then the outer one. `edge_list` gives the same for drawings of straights alone.
+//!   then the outer one. Of a list at a level, `facings` tells which side of each edge faces its
+//!   tube, and `foreign_corner` the first event at which a corner of a tube, other than the ends of
+//!   its half arc, is another curve's.
 //! - **The rule that it serves.** `specs/HalfArcTubes.antt` says which corners a tube has and when
 //!   there is none (`IsTubeOf`, `HasNoTube`); `tube` is exact both ways. What the definition calls
 //!   a tube is one in the sense of the laws of `plane::arcs`, so it covers the half arc
@@ -19,25 +21,35 @@
 //! - **Widths.** All counts and points are computed in 64 bits, relative to the first of two
 //!   neighbours, which never differ by 2^28 in a coordinate; the circle's numbers in 128. Each
 //!   product's width stands beside it.
-//! - **When there is no list.** `tubed_edge_list` answers `None` exactly where a half arc has no
-//!   tube at the level, `edge_list` exactly where the drawing has a half arc, whatever the level.
-//! - **What the lists are for.** Their edges rise, and are close enough to each other and to the
+//! - **When there is no list.** `edge_list` answers `None` exactly where a half arc has no tube at
+//!   the level. A drawing of straights has the same list at every level.
+//! - **What a list is for.** Its edges rise, and are close enough to each other and to the
 //!   objects' points for the exact predicates. A list at a level is what the laws of
 //!   `plane::arc_drawings` ask of a drawing's edges (`laws::edges_of_tubed_drawing`).
-//! - **Not here:** whether a drawing is settled at a level, and which two curves break it.
+//! - **Settled levels.** `specs/Settled.antt` says when a level settles a drawing and which two
+//!   curves break a level. A level settles exactly where a complete run over its edges is settled,
+//!   and such a run is one with tubes where no corner is foreign (`laws::settled_levels`). Each
+//!   edge has its curve, and each chain its first edge, by number (`laws::chains_have_edges`).
+//! - **Not here:** the sweep of a level's edges, and the search for two curves that break it.
 //! - **Degenerate cases.** `tube` takes third points on either side. Half a turn and more,
 //!   collinear points and half arcs of a few units have no tube. No curve, upright straights,
-//!   straights that are delivered backwards and equal straights are taken by both lists.
+//!   straights that are delivered backwards and equal straights are taken. Tubes
+//!   that share corners, as those of equal half arcs, are no exception for `foreign_corner`.
 //!
 //! Cost: with K = 2^(level + 1) a tube takes 2 K - 1 counts, each one root and 28 sides of points,
 //! 32 K bytes, and while it is made at most twice that. `holds` takes at most four turns for each
 //! of the 2 K - 1 triangles, and no memory. A list is linear in the curves and the tubes that it
-//! makes: 40 bytes an edge, 2 K + 1 edges for each half arc, and room for more as it grows.
+//! makes: 40 bytes an edge, 2 K + 1 edges for each half arc, and room for more as it grows. Up to
+//! level 5 that is at most 129 edges a curve (`laws::few_edges`). `facings` is linear in the edges
+//! and gives a byte for each. `foreign_corner` is linear in them and in the events and holds 4
+//! bytes an event; for a drawing of straights it reads the kinds of the curves and no more.
 #![tactic(auto)]
 
 mod clearing;
 mod conditions;
+mod corners;
 mod counting;
+mod facing;
 mod holding;
 mod kinds;
 pub mod laws;
@@ -47,10 +59,10 @@ mod numbers;
 mod placing;
 mod refining;
 mod spans;
-mod tubed_listing;
 
+pub use corners::foreign_corner;
+pub use facing::facings;
 pub use holding::holds;
-pub use kinds::{EdgeList, Owner, Part, Tube};
+pub use kinds::{EdgeList, Facing, Owner, Part, Tube};
 pub use listing::edge_list;
 pub use making::tube;
-pub use tubed_listing::tubed_edge_list;

@@ -1,87 +1,132 @@
-// The edge list of a drawing.
-ghost use Rattle.std.specs.Prelude.{◌≡◌, ◌↔◌, ℕ, ◌<◌, ◌^◌, IfOk, IsTrue, All, length, map, vec_len};
-ghost use Rattle.plane.specs.Rule.Plans.{object, plan};
-ghost use Rattle.straight_predicates.specs.EdgeLists.{AreSorted, AreAllClose, IsCloseToAll};
-ghost use Rattle.tubes.specs.DrawnEdges.{AreAllStraight, HasTwoEnds, IsEdgeList, edges_of};
-ghost use Rattle.tubes.specs.DrawnEdges.{owners_from, straight_edge};
+// The edge list of a drawing whose half arcs have tubes.
+ghost use Rattle.std.specs.Prelude.{◌≡◌, ◌++◌, ◌∷◌, [], ◌≤◌, IfOk, OnOk, map};
+ghost use Rattle.plane.specs.Rule.Plans.{plan};
+ghost use Rattle.plane.specs.declared.kinds.CurveKind.TheVariants as kind;
+ghost use Rattle.tubes.specs.DrawnEdges.{edge_from};
+ghost use Rattle.tubes.specs.TubedEdges.{AreDistinct, IsAdded, IsFit, IsListAt, IsTubeAdded, IsUsable};
+ghost use Rattle.tubes.specs.TubedEdges.{chain_edges, each_owner};
 
-use super::kinds::{EdgeList, Owner, Part};
-use plane::{Curve, CurveKind, Drawing, Edge};
+use super::kinds::{EdgeList, Owner, Part, Tube};
+use super::making::tube;
+use plane::{Curve, CurveKind, Drawing, Edge, Point};
 use ports::Memory;
-use std::alloc::Global;
+use std::alloc::{AllocError, Global};
 use straight_predicates::edge_between;
 
-/// The edges of the drawing: one for each straight, whatever the level. `None` where the drawing
-/// has a half arc, whose tube does not stand in this list. The only error is want of memory.
+/// The edges of the drawing at a level from 0 to 5: for each straight its edge, and for each half
+/// arc the inner chain of its tube, then the outer one. `None` exactly where a half arc has no tube
+/// at the level. The only error is want of memory.
 pub fn edge_list(alloc: Global, drawing: &Drawing, level: u8) -> Result<Option<EdgeList>, Memory>
-    ensures list { IfOk result (IsEdgeList (plan drawing.now)) }
-    ensures few { length (edges_of (plan drawing.now)) < 2 ^ 30 }
-    ensures sorted { AreSorted (edges_of (plan drawing.now)) }
-    ensures close { AreAllClose (edges_of (plan drawing.now)) }
-    ensures points { (j : ℕ) → j < length (plan drawing.now).points
-        → IsCloseToAll (edges_of (plan drawing.now)) (object (plan drawing.now) j) }
+    requires { level ≤ 5 }
+    ensures list { IfOk result (IsListAt (plan drawing.now) level) }
+    ensures usable { IfOk result (IsUsable (plan drawing.now)) }
 {
-    let _ = level;
-    edges_are_drawn(drawing);
-    if !are_straights(&drawing.curves) {
-        return Ok(None);
+    let mut edges = Vec::with_capacity(alloc, drawing.curves.len())?;
+    let mut owners = Vec::with_capacity(alloc, drawing.curves.len())?;
+    for (i, curve) in drawing.curves.iter().enumerate() {
+        let number = i as u32;
+        if !add_curve(alloc, &mut edges, &mut owners, number, curve, level)? {
+            return Ok(None);
+        }
     }
-    let edges = straight_edges(alloc, &drawing.curves)?;
-    let owners = straight_owners(alloc, &drawing.curves)?;
     Ok(Some(EdgeList { edges, owners }))
 }
 
-// What the type of a drawing says of its edges.
-fn edges_are_drawn(drawing: &Drawing)
-    ensures few { length (edges_of (plan drawing.now)) < 2 ^ 30 }
-    ensures sorted { AreSorted (edges_of (plan drawing.now)) }
-    ensures close { AreAllClose (edges_of (plan drawing.now)) }
-    ensures points { (j : ℕ) → j < length (plan drawing.now).points
-        → IsCloseToAll (edges_of (plan drawing.now)) (object (plan drawing.now) j) }
+/// Adds the edges of a curve, and tells whether it has any: a half arc without a tube has none.
+fn add_curve(
+    alloc: Global,
+    edges: &mut Vec<Edge>,
+    owners: &mut Vec<Owner>,
+    number: u32,
+    curve: &Curve,
+    level: u8,
+) -> Result<bool, Memory>
+    requires level { level ≤ 5 }
+    requires fit { IsFit curve.now }
+    ensures { IfOk result (IsAdded number curve.now level edges.old.items edges.new.items
+        owners.old.items owners.new.items) }
 {
-    let _ = drawing.window;
-}
-
-fn are_straights(curves: &[Curve]) -> bool
-    ensures { IsTrue result ↔ AreAllStraight curves.now }
-{
-    for curve in curves {
-        if curve.kind != CurveKind::Straight {
-            return false;
+    match curve.kind {
+        CurveKind::HalfArc => add_half_arc(alloc, edges, owners, number, curve, level),
+        CurveKind::Straight => {
+            let part = Part::Straight;
+            let owner = Owner {
+                curve: number,
+                part,
+            };
+            add_edge(edges, owners, owner, curve.from, curve.to)?;
+            Ok(true)
         }
     }
-    true
 }
 
-fn straight_edges(alloc: Global, curves: &[Curve]) -> Result<Vec<Edge>, Memory>
-    requires { All HasTwoEnds curves.now }
-    ensures { IfOk result (λ edges. edges.items ≡ map straight_edge curves.now) }
+/// Adds the two chains of the half arc's tube, if it has one.
+fn add_half_arc(
+    alloc: Global,
+    edges: &mut Vec<Edge>,
+    owners: &mut Vec<Owner>,
+    number: u32,
+    curve: &Curve,
+    level: u8,
+) -> Result<bool, Memory>
+    requires level { level ≤ 5 }
+    requires fit { IsFit curve.now }
+    ensures { IfOk result (IsTubeAdded number curve.now level edges.old.items edges.new.items
+        owners.old.items owners.new.items) }
 {
-    let mut edges = Vec::with_capacity(alloc, curves.len())?;
-    for curve in curves {
-        edges.push(straight_edge(*curve))?;
+    let Some(Tube { inner, mut outer }) = tube(alloc, curve, level)? else {
+        return Ok(false);
+    };
+    outer.push(curve.to)?;
+    let part = Part::Inner;
+    let owner = Owner {
+        curve: number,
+        part,
+    };
+    add_chain(edges, owners, owner, curve.from, &inner[1..])?;
+    let part = Part::Outer;
+    let owner = Owner {
+        curve: number,
+        part,
+    };
+    add_chain(edges, owners, owner, curve.from, &outer)?;
+    Ok(true)
+}
+
+/// Adds the edges from a point through others in turn.
+fn add_chain(
+    edges: &mut Vec<Edge>,
+    owners: &mut Vec<Owner>,
+    owner: Owner,
+    from: Point,
+    points: &[Point],
+) -> Result<(), AllocError>
+    requires { AreDistinct from points.now }
+    ensures edges { OnOk result (edges.new.items
+        ≡ edges.old.items ++ chain_edges from points.now) }
+    ensures owners { OnOk result (owners.new.items
+        ≡ owners.old.items ++ each_owner owner points.now) }
+{
+    let mut before = from;
+    for point in points {
+        add_edge(edges, owners, owner, before, *point)?;
+        before = *point;
     }
-    Ok(edges)
+    Ok(())
 }
 
-fn straight_edge(curve: Curve) -> Edge
-    requires { HasTwoEnds curve }
-    ensures { result ≡ straight_edge curve }
+fn add_edge(
+    edges: &mut Vec<Edge>,
+    owners: &mut Vec<Owner>,
+    owner: Owner,
+    p: Point,
+    q: Point,
+) -> Result<(), AllocError>
+    requires { p ≡ q → ⊥ }
+    ensures edges { OnOk result (edges.new.items ≡ edges.old.items ++ edge_from p q ∷ []) }
+    ensures owners { OnOk result (owners.new.items ≡ owners.old.items ++ owner ∷ []) }
 {
-    edge_between(curve.from, curve.to)
-}
-
-fn straight_owners(alloc: Global, curves: &[Curve]) -> Result<Vec<Owner>, Memory>
-    requires { length curves.now < 2 ^ 30 }
-    ensures { IfOk result (λ owners. owners.items ≡ owners_from 0 curves.now) }
-{
-    let mut owners = Vec::with_capacity(alloc, curves.len())?;
-    for (i, _) in curves.iter().enumerate() {
-        let curve = i as u32;
-        owners.push(Owner {
-            curve,
-            part: Part::Straight,
-        })?;
-    }
-    Ok(owners)
+    edges.push(edge_between(p, q))?;
+    owners.push(owner)?;
+    Ok(())
 }

@@ -4,7 +4,7 @@ use Rattle.tubes.specs.Holding.{nth}
 use Rattle.tubes.specs.TubedEdges.{AreDistinct, chain_edges, each_owner}
 use Rattle.tubes.proofs.ChainEdges.{edges_end, edges_step, owners_end, owners_step}
 use Rattle.tubes.proofs.Rounds.{all_dropped, dropped}
-use Rattle.tubes.proofs.tubed_listing.add_chain.Goals as goal
+use Rattle.tubes.proofs.listing.add_chain.Goals as goal
 
 pub add_edge-requires : goal.add_edge-requires
 add_edge-requires c =

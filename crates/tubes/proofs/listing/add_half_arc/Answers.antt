@@ -5,7 +5,7 @@ use Rattle.tubes.specs.Making.{IsTubeAt}
 use Rattle.tubes.specs.TubedEdges.{AreDistinct, chain_edges, each_owner}
 use Rattle.tubes.specs.declared.kinds.Part.TheVariants as part
 use Rattle.tubes.proofs.ChainEdges.{chains_distinct, tail_is, tube_grown}
-use Rattle.tubes.proofs.tubed_listing.add_half_arc.Goals as goal
+use Rattle.tubes.proofs.listing.add_half_arc.Goals as goal
 
 pub add_chain-requires : goal.add_chain-requires
 add_chain-requires c =

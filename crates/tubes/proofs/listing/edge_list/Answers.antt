@@ -6,7 +6,7 @@ use Rattle.plane.specs.declared.kinds.CurveKind.TheVariants as kind
 use Rattle.tubes.specs.TubedEdges.{HasTube, IsAdded, IsFit}
 use Rattle.tubes.proofs.ChainEdges.{fit, list_ends, list_step, one_more}
 use Rattle.tubes.proofs.UsableEdges.{usable}
-use Rattle.tubes.proofs.tubed_listing.tubed_edge_list.Goals as goal
+use Rattle.tubes.proofs.listing.edge_list.Goals as goal
 
 pub add_curve-requires-clause-fit : goal.add_curve-requires-clause-fit
 add_curve-requires-clause-fit c =

@@ -5,7 +5,7 @@ use Rattle.plane.specs.Rule.Plans.{curve, plan}
 use Rattle.plane.specs.declared.kinds.CurveKind.TheVariants as kind
 use Rattle.tubes.specs.TubedEdges.{HasTube, drawn_bays, edge_as, owner_as}
 use Rattle.tubes.proofs.ChainEdges.{rest_edges, rest_owners}
-use Rattle.tubes.proofs.tubed_listing.tubed_edge_list.Given as goal
+use Rattle.tubes.proofs.listing.edge_list.Given as goal
 
 abbrev pub invariant-loop-i : goal.invariant-loop-i
 invariant-loop-i l = record {

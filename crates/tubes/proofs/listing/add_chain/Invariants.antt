@@ -1,6 +1,6 @@
 use Rattle.std.proofs.Common.{◌≡◌, ◌++◌, drop}
 use Rattle.tubes.specs.TubedEdges.{AreDistinct, chain_edges, each_owner}
-use Rattle.tubes.proofs.tubed_listing.add_chain.Given as goal
+use Rattle.tubes.proofs.listing.add_chain.Given as goal
 
 abbrev pub invariant-loop-point : goal.invariant-loop-point
 invariant-loop-point l = record {
