@@ -1,14 +1,12 @@
 -- Before the first event.
-use Rattle.std.proofs.Common.{◌≡◌, ◌↔◌, ◌⊎◌, ◌≢◌, ℕ, zero, suc, ◌+◌, ◌*◌, ◌<◌, ◌≤◌, ◌^◌, inl, inr, Bool, true, false, List, [], ◌∷◌, length, replicate, get_or, refl, arith, ap, sym, ◌∙◌, subst}
+use Rattle.std.proofs.Common.{◌≡◌, ℕ, zero, suc, ◌<◌, Bool, true, false, List, [], length, replicate, get_or, arith, ap, sym, ◌∙◌, subst}
 use Rattle.std.proofs.lemmas.List.{length-replicate}
 use Rattle.plane.specs.declared.kinds.Edge.{Edge}
-use Rattle.plane.specs.declared.kinds.Placed.{Placed}
 use Rattle.plane.specs.Faces.Halves.{Half, number}
 use Rattle.plane.specs.Runs.Gaps.{Gap}
 use Rattle.plane.specs.Runs.Moves.{steps_from}
-use Rattle.plane.specs.Runs.Timetables.{IsTimetable, Timed}
+use Rattle.plane.specs.Runs.Timetables.{Timed}
 use Rattle.straight_predicates.specs.EdgeEvents.{AreEventsOf, IsWidest}
-use Rattle.straight_predicates.specs.EdgeLists.{edge_of}
 use Rattle.half_edges.specs.HalfEdges.{HalfEdges}
 use Rattle.event_mesh.proofs.MovedEvents.{move_event_at}
 use Rattle.event_mesh.proofs.TurnedEvents.{begin}

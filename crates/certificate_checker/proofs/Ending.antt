@@ -1,25 +1,25 @@
 -- What the marks and the mesh tell when all events are replayed, and the first rule that is broken.
-use Rattle.std.proofs.Common.{◌≡◌, ◌↔◌, ◌⊎◌, ℕ, suc, ◌+◌, ◌*◌, ◌<◌, ◌≤◌, inl, inr, Bool, true, Some, None, List, [], length, get_or, refl, arith, ap, sym, ◌∙◌, subst, pos}
-use Rattle.plane.specs.Faces.Classes.{Across, Next, Touches}
-use Rattle.plane.specs.Faces.Halves.{Half, edge_of, half_of, number, over, under}
+use Rattle.std.proofs.Common.{◌≡◌, ◌⊎◌, ℕ, ◌*◌, ◌<◌, ◌≤◌, inl, inr, Bool, true, None, List, [], length, get_or, refl, arith, ap, sym, ◌∙◌, subst, pos}
+use Rattle.plane.specs.Faces.Classes.{Across}
+use Rattle.plane.specs.Faces.Halves.{Half, half_of, number, over, under}
 use Rattle.plane.specs.Faces.Replays.{no_step}
 use Rattle.plane.specs.Lists.{Has}
-use Rattle.plane.specs.Runs.Gaps.{AtBorder, Closes, Gap, GapBetween, closed_gaps, has_side, is_real, opened}
+use Rattle.plane.specs.Runs.Gaps.{AtBorder, Gap, GapBetween, closed_gaps, has_side, is_real, opened}
 use Rattle.plane.specs.Runs.Moves.{Fit, live_from, steps_from}
 use Rattle.plane.specs.Runs.Timetables.{IsTimetable}
 use Rattle.plane.proofs.GapLemmas.GapCells.{across_gap, border_touches, gap_across, new_is_closed, touches_border}
-use Rattle.half_edges.specs.HalfEdges.{HalfEdges, next_of, size}
+use Rattle.half_edges.specs.HalfEdges.{HalfEdges}
 use Rattle.event_mesh.proofs.TurnedEvents.{next_is}
 use Rattle.event_mesh.specs.Turned.{IsTurned}
 use Rattle.certificate.specs.declared.notes.Link.TheVariants as link
 use Rattle.certificate_checker.specs.declared.state.Spot.{Spot}
 use Rattle.certificate_checker.specs.Ended.{HasEnded}
-use Rattle.certificate_checker.specs.Marked.{IsAtBorder, IsMarked, NamesAcross}
+use Rattle.certificate_checker.specs.Marked.{IsAtBorder, NamesAcross}
 use Rattle.certificate_checker.specs.Placed.{ArePlacedTo, IsLater}
 use Rattle.certificate_checker.specs.Progress.{AreMarkedTo, IsMovedTo, OfOpened, opened_at}
-use Rattle.certificate_checker.specs.Rules.{HasCounts, HasLowLabels, IsLinked, IsPointPlaced, PassesEvent}
-use Rattle.certificate_checker.specs.Subjects.{Subject, edge, moves, note_at, replay_of}
-use Rattle.certificate_checker.specs.Verdicts.{AllRules, EventBroken, FirstBroken, counts, event, low, placed, linked}
+use Rattle.certificate_checker.specs.Rules.{CornerAt, HasCounts, HasLabels, IsLinked, IsPointPlaced, PassesEvent}
+use Rattle.certificate_checker.specs.Subjects.{Subject, edge, moves, note_at, owned_of, replay_of}
+use Rattle.certificate_checker.specs.Verdicts.{AllRules, EventBroken, FirstBroken, event, labelled, placed, linked}
 use Rattle.certificate_checker.proofs.PlacedSpots.{marked_at_end, marks_at_end, placed_below}
 use Rattle.certificate_checker.proofs.PlaneLaws.{good_fit, half_number, number_half, run_leaves_none, steps_length}
 use Rattle.certificate_checker.proofs.Runs.{all_good, is_run, moves_size, step_at_event}
@@ -27,7 +27,7 @@ use Rattle.certificate_checker.proofs.Runs.{all_good, is_run, moves_size, step_a
 link_one : (m n : ℕ) → link.Across m ≡ link.Across n → m ≡ n
 link_one m n e = cc
 
-module _ (s : Subject) (t : IsTimetable (length s.edges) (edge s) s.table) (n : HasCounts s) (all : (k : ℕ) → k < length s.table → PassesEvent s k) where
+module _ (s : Subject) (t : IsTimetable (length s.edges) (edge s) s.table) (n : HasCounts s) (own : (k : ℕ) → k < length s.table → CornerAt s k) (all : (k : ℕ) → k < length s.table → PassesEvent s k) where
   fit : Fit [] (moves s)
   fit = good_fit (length s.edges) (edge s) [] (moves s) (all_good s t n all)
 
@@ -110,21 +110,21 @@ module _ (s : Subject) (t : IsTimetable (length s.edges) (edge s) s.table) (n : 
     }
 
     -- ---- the first rule that is broken
-    pub first_unplaced : (rule place : ℕ) → rule ≡ 9 → place ≡ bad → place < length s.points → ((e : ℕ) → e < length s.edges → HasLowLabels s e) → FirstBroken s rule place
+    pub first_unplaced : (rule place : ℕ) → rule ≡ 9 → place ≡ bad → place < length s.points → ((e : ℕ) → e < length s.edges → HasLabels s e) → FirstBroken s rule place
     first_unplaced rule place e q l f =
         placed e l
-        (record { low = record { passes = record { counts = n; events = all }; low = f }; placed = λ j m. placed_below s (length s.table) next bad spots point p refl later j (omega (arith, l, m)) (omega (arith, m, q)) })
+        (record { labels = record { passes = record { counts = n; corners = own; events = all }; labels = f }; placed = λ j m. placed_below s (length s.table) next bad spots point p refl later j (omega (arith, l, m)) (omega (arith, m, q)) })
         (subst (λ (i : ℕ). IsPointPlaced s i → ⊥) (sym q) (p.unplaced (omega (arith, l, q))))
 
-  pub first_high : (e : ℕ) → e < length s.edges → ((f : ℕ) → f < e → HasLowLabels s f) → (HasLowLabels s e → ⊥) → FirstBroken s 8 e
-  first_high e l f g = low refl l (record { passes = record { counts = n; events = all }; low = f }) g
+  pub first_unlabelled : (e place : ℕ) → e < length s.edges → place ≡ (owned_of s e).curve → ((f : ℕ) → f < e → HasLabels s f) → (HasLabels s e → ⊥) → FirstBroken s 8 place
+  first_unlabelled e place l q f g = labelled refl e l q (record { passes = record { counts = n; corners = own; events = all }; labels = f }) g
 
-  module _ (lows : (e : ℕ) → e < length s.edges → HasLowLabels s e) (here : (j : ℕ) → j < length s.points → IsPointPlaced s j) where
+  module _ (labels : (e : ℕ) → e < length s.edges → HasLabels s e) (here : (j : ℕ) → j < length s.points → IsPointPlaced s j) where
     pub first_unlinked : (h : ℕ) → h < 2 * length s.edges → ((i : ℕ) → i < h → IsLinked s (half_of i)) → (IsLinked s (half_of h) → ⊥) → FirstBroken s 10 h
-    first_unlinked h l f g = linked refl l (record { placed = record { low = record { passes = record { counts = n; events = all }; low = lows }; placed = here }; linked = f }) g
+    first_unlinked h l f g = linked refl l (record { placed = record { labels = record { passes = record { counts = n; corners = own; events = all }; labels = labels }; placed = here }; linked = f }) g
 
     pub all_rules : ((i : ℕ) → i < 2 * length s.edges → IsLinked s (half_of i)) → AllRules s
-    all_rules f = record { counts = n; events = all; low = lows; placed = here; linked = f }
+    all_rules f = record { counts = n; corners = own; events = all; labels = labels; placed = here; linked = f }
 
-pub first_event : (s : Subject) (n : HasCounts s) (k rule : ℕ) → k < length s.table → ((j : ℕ) → j < k → PassesEvent s j) → EventBroken s k rule → FirstBroken s rule k
-first_event s n k rule l f b = event l (record { counts = n; events = f }) b
+pub first_event : (s : Subject) (n : HasCounts s) (own : (k : ℕ) → k < length s.table → CornerAt s k) (k rule : ℕ) → k < length s.table → ((j : ℕ) → j < k → PassesEvent s j) → EventBroken s k rule → FirstBroken s rule k
+first_event s n own k rule l f b = event l (record { counts = n; corners = own; events = f }) b

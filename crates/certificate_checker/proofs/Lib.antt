@@ -14,3 +14,10 @@ pub mod Linking
 pub mod Ending
 pub mod Beginning
 pub mod Judging
+pub mod Certifying
+pub mod ChainSides
+pub mod FirstEdges
+pub mod HeldPoints
+pub mod Entries
+pub mod EdgeLabels
+pub mod OwnTubes

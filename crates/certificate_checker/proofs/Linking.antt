@@ -1,16 +1,16 @@
 -- What the mesh and the marks tell of a half-edge's link.
 use Rattle.std.proofs.Common.{◌≡◌, ◌↔◌, ◌⊎◌, ℕ, zero, suc, ◌+◌, ◌*◌, ◌<◌, ◌≤◌, inl, inr, Bool, true, false, IsTrue, List, [], ◌∷◌, length, get_or, refl, arith, ap, sym, ◌∙◌, subst}
-use Rattle.plane.specs.Faces.Classes.{Across, Next, Touches}
 use Rattle.plane.specs.Faces.Halves.{Beside, Half, edge_of, half_of, mark, number, over, under}
 use Rattle.half_edges.specs.HalfEdges.{HalfEdges, next_of, prev_of, size}
 use Rattle.half_edges.specs.Meshes.{IsMesh}
 use Rattle.certificate.specs.declared.notes.HalfNote.{HalfNote}
 use Rattle.certificate.specs.declared.notes.Link.{Link}
 use Rattle.certificate.specs.declared.notes.Link.TheVariants as link
-use Rattle.certificate_checker.specs.Ended.{HasEnded, IsMarkedRoot}
+use Rattle.certificate.specs.declared.notes.PointPlace.TheVariants as place
+use Rattle.certificate_checker.specs.Ended.{HasEnded, IsAtOwnTube, IsMarkedRoot}
 use Rattle.certificate_checker.specs.Marked.{IsMarked}
-use Rattle.certificate_checker.specs.Rules.{FallsTo, HasLowLabels, IsLinked, IsPointPlaced, LeadsBy}
-use Rattle.certificate_checker.specs.Subjects.{Subject, index_of, labels, note_at, rank, replay_of, sector_of, strip_of}
+use Rattle.certificate_checker.specs.Rules.{FacesTube, FallsTo, HasLowLabels, IsInOwnCell, IsLinked, IsPointPlaced, IsRootOf, LeadsBy}
+use Rattle.certificate_checker.specs.Subjects.{Subject, index_of, labels, note_at, place_at, rank, replay_of, sector_of, strip_of}
 use Rattle.certificate_checker.proofs.Marking.{half_over, half_under}
 use Rattle.certificate_checker.proofs.ListParts.{of_at}
 use Rattle.certificate_checker.proofs.Placing.{of_before}
@@ -75,7 +75,7 @@ pub within_half : (s : Subject) (n : ℕ) → edge_of (half_of n) < length s.edg
 within_half s n l = let a = number_below (half_of n) (length s.edges) l in let q = number_half n in omega (arith, a, q)
 
 -- ---- the labels beside a point
-label_beside : (s : Subject) (h : Half) (j : ℕ) → IsPointPlaced s j → Beside (replay_of s) h (sector_of s j) → mark (labels s) h ≡ suc j
+label_beside : (s : Subject) (h : Half) (j : ℕ) → IsInOwnCell s j → Beside (replay_of s) h (sector_of s j) → mark (labels s) h ≡ suc j
 label_beside s (over d) j p b =
     let es = (replay_of s).list (strip_of s j) in
     let q = (of_before es (index_of s j) d b).1 in
@@ -87,6 +87,21 @@ label_beside s (under d) j p b =
     let r = (of_at es (index_of s j) p.between.upper p.between.is_upper).1 in
     subst (λ (e : ℕ). (note_at s (under e)).label ≡ suc j) (sym r ∙ q) p.upper
 
+cell_tube : (i : ℕ) (curve : ℕ) (inside : Bool) → place.Cell i ≡ place.Tube curve inside → ⊥
+cell_tube i curve inside e = cc
+
+-- where three of four do not hold, the fourth is left
+pub last_mark : {A B C D P : Type 0} → (A → ⊥) → (B → ⊥) → (C → ⊥) → A ⊎ (B ⊎ (C ⊎ D)) → (D → P) → P
+last_mark f g h (inl a) k = absurd (f a)
+last_mark f g h (inr (inl b)) k = absurd (g b)
+last_mark f g h (inr (inr (inl c))) k = absurd (h c)
+last_mark f g h (inr (inr (inr d))) k = k d
+
+-- a point that is placed in a cell is in its own one
+pub own_cell : (s : Subject) (j i : ℕ) → place_at s j ≡ place.Cell i → IsPointPlaced s j → IsInOwnCell s j
+own_cell s j i e (inl p) = p
+own_cell s j i e (inr p) = absurd (cell_tube i p.curve p.inside (sym e ∙ p.tube))
+
 module _ (s : Subject) (mesh : HalfEdges) (border across point : List Bool) (e : HasEnded s mesh border across point) (n : ℕ) (l : n < 2 * length s.edges) where
   abbrev h : Half
   h = half_of n
@@ -94,23 +109,23 @@ module _ (s : Subject) (mesh : HalfEdges) (border across point : List Bool) (e :
   here : edge_of h < length s.edges
   here = below_number h (length s.edges) (let q = number_half n in omega (arith, l, q))
 
+  abbrev Marks : Type 0
+  Marks = FacesTube s h ⊎ (IsMarked point h ⊎ (IsAtOwnTube s h ⊎ ((mark (labels s) h ≡ 0) × IsMarked border h)))
+
+  root_of_marks : Marks → IsRootOf s h
+  root_of_marks (inl f) = inl f
+  root_of_marks (inr (inl p)) = let q = (e.at_point h).0 p in inr (inr (q.0, q.1, label_beside s h q.0 q.2.0 q.2.1, inl (record { cell = q.2.0.cell; beside = q.2.1 })))
+  root_of_marks (inr (inr (inl (j, k, q, b)))) = inr (inr (j, k, q, inr b))
+  root_of_marks (inr (inr (inr q))) = inr (inl (q.0, (e.at_border h).0 q.1))
+
+  marks_of_root : IsRootOf s h → Marks
+  marks_of_root (inl f) = inl f
+  marks_of_root (inr (inl q)) = inr (inr (inr (q.0, (e.at_border h).1 q.1)))
+  marks_of_root (inr (inr (j, k, q, inl b))) = inr (inl ((e.at_point h).1 (j, k, (own_cell s j (index_of s j) b.cell (e.placed j k), b.beside))))
+  marks_of_root (inr (inr (j, k, q, inr b))) = inr (inr (inl (j, k, q, b)))
+
   pub root_leads : (b : Bool) → IsTrue b ↔ IsMarkedRoot s border point h → IsTrue b ↔ LeadsBy s h link.Root
-  root_leads b f = (
-    (λ t. let r = f.0 t in (
-      r.rank,
-      elim r.marks [
-        | inl p ↦ (let q = (e.at_point h).0 p in inr (q.0, q.1, label_beside s h q.0 q.2.0 q.2.1, q.2.1))
-        | inr q ↦ inl (q.0, (e.at_border h).0 q.1)
-      ],
-    )),
-    (λ x. f.1 (record {
-      rank = x.0;
-      marks = elim x.1 [
-        | inl q ↦ inr (q.0, (e.at_border h).1 q.1)
-        | inr q ↦ inl ((e.at_point h).1 (q.0, q.1, (e.placed q.0 q.1, q.3)))
-      ];
-    })),
-  )
+  root_leads b f = ((λ t. let r = f.0 t in (r.rank, root_of_marks r.marks)), (λ x. f.1 (record { rank = x.0; marks = marks_of_root x.1 })))
 
   pub next_leads : (b : Bool) → IsTrue b ↔ FallsTo s h (half_of (next_of mesh n)) → IsTrue b ↔ LeadsBy s h link.Next
   next_leads b f = (

@@ -1,11 +1,11 @@
 -- Elements of lists by their places, and parts of the live list.
-use Rattle.std.proofs.Common.{◌≡◌, ◌↔◌, ℕ, zero, suc, ◌+◌, ◌-◌, ◌<◌, ◌≤◌, ◌≢◌, ◌*◌, inl, inr, Bool, true, false, IsTrue, Option, Some, None, List, [], ◌∷◌, ◌++◌, length, take, drop, get_or, refl, arith, ap, sym, ◌∙◌, subst, add-one, drop-cons, drop_of_length-le}
+use Rattle.std.proofs.Common.{◌≡◌, ◌↔◌, ℕ, zero, suc, ◌+◌, ◌-◌, ◌<◌, ◌≤◌, ◌≢◌, ◌*◌, inl, inr, Bool, true, false, IsTrue, Option, Some, None, List, [], ◌∷◌, length, take, drop, get_or, refl, arith, ap, sym, ◌∙◌, subst, add-one, drop-cons, drop_of_length-le}
 use Rattle.std.proofs.Math.Seq.{drop-nil}
-use Rattle.plane.specs.Faces.Halves.{At, AtBefore}
+use Rattle.plane.specs.Faces.Halves.{At}
 use Rattle.plane.specs.Faces.Labels.{Labels, Match, first_label, last_label}
 use Rattle.plane.specs.declared.kinds.Point.{Point}
 use Rattle.plane.specs.Lists.{Has}
-use Rattle.plane.specs.Runs.Gaps.{edge_at, edge_before, first_or, gaps_between, last_or, over_label, under_label}
+use Rattle.plane.specs.Runs.Gaps.{edge_at, edge_before, first_or, last_or, over_label, under_label}
 use Rattle.straight_predicates.proofs.Orders.{by_lt}
 use Rattle.certificate.specs.declared.notes.HalfNote.{HalfNote}
 use Rattle.straight_predicates.specs.EdgeLists.{AreBelow}

@@ -1,7 +1,6 @@
 -- Marks gap by gap, and event by event.
-use Rattle.std.proofs.Common.{◌≡◌, ◌↔◌, ◌⊎◌, ℕ, zero, suc, ◌+◌, ◌*◌, ◌<◌, ◌≤◌, ◌≢◌, inl, inr, Bool, true, false, Option, Some, None, List, [], ◌∷◌, length, drop, get_or, set, get_or-set_same, get_or-set_other, refl, arith, ap, sym, ◌∙◌, subst, add-one, drop-cons, drop_of_length-le}
+use Rattle.std.proofs.Common.{◌≡◌, ◌↔◌, ◌⊎◌, ℕ, suc, ◌+◌, ◌*◌, ◌<◌, ◌≤◌, ◌≢◌, inl, inr, Bool, true, false, Option, Some, None, List, [], ◌∷◌, length, drop, get_or, set, get_or-set_same, get_or-set_other, refl, arith, ap, sym, ◌∙◌, subst, add-one, drop-cons, drop_of_length-le}
 use Rattle.plane.specs.Faces.Halves.{Half, half_of, number, over, under}
-use Rattle.plane.specs.Lists.{Has}
 use Rattle.plane.specs.Runs.Gaps.{Gap, gaps_between}
 use Rattle.certificate.specs.declared.notes.HalfNote.{HalfNote}
 use Rattle.certificate_checker.proofs.PlaneLaws.{half_number, number_half}

@@ -1,25 +1,24 @@
 -- One event of the replay.
-use Rattle.std.proofs.Common.{◌≡◌, ◌↔◌, ◌⊎◌, ℕ, zero, suc, ◌+◌, ◌-◌, ◌*◌, ◌<◌, ◌≤◌, ◌^◌, inl, inr, Bool, Option, Some, None, List, [], ◌∷◌, ◌++◌, length, take, drop, map, get_or, refl, arith, ap, sym, ◌∙◌, subst, add-one}
+use Rattle.std.proofs.Common.{◌≡◌, ℕ, suc, ◌+◌, ◌-◌, ◌<◌, ◌≤◌, ◌^◌, inl, inr, Bool, Option, Some, None, List, [], ◌∷◌, ◌++◌, length, take, drop, get_or, arith, ap, sym, ◌∙◌, subst}
 use Rattle.std.proofs.lemmas.List.{length-append, length-drop, length-take-le}
 use Rattle.std.proofs.Math.Seq.{take-suc}
 use Rattle.plane.specs.Faces.Halves.{Half, over, under}
 use Rattle.plane.specs.Lists.{Has}
-use Rattle.plane.specs.Runs.Gaps.{Gap, edge_at, edge_before, first_or, gaps_between, last_or, opened}
-use Rattle.plane.specs.Runs.Moves.{AreGood, no_move, live_from, step_of, steps_from}
+use Rattle.plane.specs.Runs.Gaps.{Gap, edge_at, edge_before, first_or, gaps_between, last_or}
+use Rattle.plane.specs.Runs.Moves.{no_move, live_from, step_of, steps_from}
 use Rattle.plane.specs.Runs.Steps.{after}
 use Rattle.plane.specs.Runs.Sweeps.{IsEventList}
-use Rattle.plane.specs.Runs.Timetables.{IsTimetable, Timed, move_at}
+use Rattle.plane.specs.Runs.Timetables.{IsTimetable, move_at}
 use Rattle.straight_predicates.proofs.Orders.{by_lt}
-use Rattle.straight_predicates.specs.EdgeEvents.{width}
-use Rattle.straight_predicates.specs.EdgeLists.{AreBelow, AreSorted}
+use Rattle.straight_predicates.specs.EdgeLists.{AreBelow}
 use Rattle.half_edges.specs.HalfEdges.{HalfEdges}
 use Rattle.event_mesh.proofs.MovedEvents.{good_event, points_of_moves}
 use Rattle.event_mesh.specs.Fans.{CanTurn}
 use Rattle.event_mesh.specs.Turned.{IsEvent, IsTurned, points_of}
 use Rattle.event_mesh.proofs.TurnedEvents.{can_turn}
 use Rattle.certificate.specs.declared.notes.HalfNote.{HalfNote}
-use Rattle.certificate_checker.specs.Marked.{AreMarked, IsAtBorder, IsMarked, NamesAcross, OfSome}
-use Rattle.certificate_checker.specs.Progress.{AreMarkedTo, IsMovedTo, opened_at}
+use Rattle.certificate_checker.specs.Marked.{AreMarked, IsAtBorder, NamesAcross, OfSome}
+use Rattle.certificate_checker.specs.Progress.{AreMarkedTo, opened_at}
 use Rattle.certificate_checker.specs.Rules.{HasCounts, PassesEvent}
 use Rattle.certificate_checker.specs.Subjects.{Subject, edge, event, live_list, moves, position_at}
 use Rattle.certificate_checker.proofs.ListParts.{drop_twice, first_after, last_before}

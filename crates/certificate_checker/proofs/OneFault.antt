@@ -1,18 +1,17 @@
 -- The first broken rule: it is broken, and there is one.
-use Rattle.std.proofs.Common.{◌≡◌, ℕ, ◌<◌, ◌≤◌, ◌*◌, List, length, refl, arith, sym, ◌∙◌, subst}
+use Rattle.std.proofs.Common.{◌≡◌, ℕ, ◌<◌, ◌≤◌, List, length, arith, ap, sym, ◌∙◌, subst}
 use Rattle.plane.specs.Faces.Halves.{half_of}
 use Rattle.plane.specs.Rule.Plans.{Plan}
 use Rattle.plane.specs.Runs.Timetables.{Timed}
 use Rattle.straight_predicates.proofs.Orders.{by_lt}
-use Rattle.straight_predicates.specs.EdgeLists.{edge_of as nth_edge}
-use Rattle.tubes.specs.DrawnEdges.{edges_of}
-use Rattle.certificate_checker.specs.Subjects.{Claims, Subject}
-use Rattle.certificate_checker.specs.Rules.{BetweenAt, BlockAt, HasLowLabels, IsLinked, IsPointPlaced, LabelsAt, PassesEvent, SlopesAt}
-use Rattle.certificate_checker.specs.Verdicts.{AllRules, EventBroken, FirstBroken, IsBroken, IsLinkedTo, IsLowTo, IsPlacedTo, IsTableOf, PassesTo, Proves, block, between, slopes, labels, counts, event, low, placed, linked, half_arc, first, subject_of}
+use Rattle.tubes.specs.Settled.{edge_at, edges_at}
+use Rattle.certificate_checker.specs.Subjects.{Claims, Subject, owned_of}
+use Rattle.certificate_checker.specs.Rules.{CornerAt, HasLabels, IsLinked, IsPointPlaced, PassesEvent}
+use Rattle.certificate_checker.specs.Verdicts.{AllRules, EventBroken, FirstBroken, IsBroken, IsTableOf, PassesTo, Proves, block, between, slopes, labels, counts, corner, event, labelled, placed, linked, unlisted, first, subject_of}
 use Rattle.certificate_checker.proofs.PlaneLaws.{one_timetable}
 
-one_table : (d : Plan) (ts us : List Timed) → IsTableOf d ts → IsTableOf d us → ts ≡ us
-one_table d ts us t u = one_timetable (length (edges_of d)) (nth_edge (edges_of d)) ts us t u
+one_table : (d : Plan) (level : ℕ) (ts us : List Timed) → IsTableOf d level ts → IsTableOf d level us → ts ≡ us
+one_table d level ts us t u = one_timetable (length (edges_at d level)) (edge_at d level) ts us t u
 
 -- the first place where something fails is one
 same_place : (P : ℕ → Type 0) (p q : ℕ) → ((i : ℕ) → i < p → P i) → (P p → ⊥) → ((i : ℕ) → i < q → P i) → (P q → ⊥) → p ≡ q
@@ -50,48 +49,60 @@ same_event s m p n q a f b g =
 
 -- ---- one subject
 same_fault : (s : Subject) (m p n q : ℕ) → FirstBroken s m p → FirstBroken s n q → (m ≡ n) × (p ≡ q)
-same_fault s m p n q (counts e z f) (counts g y h) = (e ∙ sym g, z ∙ sym y)
-same_fault s m p n q (counts e z f) (event l a b) = absurd (f a.counts)
-same_fault s m p n q (counts e z f) (low g l a h) = absurd (f a.passes.counts)
-same_fault s m p n q (counts e z f) (placed g l a h) = absurd (f a.low.passes.counts)
-same_fault s m p n q (counts e z f) (linked g l a h) = absurd (f a.placed.low.passes.counts)
-same_fault s m p n q (event l a b) (counts g y h) = absurd (h a.counts)
-same_fault s m p n q (event l a b) (event k x y) = same_event s m p n q a b x y
-same_fault s m p n q (event l a b) (low g k x h) = absurd (unpassed s p m b (x.passes.events p l))
-same_fault s m p n q (event l a b) (placed g k x h) = absurd (unpassed s p m b (x.low.passes.events p l))
-same_fault s m p n q (event l a b) (linked g k x h) = absurd (unpassed s p m b (x.placed.low.passes.events p l))
-same_fault s m p n q (low e l a f) (counts g y h) = absurd (h a.passes.counts)
-same_fault s m p n q (low e l a f) (event k x y) = absurd (unpassed s q n y (a.passes.events q k))
-same_fault s m p n q (low e l a f) (low g k x h) = (e ∙ sym g, same_place (HasLowLabels s) p q a.low f x.low h)
-same_fault s m p n q (low e l a f) (placed g k x h) = absurd (f (x.low.low p l))
-same_fault s m p n q (low e l a f) (linked g k x h) = absurd (f (x.placed.low.low p l))
-same_fault s m p n q (placed e l a f) (counts g y h) = absurd (h a.low.passes.counts)
-same_fault s m p n q (placed e l a f) (event k x y) = absurd (unpassed s q n y (a.low.passes.events q k))
-same_fault s m p n q (placed e l a f) (low g k x h) = absurd (h (a.low.low q k))
-same_fault s m p n q (placed e l a f) (placed g k x h) = (e ∙ sym g, same_place (IsPointPlaced s) p q a.placed f x.placed h)
-same_fault s m p n q (placed e l a f) (linked g k x h) = absurd (f (x.placed.placed p l))
-same_fault s m p n q (linked e l a f) (counts g y h) = absurd (h a.placed.low.passes.counts)
-same_fault s m p n q (linked e l a f) (event k x y) = absurd (unpassed s q n y (a.placed.low.passes.events q k))
-same_fault s m p n q (linked e l a f) (low g k x h) = absurd (h (a.placed.low.low q k))
-same_fault s m p n q (linked e l a f) (placed g k x h) = absurd (h (a.placed.placed q k))
-same_fault s m p n q (linked e l a f) (linked g k x h) = (e ∙ sym g, same_place (λ (i : ℕ). IsLinked s (half_of i)) p q a.linked f x.linked h)
+same_fault s m p n q (counts e l f) (counts g k h) = (e ∙ sym g, l ∙ sym k)
+same_fault s m p n q (counts e l f) (corner g k b h) = absurd (f b.counts)
+same_fault s m p n q (counts e l f) (event k b h) = absurd (f b.counts)
+same_fault s m p n q (counts e l f) (labelled g j k r b h) = absurd (f b.passes.counts)
+same_fault s m p n q (counts e l f) (placed g k b h) = absurd (f b.labels.passes.counts)
+same_fault s m p n q (counts e l f) (linked g k b h) = absurd (f b.placed.labels.passes.counts)
+same_fault s m p n q (corner e l a f) (counts g k h) = absurd (h a.counts)
+same_fault s m p n q (corner e l a f) (corner g k b h) = (e ∙ sym g, same_place (CornerAt s) p q a.corners f b.corners h)
+same_fault s m p n q (corner e l a f) (event k b h) = absurd (f (b.corners p l))
+same_fault s m p n q (corner e l a f) (labelled g j k r b h) = absurd (f (b.passes.corners p l))
+same_fault s m p n q (corner e l a f) (placed g k b h) = absurd (f (b.labels.passes.corners p l))
+same_fault s m p n q (corner e l a f) (linked g k b h) = absurd (f (b.placed.labels.passes.corners p l))
+same_fault s m p n q (event l a f) (counts g k h) = absurd (h a.counts)
+same_fault s m p n q (event l a f) (corner g k b h) = absurd (h (a.corners q k))
+same_fault s m p n q (event l a f) (event k b h) = same_event s m p n q a f b h
+same_fault s m p n q (event l a f) (labelled g j k r b h) = absurd (unpassed s p m f (b.passes.events p l))
+same_fault s m p n q (event l a f) (placed g k b h) = absurd (unpassed s p m f (b.labels.passes.events p l))
+same_fault s m p n q (event l a f) (linked g k b h) = absurd (unpassed s p m f (b.placed.labels.passes.events p l))
+same_fault s m p n q (labelled e i l o a f) (counts g k h) = absurd (h a.passes.counts)
+same_fault s m p n q (labelled e i l o a f) (corner g k b h) = absurd (h (a.passes.corners q k))
+same_fault s m p n q (labelled e i l o a f) (event k b h) = absurd (unpassed s q n h (a.passes.events q k))
+same_fault s m p n q (labelled e i l o a f) (labelled g j k r b h) = (e ∙ sym g, o ∙ ap (λ (x : ℕ). (owned_of s x).curve) (same_place (HasLabels s) i j a.labels f b.labels h) ∙ sym r)
+same_fault s m p n q (labelled e i l o a f) (placed g k b h) = absurd (f (b.labels.labels i l))
+same_fault s m p n q (labelled e i l o a f) (linked g k b h) = absurd (f (b.placed.labels.labels i l))
+same_fault s m p n q (placed e l a f) (counts g k h) = absurd (h a.labels.passes.counts)
+same_fault s m p n q (placed e l a f) (corner g k b h) = absurd (h (a.labels.passes.corners q k))
+same_fault s m p n q (placed e l a f) (event k b h) = absurd (unpassed s q n h (a.labels.passes.events q k))
+same_fault s m p n q (placed e l a f) (labelled g j k r b h) = absurd (h (a.labels.labels j k))
+same_fault s m p n q (placed e l a f) (placed g k b h) = (e ∙ sym g, same_place (IsPointPlaced s) p q a.placed f b.placed h)
+same_fault s m p n q (placed e l a f) (linked g k b h) = absurd (f (b.placed.placed p l))
+same_fault s m p n q (linked e l a f) (counts g k h) = absurd (h a.placed.labels.passes.counts)
+same_fault s m p n q (linked e l a f) (corner g k b h) = absurd (h (a.placed.labels.passes.corners q k))
+same_fault s m p n q (linked e l a f) (event k b h) = absurd (unpassed s q n h (a.placed.labels.passes.events q k))
+same_fault s m p n q (linked e l a f) (labelled g j k r b h) = absurd (h (a.placed.labels.labels j k))
+same_fault s m p n q (linked e l a f) (placed g k b h) = absurd (h (a.placed.placed q k))
+same_fault s m p n q (linked e l a f) (linked g k b h) = (e ∙ sym g, same_place (λ (x : ℕ). IsLinked s (half_of x)) p q a.linked f b.linked h)
 
 unruled : (s : Subject) (rule place : ℕ) → AllRules s → FirstBroken s rule place → ⊥
 unruled s rule place r (counts e z f) = f r.counts
+unruled s rule place r (corner e l a f) = f (r.corners place l)
 unruled s rule place r (event l a b) = unpassed s place rule b (r.events place l)
-unruled s rule place r (low e l a f) = f (r.low place l)
+unruled s rule place r (labelled g e l q a f) = f (r.labels e l)
 unruled s rule place r (placed e l a f) = f (r.placed place l)
 unruled s rule place r (linked e l a f) = f (r.linked place l)
 
 -- ---- one drawing
 pub one_broken : (d : Plan) (c : Claims) (m p n q : ℕ) → IsBroken d c m p → IsBroken d c n q → (m ≡ n) × (p ≡ q)
-one_broken d c m p n q (half_arc e z f) (half_arc g y h) = (e ∙ sym g, z ∙ sym y)
-one_broken d c m p n q (half_arc e z f) (first on table t b) = absurd (f on)
-one_broken d c m p n q (first on table t b) (half_arc g y h) = absurd (h on)
+one_broken d c m p n q (unlisted e z f) (unlisted g y h) = (e ∙ sym g, z ∙ sym y)
+one_broken d c m p n q (unlisted e z f) (first on table t b) = absurd (f on)
+one_broken d c m p n q (first on table t b) (unlisted g y h) = absurd (h on)
 one_broken d c m p n q (first on table t b) (first on' table' t' b') =
-    same_fault (subject_of d c table') m p n q (subst (λ us. FirstBroken (subject_of d c us) m p) (one_table d table table' t t') b) b'
+    same_fault (subject_of d c table') m p n q (subst (λ us. FirstBroken (subject_of d c us) m p) (one_table d c.level table table' t t') b) b'
 
 pub broken_unproved : (d : Plan) (c : Claims) (rule place : ℕ) → Proves d c → IsBroken d c rule place → ⊥
-broken_unproved d c rule place p (half_arc e z f) = f p.straights
+broken_unproved d c rule place p (unlisted e z f) = f p.rules.counts.edges
 broken_unproved d c rule place p (first on table t b) =
-    unruled (subject_of d c table) rule place (subst (λ us. AllRules (subject_of d c us)) (one_table d p.table table p.is_table t) p.rules) b
+    unruled (subject_of d c table) rule place (subst (λ us. AllRules (subject_of d c us)) (one_table d c.level p.table table p.is_table t) p.rules) b

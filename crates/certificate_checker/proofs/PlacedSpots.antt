@@ -1,18 +1,15 @@
 -- Points placed one by one, and event by event.
-use Rattle.std.proofs.Common.{◌≡◌, ◌↔◌, ℕ, zero, suc, ◌+◌, ◌<◌, ◌≤◌, ◌⊎◌, ◌≢◌, inl, inr, Bool, true, false, IsTrue, Option, Some, None, List, [], ◌∷◌, length, get_or, min, refl, arith, ap, sym, ◌∙◌, subst, add-one}
-use Rattle.plane.specs.declared.kinds.Placed.{Placed}
+use Rattle.std.proofs.Common.{◌≡◌, ◌↔◌, ℕ, suc, ◌+◌, ◌<◌, ◌≤◌, ◌⊎◌, inl, inr, Bool, Option, Some, None, List, length, min, arith, ap, sym, ◌∙◌, subst, add-one}
 use Rattle.plane.specs.declared.kinds.Point.{Point}
-use Rattle.plane.specs.Faces.Halves.{Beside, Half}
+use Rattle.plane.specs.Faces.Halves.{Half}
 use Rattle.plane.specs.Forms.Vectors.{Before}
 use Rattle.straight_predicates.proofs.Orders.{by_lt}
 use Rattle.certificate_checker.specs.declared.state.Spot.{Spot}
 use Rattle.certificate_checker.specs.InCells.{IsInStrip, IsNextEvent, IsSpotOf}
 use Rattle.certificate_checker.specs.Marked.{IsMarked}
-use Rattle.certificate_checker.specs.Placed.{ArePlacedTo, IsAfter, IsJudgedPoint, IsLater, IsWorse, OfPoint, OfSpots, spot_at}
+use Rattle.certificate_checker.specs.Placed.{ArePlacedTo, IsAfter, IsJudgedPoint, IsLater, IsWorse, OfPoint, spot_at}
 use Rattle.certificate_checker.specs.Rules.{IsPointPlaced}
-use Rattle.certificate_checker.specs.Subjects.{Subject, event, point_at, replay_of, sector_of}
-use Rattle.certificate_checker.specs.Verdicts.{IsLowTo, IsPlacedTo}
-use Rattle.certificate_checker.proofs.ListParts.{unfit}
+use Rattle.certificate_checker.specs.Subjects.{Subject, event}
 use Rattle.certificate_checker.proofs.Placing.{after_all}
 
 min_left : (a b : ℕ) → min a b ≤ a

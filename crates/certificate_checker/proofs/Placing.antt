@@ -1,12 +1,11 @@
 -- A point is placed exactly where the tests at its place of the live list say so.
-use Rattle.std.proofs.Common.{◌≡◌, ◌↔◌, ℕ, zero, suc, ◌+◌, ◌-◌, ◌<◌, ◌≤◌, ◌⊎◌, ◌<ℤ◌, ◌≤ℤ◌, ℤ, pos, inl, inr, Bool, true, false, cond, List, [], ◌∷◌, length, take, map, get_or, refl, arith, ap, sym, ◌∙◌, subst}
+use Rattle.std.proofs.Common.{◌≡◌, ◌↔◌, ℕ, zero, suc, ◌-◌, ◌<◌, ◌≤◌, ◌⊎◌, ◌<ℤ◌, ◌≤ℤ◌, pos, inl, inr, Bool, false, cond, List, [], ◌∷◌, length, map, get_or, refl, arith, ap, sym, ◌∙◌, subst}
 use Rattle.std.proofs.lemmas.Int.{ints, by_lt_z}
 use Rattle.straight_predicates.proofs.Orders.{by_lt, int_equal}
 use Rattle.plane.specs.declared.kinds.Point.{Point}
-use Rattle.plane.specs.Faces.Halves.{At, AtBefore, Beside, Half, over, under}
-use Rattle.plane.specs.Faces.PlacedPoints.{IsPlaced}
+use Rattle.plane.specs.Faces.Halves.{AtBefore, Beside, Half, over, under}
 use Rattle.plane.specs.Faces.Replays.{no_step}
-use Rattle.plane.specs.Forms.Vectors.{Before, point, side}
+use Rattle.plane.specs.Forms.Vectors.{Before}
 use Rattle.plane.specs.Lists.{Neighbours}
 use Rattle.plane.specs.Runs.Moves.{steps_from}
 use Rattle.plane.specs.Runs.Positions.{turn_at}
@@ -15,8 +14,8 @@ use Rattle.tubes.proofs.EdgeLemmas.{first_is, later_is}
 use Rattle.tubes.specs.DrawnEdges.{comes_first}
 use Rattle.certificate.specs.declared.notes.PointPlace.TheVariants as place
 use Rattle.certificate_checker.specs.InCells.{IsBetweenEdges, IsInStrip}
-use Rattle.certificate_checker.specs.Rules.{HasCounts, IsPointPlaced}
-use Rattle.certificate_checker.specs.Subjects.{Subject, edge, event, events_before, index_of, live_list, moves, note_at, place_at, point_at, replay_of, sector_of, strip_of, under_place}
+use Rattle.certificate_checker.specs.Rules.{HasCounts, IsInOwnCell}
+use Rattle.certificate_checker.specs.Subjects.{Subject, edge, event, events_before, index_of, live_list, moves, note_at, place_at, point_at, replay_of, sector_of, strip_of}
 use Rattle.certificate_checker.proofs.ListParts.{at_of, of_at}
 use Rattle.certificate_checker.proofs.PlaneLaws.{before_trans, list_is, never, side-cross, steps_length}
 use Rattle.certificate_checker.proofs.Runs.{moves_size, step_at_event}
@@ -118,7 +117,7 @@ module _ (s : Subject) (t : IsTimetable (length s.edges) (edge s) s.table) (n : 
   steps_size = steps_length [] (moves s) ∙ moves_size s t n
 
   -- a point at an event is placed nowhere
-  pub event_unplaced : k < length s.table → point_at s j ≡ (event s k).at → IsPointPlaced s j → ⊥
+  pub event_unplaced : k < length s.table → point_at s j ≡ (event s k).at → IsInOwnCell s j → ⊥
   event_unplaced l e p =
       let b = p.between.coming k (let a = is_strip in omega (arith, a)) (let a = steps_size in omega (arith, l, a)) in
       never (point_at s j) (subst (λ q. Before (point_at s j) q) (step_point k l ∙ sym e) b)
@@ -127,7 +126,7 @@ module _ (s : Subject) (t : IsTimetable (length s.edges) (edge s) s.table) (n : 
     list_is_live : live ≡ (replay_of s).list (strip_of s j)
     list_is_live = now ∙ sym list_now
 
-    pub placed_tests : IsPointPlaced s j → (place_at s j ≡ place.Cell (index_of s j)) × IsBetweenEdges s live j (index_of s j)
+    pub placed_tests : IsInOwnCell s j → (place_at s j ≡ place.Cell (index_of s j)) × IsBetweenEdges s live j (index_of s j)
     placed_tests p =
         let es = (replay_of s).list (strip_of s j) in
         let (lo, le) = of_before es (index_of s j) p.between.lower p.between.is_lower in
@@ -147,7 +146,7 @@ module _ (s : Subject) (t : IsTimetable (length s.edges) (edge s) s.table) (n : 
           }),
         )
 
-    pub tests_placed : (k < length s.table → point_at s j ≡ (event s k).at → ⊥) → place_at s j ≡ place.Cell (index_of s j) → IsBetweenEdges s live j (index_of s j) → IsPointPlaced s j
+    pub tests_placed : (k < length s.table → point_at s j ≡ (event s k).at → ⊥) → place_at s j ≡ place.Cell (index_of s j) → IsBetweenEdges s live j (index_of s j) → IsInOwnCell s j
     tests_placed d q b = let es = (replay_of s).list (strip_of s j) in let b = subst (λ (xs : List ℕ). IsBetweenEdges s xs j (index_of s j)) list_is_live b in record {
       cell = q;
       between = record {

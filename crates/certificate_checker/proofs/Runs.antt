@@ -1,12 +1,11 @@
 -- Events that pass make a run.
-use Rattle.std.proofs.Common.{◌≡◌, ℕ, zero, suc, ◌<◌, ◌≤◌, List, [], length, take, get_or, refl, arith, ap, sym, ◌∙◌, subst}
+use Rattle.std.proofs.Common.{◌≡◌, ℕ, zero, suc, ◌<◌, ◌≤◌, List, [], length, take, get_or, arith, ap, ◌∙◌, subst}
 use Rattle.std.proofs.lemmas.List.{take_all}
-use Rattle.plane.specs.Faces.Labels.{MatchesAt}
 use Rattle.plane.specs.Faces.Replays.{no_step}
 use Rattle.plane.specs.Runs.Moves.{AreGood, no_move, step_of, steps_from}
 use Rattle.plane.specs.Runs.Steps.{Run}
 use Rattle.plane.specs.Runs.Timetables.{IsTimetable, PassesAt, move_at}
-use Rattle.certificate_checker.specs.Subjects.{Subject, edge, event, labels, live_list, moves, position_at}
+use Rattle.certificate_checker.specs.Subjects.{Subject, edge, event, live_list, moves, position_at}
 use Rattle.certificate_checker.specs.Rules.{HasCounts, PassesEvent}
 use Rattle.certificate_checker.proofs.PlaneLaws.{moved_at, moves_length, step_is, table_goes_on, timetable_run}
 

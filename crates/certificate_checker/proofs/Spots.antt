@@ -1,5 +1,5 @@
 -- Points with their numbers, sorted by x, then y.
-use Rattle.std.proofs.Common.{◌≡◌, ℕ, zero, suc, ◌+◌, ◌<◌, ◌≤◌, ℤ, inl, inr, true, false, List, [], ◌∷◌, ◌++◌, length, drop, get_or, refl, arith, ap, sym, ◌∙◌, subst, append_assoc, add-one, drop-cons}
+use Rattle.std.proofs.Common.{◌≡◌, ℕ, zero, suc, ◌+◌, ◌<◌, ◌≤◌, ℤ, inl, inr, true, false, List, [], ◌∷◌, ◌++◌, length, drop, get_or, arith, ap, sym, ◌∙◌, subst, append_assoc, add-one, drop-cons}
 use Rattle.std.specs.List.Sorted.{IsPermutation, IsSortedByKey}
 use Rattle.std.proofs.lemmas.List.Sorted.{IsPermutation-sym}
 use Rattle.std.specs.Ordering.{is_lt, int_cmp, ordering_then}
@@ -12,7 +12,7 @@ use Rattle.straight_predicates.proofs.Permutations.{has_permutation, sorted_neig
 use Rattle.tubes.proofs.EdgeLemmas.{first_is}
 use Rattle.tubes.specs.DrawnEdges.{comes_first}
 use Rattle.certificate_checker.specs.declared.state.Spot.{Spot}
-use Rattle.certificate_checker.specs.Placed.{AreSpots, IsPointOf, spot_at, spots_from}
+use Rattle.certificate_checker.specs.Placed.{AreSpots, spot_at, spots_from}
 use Rattle.certificate_checker.specs.Subjects.{point_in}
 use Rattle.certificate_checker.proofs.Placing.{after_all}
 use Rattle.certificate_checker.proofs.PlaneLaws.{has_at, never}

@@ -1,5 +1,5 @@
 -- What is known when all events are replayed and all points are placed.
-use Rattle.std.specs.Prelude.{◌≡◌, ◌↔◌, ◌⊎◌, ℕ, ◌*◌, ◌<◌, Bool, List, length}
+use Rattle.std.specs.Prelude.{◌≡◌, ◌↔◌, ◌⊎◌, ℕ, suc, ◌*◌, ◌<◌, Bool, List, length}
 use Rattle.plane.specs.Faces.Classes.{Across, Next, Touches}
 use Rattle.plane.specs.Faces.Halves.{Half, edge_of, half_of, mark, number}
 use Rattle.half_edges.specs.HalfEdges.{HalfEdges, next_of, size}
@@ -7,7 +7,7 @@ use Rattle.certificate.specs.declared.notes.Link.TheVariants as link
 use Rattle.certificate_checker.specs.declared.state.Broken.{Broken}
 use Rattle.certificate_checker.specs.Marked.{IsMarked}
 use Rattle.certificate_checker.specs.Placed.{OfPoint}
-use Rattle.certificate_checker.specs.Rules.{HasCounts, IsPointPlaced}
+use Rattle.certificate_checker.specs.Rules.{BoundsTube, FacesTube, HasCounts, IsPointPlaced}
 use Rattle.certificate_checker.specs.Subjects.{Subject, labels, note_at, rank, replay_of}
 
 -- the first of n places at which P fails
@@ -31,7 +31,11 @@ pub record HasEnded (s : Subject) (mesh : HalfEdges) (border across point : List
   pub placed : (j : ℕ) → j < length s.points → IsPointPlaced s j
   pub at_point : (h : Half) → IsMarked point h ↔ ((j : ℕ) × (j < length s.points) × OfPoint s j h)
 
+-- the half-edge lies outside the chain of the tube's side where its label's point was placed
+abbrev pub IsAtOwnTube : Subject → Half → Type 0
+IsAtOwnTube s h = (j : ℕ) × (j < length s.points) × (mark (labels s) h ≡ suc j) × BoundsTube s h j
+
 -- the marks and the note make the half-edge a root
 pub record IsMarkedRoot (s : Subject) (border point : List Bool) (h : Half) : Type 0 where
   pub rank : rank s h ≡ 0
-  pub marks : IsMarked point h ⊎ ((mark (labels s) h ≡ 0) × IsMarked border h)
+  pub marks : FacesTube s h ⊎ (IsMarked point h ⊎ (IsAtOwnTube s h ⊎ ((mark (labels s) h ≡ 0) × IsMarked border h)))

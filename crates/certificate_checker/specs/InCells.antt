@@ -8,7 +8,7 @@ use Rattle.plane.specs.Forms.Vectors.{Before}
 use Rattle.plane.specs.Runs.Positions.{turn_at}
 use Rattle.certificate_checker.specs.declared.state.Spot.{Spot}
 use Rattle.certificate_checker.specs.Placed.{IsPointOf}
-use Rattle.certificate_checker.specs.Rules.{IsPointPlaced}
+use Rattle.certificate_checker.specs.Rules.{IsInOwnCell}
 use Rattle.certificate_checker.specs.Subjects.{Subject, edge, event, index_of, note_in, point_at}
 
 -- the point is strictly above the one edge and strictly below the other
@@ -43,7 +43,7 @@ abbrev pub IsNextEvent : Subject → ℕ → Option Point → Type 0
 IsNextEvent s k None = k ≡ length s.table
 IsNextEvent s k (Some p) = (k < length s.table) × (p ≡ (event s k).at)
 
--- the answer is the place of a point in its cell, or it is not where it is placed
+-- the answer is the place of a point in its cell, or it is in no cell where it is placed
 abbrev pub IsCellOf : Subject → ℕ → List ℕ → Option ℕ → Type 0
-IsCellOf s j live None = IsPointPlaced s j → ⊥
-IsCellOf s j live (Some i) = IsPointPlaced s j × (i ≡ index_of s j) × (0 < i) × (i < length live)
+IsCellOf s j live None = IsInOwnCell s j → ⊥
+IsCellOf s j live (Some i) = IsInOwnCell s j × (i ≡ index_of s j) × (0 < i) × (i < length live)

@@ -1,5 +1,6 @@
 pub mod Subjects
 pub mod Rules
+pub mod Chains
 pub mod Verdicts
 pub mod Cases
 pub mod Marked
@@ -7,3 +8,4 @@ pub mod Placed
 pub mod InCells
 pub mod Progress
 pub mod Ended
+pub mod Certifying

@@ -1,6 +1,6 @@
 -- Marks of half-edges, and the gaps between neighbours that make them.
-use Rattle.std.specs.Prelude.{◌≡◌, ◌↔◌, ◌⊎◌, ℕ, suc, ◌+◌, ◌*◌, ◌<◌, Bool, true, false, Option, Some, None, List, [], ◌∷◌, length, get_or}
-use Rattle.plane.specs.Faces.Halves.{Half, half_of, number, over, under}
+use Rattle.std.specs.Prelude.{◌≡◌, ◌↔◌, ◌⊎◌, ℕ, ◌+◌, ◌*◌, ◌<◌, Bool, true, false, Option, Some, None, List, length, get_or}
+use Rattle.plane.specs.Faces.Halves.{Half, number, over, under}
 use Rattle.plane.specs.Lists.{Has}
 use Rattle.plane.specs.Runs.Gaps.{Gap}
 use Rattle.certificate.specs.declared.notes.HalfNote.{HalfNote}

@@ -6,8 +6,8 @@ use Rattle.plane.specs.Faces.Halves.{Beside, Half}
 use Rattle.plane.specs.Forms.Vectors.{Before}
 use Rattle.certificate_checker.specs.declared.state.Spot.{Spot}
 use Rattle.certificate_checker.specs.Marked.{IsMarked}
-use Rattle.certificate_checker.specs.Rules.{IsPointPlaced}
-use Rattle.certificate_checker.specs.Subjects.{Subject, event, point_at, point_in, replay_of, sector_of}
+use Rattle.certificate_checker.specs.Rules.{IsInOwnCell, IsPointPlaced}
+use Rattle.certificate_checker.specs.Subjects.{Subject, event, point_in, replay_of, sector_of}
 
 abbrev pub spot_at : List Spot → ℕ → Spot
 spot_at spots i = get_or spots i (record { at = record { x = pos 0; y = pos 0 }; number = 0 })
@@ -37,9 +37,9 @@ IsAfter (Some v) p = Before v p
 abbrev pub IsLater : Subject → ℕ → ℕ → List Spot → Type 0
 IsLater s k n spots = (i : ℕ) → n ≤ i → i < length spots → (k < length s.table) × Before (event s k).at (spot_at spots i).at
 
--- point j is where it is placed, and the half-edge bounds its cell
+-- point j is in the cell where it is placed, and the half-edge bounds it
 abbrev pub OfPoint : Subject → ℕ → Half → Type 0
-OfPoint s j h = IsPointPlaced s j × Beside (replay_of s) h (sector_of s j)
+OfPoint s j h = IsInOwnCell s j × Beside (replay_of s) h (sector_of s j)
 
 -- the least bad point stays, or it is at most point j, which is not where it is placed
 abbrev pub IsWorse : Subject → ℕ → ℕ → ℕ → Type 0
@@ -49,7 +49,7 @@ IsWorse s j old new = (IsPointPlaced s j × (new ≡ old)) ⊎ ((IsPointPlaced s
 abbrev pub IsJudgedPoint : Subject → ℕ → ℕ → Type 0
 IsJudgedPoint s bad j = IsPointPlaced s j ⊎ ((IsPointPlaced s j → ⊥) × (bad ≤ j))
 
--- one of the first n spots is a point where it is placed, and the half-edge bounds its cell
+-- one of the first n spots is a point in the cell where it is placed, and the half-edge bounds it
 abbrev pub OfSpots : Subject → List Spot → ℕ → Half → Type 0
 OfSpots s spots n h = (i : ℕ) × (i < n) × OfPoint s (spot_at spots i).number h
 

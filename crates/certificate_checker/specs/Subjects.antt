@@ -1,16 +1,20 @@
--- What is judged: edges, objects' points, what a certificate claims of them, and the replay that it tells.
-use Rattle.std.specs.Prelude.{◌≡◌, ℕ, suc, pos, cond, List, [], ◌∷◌, length, take, get_or}
+-- What is judged: a drawing with its edges, what a certificate claims of them, and the replay that it tells.
+use Rattle.std.specs.Prelude.{ℕ, suc, ◌+◌, Bool, true, false, pos, cond, List, [], ◌∷◌, length, take, get_or}
 use Rattle.plane.specs.declared.kinds.Edge.{Edge}
 use Rattle.plane.specs.declared.kinds.Placed.{Placed}
 use Rattle.plane.specs.declared.kinds.Point.{Point}
+use Rattle.plane.specs.CurveRuns.TubedRuns as runs
 use Rattle.plane.specs.Faces.Cells.{Sector, position}
-use Rattle.plane.specs.Faces.Halves.{Half, under, over, number}
+use Rattle.plane.specs.Faces.Halves.{Half, under, over, number, mark, twin}
 use Rattle.plane.specs.Faces.Labels.{Labels}
 use Rattle.plane.specs.Faces.Replays.{Replay, replay}
+use Rattle.plane.specs.Rule.Plans.{Plan}
 use Rattle.plane.specs.Runs.Moves.{Move, live_from, steps_from}
 use Rattle.plane.specs.Runs.Timetables.{Timed, moves_at, no_event}
+use Rattle.plane.specs.Tubes.Bays.{Bay}
 use Rattle.straight_predicates.specs.EdgeLists.{edge_of}
 use Rattle.tubes.specs.DrawnEdges.{comes_first}
+use Rattle.tubes.specs.TubedEdges.{drawn_bays}
 use Rattle.certificate.specs.declared.notes.Certificate.{Certificate}
 use Rattle.certificate.specs.declared.notes.HalfNote.{HalfNote}
 use Rattle.certificate.specs.declared.notes.Link.TheVariants as link
@@ -28,15 +32,16 @@ pub record Claims : Type 0 where
 abbrev pub claims : Certificate → Claims
 claims c = record { level = c.level; positions = c.positions.items; notes = c.notes.items; places = c.places.items }
 
--- edges and points by number, the timetable of the edges, and what is claimed of them
+-- a drawing, its edges and points by number, the timetable of the edges, and what is claimed of them
 pub record Subject : Type 0 where
+  pub drawing : Plan
   pub edges : List Edge
   pub points : List Placed
   pub table : List Timed
   pub claims : Claims
 
-abbrev pub subject : List Edge → List Placed → List Timed → Certificate → Subject
-subject edges points table c = record { edges = edges; points = points; table = table; claims = claims c }
+abbrev pub subject : Plan → List Edge → List Placed → List Timed → Certificate → Subject
+subject d edges points table c = record { drawing = d; edges = edges; points = points; table = table; claims = claims c }
 
 -- ---- by number; beyond the last one nothing is meant
 abbrev pub edge : Subject → ℕ → Edge
@@ -72,6 +77,37 @@ labels_in notes = record { below = λ e. (note_in notes (under e)).label; above 
 
 abbrev pub labels : Subject → Labels
 labels s = labels_in s.claims.notes
+
+-- ---- the tubes at the claimed level
+-- the bays of each half arc's tube, by the number of its curve
+abbrev pub bays_of : Subject → ℕ → List Bay
+bays_of s = drawn_bays s.drawing s.claims.level
+
+-- the curve of an edge, and what the edge is of it
+abbrev pub owned_of : Subject → ℕ → runs.Owned
+owned_of s e = runs.owned s.drawing (bays_of s) e
+
+-- the half-edge of an edge of a tube that faces the tube from within
+abbrev pub within : Subject → ℕ → Half
+within s e = runs.half_within s.drawing (bays_of s) (edge s) e
+
+-- the claimed label on the other side of an edge of a tube
+abbrev pub outside_label : Subject → ℕ → ℕ
+outside_label s e = mark (labels s) (twin (within s e))
+
+-- the chain of a tube that is inside the circle, and that outside
+abbrev pub side_part : Bool → runs.Part
+side_part true = runs.inner
+side_part false = runs.outer
+
+-- the first edge of that chain of the curve's tube
+abbrev pub first_of : Subject → Bool → ℕ → ℕ
+first_of s true i = runs.first_edge (bays_of s) 0 s.drawing.curves i
+first_of s false i = runs.first_edge (bays_of s) 0 s.drawing.curves i + length (bays_of s i)
+
+-- the claimed label outside it
+abbrev pub side_label : Subject → Bool → ℕ → ℕ
+side_label s inside i = outside_label s (first_of s inside i)
 
 -- ---- the replay that the claimed positions tell
 abbrev pub moves : Subject → List Move

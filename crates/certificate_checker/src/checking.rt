@@ -1,22 +1,26 @@
 // The check of a certificate against a drawing.
-ghost use Rattle.std.specs.Prelude.{◌≡◌, ◌↔◌, ℕ, ◌<◌, ◌^◌, IfErr, IfOk, IsTrue, OnOk};
+ghost use Rattle.std.specs.Prelude.{◌≡◌, ◌↔◌, ℕ, ◌<◌, ◌≤◌, ◌^◌, IfErr, IfOk, IsTrue, OnOk};
 ghost use Rattle.std.specs.Prelude.{false, length, replicate};
 ghost use Rattle.plane.specs.Rule.Partition.{IsPartition};
 ghost use Rattle.plane.specs.Rule.Plans.{plan};
-ghost use Rattle.plane.specs.Runs.Timetables.{IsTimetable};
-ghost use Rattle.straight_predicates.specs.EdgeLists.{edge_of};
+ghost use Rattle.straight_predicates.specs.EdgeEvents.{AreEventsOf};
 ghost use Rattle.straight_predicates.specs.Tables.{table_of};
-ghost use Rattle.certificate_checker.specs.Cases.{AreDrawn, IsFit, judged};
+ghost use Rattle.tubes.specs.Settled.{IsSettledAt};
+ghost use Rattle.tubes.specs.TubedEdges.{AreUsable, IsTubedList};
+ghost use Rattle.certificate_checker.specs.Cases.{IsFit, IsListed, judged};
 ghost use Rattle.certificate_checker.specs.Ended.{HasEnded};
 ghost use Rattle.certificate_checker.specs.Placed.{IsLater};
 ghost use Rattle.certificate_checker.specs.Progress.{HasReplayed};
-ghost use Rattle.certificate_checker.specs.Rules.{HasCounts, HasLowLabels};
+ghost use Rattle.certificate_checker.specs.Rules.{HasCounts, HasEdges, HasLabels};
 ghost use Rattle.certificate_checker.specs.Subjects.{claims, subject};
-ghost use Rattle.certificate_checker.specs.Verdicts.{AllRules, FirstBroken, IsJudged, IsVerdict};
+ghost use Rattle.certificate_checker.specs.Verdicts.{AllRules, FirstBroken, IsVerdict};
 ghost use Rattle.certificate_checker.specs.declared.verdict.Verdict.TheVariants.{Proved};
 
 use super::case::Case;
-use super::links::{judge_labels, judge_links};
+use super::edge_labels::judge_labels;
+use super::firsts::first_edges;
+use super::holding::held_points;
+use super::links::judge_links;
 use super::points::in_order;
 use super::replaying::replay;
 use super::state::{Broken, Marks, State};
@@ -27,42 +31,119 @@ use half_edges::HalfEdgeId;
 use plane::{Drawing, Edge, Placed};
 use ports::Memory;
 use std::alloc::Global;
-use straight_predicates::{Row, Timetable};
-use tubes::edge_list;
+use straight_predicates::{EdgeEvents, Row, Timetable};
+use tubes::{EdgeList, edge_list, facings, foreign_corner};
 
 /// Whether the certificate proves the drawing to be a partition, or else the first broken rule and
-/// its place. The only error is want of memory. Costs stand at the head of the crate.
+/// its place. The only error is want of memory, which is also the answer to a drawing that has
+/// 2^31 edges or more. Costs stand at the head of the crate.
 pub fn check(alloc: Global, drawing: &Drawing, certificate: &Certificate) -> Result<Verdict, Memory>
     ensures verdict { IfOk result (IsVerdict (plan drawing.now) (claims certificate.now)) }
     ensures partition { IfOk result (λ v. v ≡ Proved → IsPartition (plan drawing.now)) }
+    ensures settled { IfOk result (λ v. v ≡ Proved
+        → IsSettledAt (plan drawing.now) certificate.now.level) }
 {
+    judge_drawing(alloc, drawing, certificate)
+}
+
+fn judge_drawing(
+    alloc: Global,
+    drawing: &Drawing,
+    certificate: &Certificate,
+) -> Result<Verdict, Memory>
+    ensures { IfOk result (IsVerdict (plan drawing.now) (claims certificate.now)) }
+{
+    if certificate.level > 5 {
+        return Ok(Verdict::NotProved { rule: 2, place: 0 });
+    }
     match edge_list(alloc, drawing, certificate.level)? {
         None => Ok(Verdict::NotProved { rule: 2, place: 0 }),
-        Some(list) => check_edges(alloc, &list.edges, &drawing.points, certificate),
+        Some(list) => judge_list(alloc, drawing, &list, certificate),
     }
 }
 
-fn check_edges(
+fn judge_list(
     alloc: Global,
-    edges: &[Edge],
-    points: &[Placed],
+    drawing: &Drawing,
+    list: &EdgeList,
     certificate: &Certificate,
 ) -> Result<Verdict, Memory>
-    requires { AreDrawn edges.now points.now }
-    ensures { IfOk result (IsJudged edges.now points.now (claims certificate.now)) }
+    requires low { certificate.now.level ≤ 5 }
+    requires list { IsTubedList (plan drawing.now) certificate.now.level list.now }
+    requires usable { AreUsable (plan drawing.now) list.now.edges.items }
+    ensures { IfOk result (IsVerdict (plan drawing.now) (claims certificate.now)) }
 {
-    let table = Timetable::new(alloc, edges)?;
-    if !has_counts(edges, points, &table, certificate) {
+    if list.edges.len() >= 1 << 31 {
+        return Err(Memory);
+    }
+    let table = Timetable::new(alloc, &list.edges)?;
+    if !has_counts(drawing, &list.edges, &table, certificate) {
         return Ok(Verdict::NotProved { rule: 2, place: 0 });
     }
+    let of = table.edge_events(alloc, &list.edges)?;
+    match foreign_corner(alloc, drawing, list, &of.low, &of.high, table.events())? {
+        Some(place) => Ok(Verdict::NotProved { rule: 3, place }),
+        None => judge_events(alloc, drawing, list, &table, &of, certificate),
+    }
+}
+
+fn has_counts(
+    drawing: &Drawing,
+    edges: &[Edge],
+    table: &Timetable,
+    certificate: &Certificate,
+) -> bool
+    requires few { length edges.now < 2 ^ 31 }
+    requires edges { HasEdges (plan drawing.now) certificate.now.level }
+    ensures { IsTrue result ↔ HasCounts (subject (plan drawing.now) edges.now
+        drawing.now.points.items (table_of table.now) certificate.now) }
+{
+    certificate.notes.len() == 2 * edges.len()
+        && certificate.positions.len() == table.events() as usize
+        && certificate.places.len() == drawing.points.len()
+}
+
+/// The rules from the fourth on.
+fn judge_events(
+    alloc: Global,
+    drawing: &Drawing,
+    list: &EdgeList,
+    table: &Timetable,
+    of: &EdgeEvents,
+    certificate: &Certificate,
+) -> Result<Verdict, Memory>
+    requires listed { IsListed (plan drawing.now) (claims certificate.now) list.now
+        (table_of table.now) }
+    requires of { AreEventsOf list.now.edges.items (table_of table.now) of.now.low.items
+        of.now.high.items }
+    ensures { IfOk result (IsVerdict (plan drawing.now) (claims certificate.now)) }
+{
+    let level = certificate.level;
+    let facings = facings(alloc, drawing, list)?;
+    let firsts = first_edges(alloc, drawing, level)?;
+    let held = held_points(alloc, drawing, &certificate.places, level)?;
     let case = Case {
-        edges,
-        points,
-        table: &table,
+        drawing,
+        edges: &list.edges,
+        owners: &list.owners,
+        facings: &facings,
+        firsts: &firsts,
+        table,
+        points: &drawing.points,
+        held: &held,
         certificate,
     };
-    let mut state = begin(alloc, &case)?;
-    match judge(&case, &mut state) {
+    judge_case(alloc, &case, of)
+}
+
+fn judge_case(alloc: Global, case: &Case, of: &EdgeEvents) -> Result<Verdict, Memory>
+    requires fit { IsFit case.now }
+    requires of { AreEventsOf (judged case.now).edges (judged case.now).table of.now.low.items
+        of.now.high.items }
+    ensures { IfOk result (IsVerdict (judged case.now).drawing (judged case.now).claims) }
+{
+    let mut state = begin(alloc, case, of)?;
+    match judge(case, &mut state) {
         Ok(()) => Ok(Verdict::Proved),
         Err(broken) => Ok(Verdict::NotProved {
             rule: broken.rule,
@@ -71,29 +152,14 @@ fn check_edges(
     }
 }
 
-fn has_counts(
-    edges: &[Edge],
-    points: &[Placed],
-    table: &Timetable,
-    certificate: &Certificate,
-) -> bool
-    requires few { length edges.now < 2 ^ 30 }
-    ensures { IsTrue result ↔ HasCounts (subject edges.now points.now (table_of table.now)
-        certificate.now) }
-{
-    certificate.level <= 5
-        && certificate.notes.len() == 2 * edges.len()
-        && certificate.positions.len() == table.events() as usize
-        && certificate.places.len() == points.len()
-}
-
-/// Nothing is replayed yet. All memory but that of the edges and their timetable is taken here.
-fn begin(alloc: Global, case: &Case) -> Result<State, Memory>
-    requires { IsFit (judged case.now) }
+/// Nothing is replayed yet. What the replay needs is taken here.
+fn begin(alloc: Global, case: &Case, of: &EdgeEvents) -> Result<State, Memory>
+    requires fit { IsFit case.now }
+    requires of { AreEventsOf (judged case.now).edges (judged case.now).table of.now.low.items
+        of.now.high.items }
     ensures { IfOk result (HasReplayed (judged case.now) 0) }
 {
     let size = case.certificate.notes.len();
-    let of = case.table.edge_events(alloc, case.edges)?;
     let mesh = mesh_of(alloc, case.table.events(), &of.low, &of.high)?;
     let live = Row::new(alloc, case.edges.len())?;
     let fan = half_edges(alloc, case.table.widest())?;
@@ -132,7 +198,7 @@ fn no_marks(alloc: Global, size: usize) -> Result<Vec<bool>, Memory>
 
 /// The first rule that is broken. It takes no memory.
 fn judge(case: &Case, state: &mut State) -> Result<(), Broken>
-    requires fit { IsFit (judged case.now) }
+    requires fit { IsFit case.now }
     requires begun { HasReplayed (judged case.now) 0 state.old }
     ensures proved { OnOk result (AllRules (judged case.now)) }
     ensures broken { IfErr result (λ b. FirstBroken (judged case.now) b.rule b.place) }
@@ -152,12 +218,12 @@ fn judge(case: &Case, state: &mut State) -> Result<(), Broken>
 
 /// The first point that is not where it is placed, where there is one.
 fn judge_points(case: &Case, state: &State) -> Result<(), Broken>
-    requires fit { IsFit (judged case.now) }
+    requires fit { IsFit case.now }
     requires replayed { HasReplayed (judged case.now) (length (judged case.now).table) state.now }
     requires later { IsLater (judged case.now) (length (judged case.now).table)
         state.now.placing.next state.now.placing.spots.items }
-    requires low { (e : ℕ) → e < length (judged case.now).edges
-        → HasLowLabels (judged case.now) e }
+    requires labels { (e : ℕ) → e < length (judged case.now).edges
+        → HasLabels (judged case.now) e }
     ensures ended { OnOk result (HasEnded (judged case.now) state.now.mesh
         state.now.marks.border.items state.now.marks.across.items state.now.marks.point.items) }
     ensures broken { IfErr result (λ b. FirstBroken (judged case.now) b.rule b.place) }

@@ -17,7 +17,7 @@ use straight_predicates::{Turn, turn_over};
 
 /// The first of the four rules of the event that is broken, by the live list before it.
 pub fn judge_event(case: &Case, event: u32, live: &[u32]) -> Result<(), u8>
-    requires fit { IsFit (judged case.now) }
+    requires fit { IsFit case.now }
     requires event { event < length (judged case.now).table }
     requires passed { (j : ℕ) → j < event → PassesEvent (judged case.now) j }
     requires live { live.now ≡ live_list (judged case.now) event }
@@ -46,7 +46,7 @@ pub fn judge_event(case: &Case, event: u32, live: &[u32]) -> Result<(), u8>
 
 /// The place of the event's block in the live list, as the certificate says.
 pub fn position_of(case: &Case, event: u32) -> usize
-    requires fit { IsFit (judged case.now) }
+    requires fit { IsFit case.now }
     requires event { event < length (judged case.now).table }
     ensures { result ≡ position_at (judged case.now) event }
 {

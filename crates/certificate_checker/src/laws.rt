@@ -2,12 +2,25 @@
 ghost use Rattle.std.specs.Prelude.{◌≡◌, ℕ};
 ghost use Rattle.plane.specs.Rule.Partition.{IsPartition};
 ghost use Rattle.plane.specs.Rule.Plans.{Plan};
+ghost use Rattle.tubes.specs.Settled.{IsSettledAt};
+ghost use Rattle.certificate_checker.specs.Certifying.{Certifies};
 ghost use Rattle.certificate_checker.specs.Subjects.{Claims};
 ghost use Rattle.certificate_checker.specs.Verdicts.{IsBroken, Proves};
 
 /// Claims that prove a drawing make it a partition, whoever made them.
 pub fn proves_partition()
     ensures { (d : Plan) (c : Claims) → Proves d c → IsPartition d }
+{}
+
+/// Claims that prove a drawing settle it at their level.
+pub fn proves_settled()
+    ensures { (d : Plan) (c : Claims) → Proves d c → IsSettledAt d c.level }
+{}
+
+/// Claims that tell a complete run with tubes, and labels, places and links that certify it, prove
+/// the drawing.
+pub fn certified_claims_prove()
+    ensures { (d : Plan) (c : Claims) → Certifies d c → Proves d c }
 {}
 
 /// Where a rule is broken the claims prove nothing.

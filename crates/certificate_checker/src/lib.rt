@@ -1,40 +1,55 @@
-//! The checker of certificates: whether a certificate proves that a drawing of straights is a
-//! partition, by one replay of its events and no search.
+//! The checker of certificates: whether a certificate proves that a drawing of straights and half
+//! arcs is a partition, by one replay of its events and no search.
 //!
 //! - **What it answers.** `check` takes a drawing and a certificate that anyone may have made. It
 //!   answers `Proved` exactly where all rules of the certificate format hold, and then the drawing
-//!   is a partition: its lines meet only in control points, and each bounded face holds exactly one
-//!   object's point. Else it names the first rule that is broken, and its place.
-//! - **The rules** stand in `docs/certificate-format.md`, and as definitions in `specs/Rules.antt`:
-//!   2 of the counts; 4 to 7 of each event, its block in the live list, the edges beside it, the
-//!   slopes of the edges that start there and the labels of new neighbours; 8 of the labels of each
-//!   edge; 9 of the cell of each point; 10 of the link of each half-edge. They are judged in this
-//!   order, 4 to 7 event by event.
-//! - **How.** The edges of the drawing tell its events; the certificate tells where each stands in
-//!   the live list. The replay keeps the list, turns the mesh of events, marks each half-edge that
-//!   was beside a border, across a cell from the one that its note names, or beside a placed point,
-//!   and looks at each point when the events before it are done. That the list is in order is never
-//!   tested and never assumed: it follows when all events have passed.
-//! - **The laws** (`laws`): what is proved is a partition; what is broken is not proved; there is
-//!   one first broken rule.
-//! - **Not here.** Half arcs have no tubes yet, so a drawing with one breaks rule 2. The names in a
-//!   certificate are not read. This crate stands on no sweep, face or search.
+//!   is a partition, settled at the certificate's level: its lines meet only in control points, and
+//!   each bounded face holds exactly one object's point. Else it names the first rule that is
+//!   broken, and its place.
+//! - **The rules** stand in `docs/certificate-format.md`, and as definitions in `specs/Rules.antt`.
+//!   Rule 2 asks for tubes of all half arcs at the level, and for the counts; 3 at each event that
+//!   corners of tubes are their own; 4 to 7 of each event its block in the live list, the edges
+//!   beside it, the slopes of the edges that start there and the labels of new neighbours; 8 the
+//!   labels of each edge: that of its tube within and one outside each chain, else at most the
+//!   number of points; 9 the cell of each point, or the tube that holds it and its side of the
+//!   circle; 10 the link of each half-edge. They are judged in this order, 4 to 7 event by event.
+//!   The place of rule 8 is the curve of the first edge that has not the labels it needs.
+//! - **How.** The edges of the drawing at the certificate's level tell its events; the certificate
+//!   tells where each stands in the live list. The replay keeps the list, turns the mesh of events,
+//!   marks each half-edge that was beside a border, across a cell from the one that its note names,
+//!   or beside a placed point, and looks at each point when the events before it are done. That the
+//!   list is in order is never tested and never assumed: it follows when all events have passed.
+//!   Whether a tube holds a point that is placed there is asked before the replay, of a tube that
+//!   is made for it.
+//! - **The laws** (`laws`): what is proved is a partition, and settled at its level; claims that
+//!   tell a run with tubes and what certifies it prove; what is broken is not proved; there is one
+//!   first broken rule.
+//! - **Not here.** The names in a certificate are not read. This crate stands on no sweep, face or
+//!   search.
 //! - **Degenerate cases.** No curve, no point, upright and equal straights, many in one point,
-//!   points at corners and on lines, links to half-edges that are not there, and counts that do not
-//!   fit.
+//!   points at corners, on lines and on half arcs, half arcs without a tube, a level above 5, links
+//!   to half-edges and places in curves that are not there, and counts that do not fit. From 2^31
+//!   edges on half-edges have no numbers of 32 bits: then the answer is want of memory. Drawings of
+//!   at most 16,000,000 curves have fewer (`tubes::laws::few_edges`).
 //!
-//! Cost: O((m + p) log (m + p)) for m straights and p points, and what the live list moves: at most
-//! its length at each event that changes it. All memory is taken at the start, about 130 bytes a
-//! straight and 24 a point; the replay takes none.
+//! Cost: O((m + p) log (m + p)) for m edges and p points, and what the live list moves: at most its
+//! length at each event that changes it. A half arc has 2^(level + 2) + 1 edges. For each point
+//! that is placed in a tube that tube is made and freed again. All memory is taken at the start,
+//! about 130 bytes an edge, 4 a curve and 25 a point; the replay takes none.
 #![tactic(auto)]
 
 mod case;
+mod chains;
 mod checking;
+mod edge_labels;
 mod events;
+mod firsts;
+mod holding;
 mod labels;
 pub mod laws;
 mod links;
 mod marks;
+mod notes;
 mod points;
 mod replaying;
 mod state;

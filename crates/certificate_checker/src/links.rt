@@ -1,55 +1,22 @@
-// The rules that are judged when all events are replayed.
-ghost use Rattle.std.specs.Prelude.{◌≡◌, ◌↔◌, ℕ, ◌*◌, ◌<◌, ◌≤◌, IfErr, IsTrue, OnOk, length};
+// The rule of the links, which is judged last.
+ghost use Rattle.std.specs.Prelude.{◌≡◌, ◌↔◌, ℕ, ◌*◌, ◌<◌, IfErr, IsTrue, OnOk, length};
 ghost use Rattle.plane.specs.Faces.Halves.{half_of, mark};
 ghost use Rattle.half_edges.specs.Meshes.{IsMesh};
 ghost use Rattle.certificate_checker.specs.Cases.{IsFit, judged};
-ghost use Rattle.certificate_checker.specs.Ended.{HasEnded, IsMarkedRoot};
+ghost use Rattle.certificate_checker.specs.Ended.{HasEnded, IsAtOwnTube, IsMarkedRoot};
 ghost use Rattle.certificate_checker.specs.Marked.{IsMarked};
-ghost use Rattle.certificate_checker.specs.Rules.{FallsTo, HasLowLabels, IsLinked, PassesEvent};
+ghost use Rattle.certificate_checker.specs.Rules.{BoundsTube, FallsTo, HasLabels, IsLinked};
+ghost use Rattle.certificate_checker.specs.Rules.{PassesEvent};
+ghost use Rattle.certificate_checker.specs.Subjects.{labels, rank};
 ghost use Rattle.certificate_checker.specs.Verdicts.{AllRules, FirstBroken};
-ghost use Rattle.certificate_checker.specs.Subjects.{labels, note_at, rank};
 
 use super::case::Case;
+use super::chains::{faces_tube, lies_outside};
+use super::notes::{label_at, link_at, rank_at};
+use super::points::place_of;
 use super::state::Broken;
-use certificate::{HalfNote, Link};
+use certificate::{Link, PointPlace};
 use half_edges::{HalfEdgeId, Mesh};
-
-/// The first edge with a label above the number of points.
-pub fn judge_labels(case: &Case) -> Result<(), Broken>
-    requires fit { IsFit (judged case.now) }
-    requires passed { (k : ℕ) → k < length (judged case.now).table
-        → PassesEvent (judged case.now) k }
-    ensures low { OnOk result ((e : ℕ) → e < length (judged case.now).edges
-        → HasLowLabels (judged case.now) e) }
-    ensures broken { IfErr result (λ b. FirstBroken (judged case.now) b.rule b.place) }
-{
-    let count = case.edges.len() as u32;
-    for e in 0..count {
-        if !is_low(case, e) {
-            return Err(Broken { rule: 8, place: e });
-        }
-    }
-    Ok(())
-}
-
-fn is_low(case: &Case, edge: u32) -> bool
-    requires fit { IsFit (judged case.now) }
-    requires edge { edge < length (judged case.now).edges }
-    ensures { IsTrue result ↔ HasLowLabels (judged case.now) edge }
-{
-    if !is_label_low(case, 2 * edge) {
-        return false;
-    }
-    is_label_low(case, 2 * edge + 1)
-}
-
-fn is_label_low(case: &Case, h: u32) -> bool
-    requires { h < length (judged case.now).claims.notes }
-    ensures { IsTrue result ↔ (mark (labels (judged case.now)) (half_of h)
-        ≤ length (judged case.now).points) }
-{
-    label_at(case, h) as usize <= case.points.len()
-}
 
 /// The first half-edge whose link does not lead on, or that is no root where it says so.
 pub fn judge_links(
@@ -59,11 +26,11 @@ pub fn judge_links(
     across: &[bool],
     point: &[bool],
 ) -> Result<(), Broken>
-    requires fit { IsFit (judged case.now) }
+    requires fit { IsFit case.now }
     requires passed { (k : ℕ) → k < length (judged case.now).table
         → PassesEvent (judged case.now) k }
-    requires low { (e : ℕ) → e < length (judged case.now).edges
-        → HasLowLabels (judged case.now) e }
+    requires labels { (e : ℕ) → e < length (judged case.now).edges
+        → HasLabels (judged case.now) e }
     requires ended { HasEnded (judged case.now) mesh.now border.now across.now point.now }
     ensures proved { OnOk result (AllRules (judged case.now)) }
     ensures broken { IfErr result (λ b. FirstBroken (judged case.now) b.rule b.place) }
@@ -85,7 +52,7 @@ fn is_linked(
     point: &[bool],
     h: u32,
 ) -> bool
-    requires fit { IsFit (judged case.now) }
+    requires fit { IsFit case.now }
     requires ended { HasEnded (judged case.now) mesh.now border.now across.now point.now }
     requires mesh { IsMesh mesh.now }
     requires half { h < 2 * length (judged case.now).edges }
@@ -104,8 +71,11 @@ fn is_linked(
     }
 }
 
+/// Whether the half-edge may be a root: with rank 0 it faces a tube from within, or was beside the
+/// cell of a point, or lies outside the tube's side of its label's point, or has label 0 and was
+/// beside a border.
 fn is_root(case: &Case, border: &[bool], point: &[bool], h: u32) -> bool
-    requires fit { IsFit (judged case.now) }
+    requires fit { IsFit case.now }
     requires half { h < 2 * length (judged case.now).edges }
     requires borders { length border.now ≡ length (judged case.now).claims.notes }
     requires points { length point.now ≡ length (judged case.now).claims.notes }
@@ -114,13 +84,45 @@ fn is_root(case: &Case, border: &[bool], point: &[bool], h: u32) -> bool
     if !has_rank_zero(case, h) {
         return false;
     }
+    if faces_tube(case, h) {
+        return true;
+    }
     if is_marked(point, h) {
+        return true;
+    }
+    if is_at_own_tube(case, h) {
         return true;
     }
     if !has_outer_label(case, h) {
         return false;
     }
     is_marked(border, h)
+}
+
+/// Whether the half-edge lies outside the chain of the tube's side where its label's point was
+/// placed.
+fn is_at_own_tube(case: &Case, h: u32) -> bool
+    requires fit { IsFit case.now }
+    requires half { h < 2 * length (judged case.now).edges }
+    ensures { IsTrue result ↔ IsAtOwnTube (judged case.now) (half_of h) }
+{
+    let label = label_at(case, h);
+    if label == 0 || label as usize > case.points.len() {
+        return false;
+    }
+    bounds_tube(case, h, label - 1)
+}
+
+fn bounds_tube(case: &Case, h: u32, number: u32) -> bool
+    requires fit { IsFit case.now }
+    requires half { h < 2 * length (judged case.now).edges }
+    requires number { number < length (judged case.now).points }
+    ensures { IsTrue result ↔ BoundsTube (judged case.now) (half_of h) number }
+{
+    match place_of(case, number) {
+        PointPlace::Cell(_) => false,
+        PointPlace::Tube { curve, inside } => lies_outside(case, h, curve, inside),
+    }
 }
 
 fn has_rank_zero(case: &Case, h: u32) -> bool
@@ -146,7 +148,7 @@ fn is_marked(marks: &[bool], h: u32) -> bool
 
 /// Whether the second half-edge is there, with the label of the first and a smaller rank.
 fn falls(case: &Case, from: u32, to: u32) -> bool
-    requires fit { IsFit (judged case.now) }
+    requires fit { IsFit case.now }
     requires from { from < 2 * length (judged case.now).edges }
     ensures { IsTrue result ↔ FallsTo (judged case.now) (half_of from) (half_of to) }
 {
@@ -175,28 +177,4 @@ fn is_lower(case: &Case, to: u32, from: u32) -> bool
         < rank (judged case.now) (half_of from)) }
 {
     rank_at(case, to) < rank_at(case, from)
-}
-
-fn label_at(case: &Case, h: u32) -> u32
-    requires { h < length (judged case.now).claims.notes }
-    ensures { result ≡ mark (labels (judged case.now)) (half_of h) }
-{
-    let notes: &[HalfNote] = &case.certificate.notes;
-    notes[h as usize].label
-}
-
-fn rank_at(case: &Case, h: u32) -> u32
-    requires { h < length (judged case.now).claims.notes }
-    ensures { result ≡ rank (judged case.now) (half_of h) }
-{
-    let notes: &[HalfNote] = &case.certificate.notes;
-    notes[h as usize].rank
-}
-
-fn link_at(case: &Case, h: u32) -> Link
-    requires { h < length (judged case.now).claims.notes }
-    ensures { result ≡ (note_at (judged case.now) (half_of h)).link }
-{
-    let notes: &[HalfNote] = &case.certificate.notes;
-    notes[h as usize].link
 }

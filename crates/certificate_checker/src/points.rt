@@ -3,6 +3,7 @@ ghost use Rattle.std.specs.Prelude.{◌≡◌, ◌↔◌, ◌⊎◌, ℕ, suc, �
 ghost use Rattle.std.specs.Prelude.{None, IfOk, IsTrue, length};
 ghost use Rattle.plane.specs.Faces.Halves.{Half};
 ghost use Rattle.plane.specs.Forms.Vectors.{Before};
+ghost use Rattle.plane.specs.Rule.Plans.{IsHalfArc};
 ghost use Rattle.straight_predicates.specs.EdgeLists.{AreBelow, IsCloseToAll, edge_of};
 ghost use Rattle.certificate_checker.specs.Cases.{IsFit, judged};
 ghost use Rattle.certificate_checker.specs.InCells.{AreBothLabels, IsBetweenEdges};
@@ -11,9 +12,11 @@ ghost use Rattle.certificate_checker.specs.Marked.{HasNote, IsMarked};
 ghost use Rattle.certificate_checker.specs.Placed.{ArePlacedTo, AreSpots, IsAfter, IsLater};
 ghost use Rattle.certificate_checker.specs.Placed.{IsPointOf, IsWorse, OfPoint, spot_at};
 ghost use Rattle.certificate_checker.specs.Placed.{spots_from};
-ghost use Rattle.certificate_checker.specs.Subjects.{live_list, place_at};
+ghost use Rattle.certificate_checker.specs.Rules.{IsInOwnTube};
+ghost use Rattle.certificate_checker.specs.Subjects.{live_list, place_at, side_label};
 
 use super::case::Case;
+use super::chains::side_label;
 use super::events::{is_above, is_below};
 use super::labels::{label_over, label_under};
 use super::marks::mark;
@@ -71,7 +74,7 @@ pub fn place_points(
     placing: &mut Placing,
     marks: &mut [bool],
 )
-    requires fit { IsFit (judged case.now) }
+    requires fit { IsFit case.now }
     requires event { event ≤ length (judged case.now).table }
     requires live { live.now ≡ live_list (judged case.now) event }
     requires known { AreBelow (length case.now.edges.now) live.now }
@@ -122,7 +125,8 @@ fn is_later(at: Point, upto: Option<Point>) -> bool
     }
 }
 
-/// Marks the half-edges that bound the cell of the point, or notes that it is in no such cell.
+/// Marks the half-edges that bound the cell of the point, or notes that it is neither in such a cell
+/// nor in a tube.
 fn place_point(
     case: &Case,
     event: u32,
@@ -132,7 +136,7 @@ fn place_point(
     bad: &mut u32,
     marks: &mut [bool],
 )
-    requires fit { IsFit (judged case.now) }
+    requires fit { IsFit case.now }
     requires event { event ≤ length (judged case.now).table }
     requires live { live.now ≡ live_list (judged case.now) event }
     requires known { AreBelow (length case.now.edges.now) live.now }
@@ -148,14 +152,43 @@ fn place_point(
             mark(marks, 2 * live[i - 1] + 1);
             mark(marks, 2 * live[i]);
         }
-        None => *bad = (*bad).min(spot.number),
+        None => {
+            if !is_in_own_tube(case, spot.number) {
+                *bad = (*bad).min(spot.number);
+            }
+        }
     }
+}
+
+/// Whether the point is placed in a tube that holds it, with its label outside the chain on its
+/// side.
+fn is_in_own_tube(case: &Case, number: u32) -> bool
+    requires fit { IsFit case.now }
+    requires number { number < length (judged case.now).points }
+    ensures { IsTrue result ↔ IsInOwnTube (judged case.now) number }
+{
+    let PointPlace::Tube { curve, inside } = place_of(case, number) else {
+        return false;
+    };
+    if !case.held[number as usize] {
+        return false;
+    }
+    is_side_labelled(case, inside, curve, number + 1)
+}
+
+/// Whether that is the label outside the first edge of that chain of the curve's tube.
+fn is_side_labelled(case: &Case, inside: bool, curve: u32, label: u32) -> bool
+    requires fit { IsFit case.now }
+    requires half_arc { IsHalfArc (judged case.now).drawing curve }
+    ensures { IsTrue result ↔ (side_label (judged case.now) inside curve ≡ label) }
+{
+    side_label(case, inside, curve) == label
 }
 
 /// The place of the edge over the point in the live list, where the point is in the cell that the
 /// certificate says, with its label on both sides, and is no event.
 fn cell_of(case: &Case, event: u32, live: &[u32], upto: Option<Point>, spot: Spot) -> Option<usize>
-    requires fit { IsFit (judged case.now) }
+    requires fit { IsFit case.now }
     requires event { event ≤ length (judged case.now).table }
     requires live { live.now ≡ live_list (judged case.now) event }
     requires known { AreBelow (length case.now.edges.now) live.now }
@@ -175,8 +208,9 @@ fn cell_of(case: &Case, event: u32, live: &[u32], upto: Option<Point>, spot: Spo
     Some(position as usize)
 }
 
-fn place_of(case: &Case, number: u32) -> PointPlace
-    requires fit { IsFit (judged case.now) }
+/// Where the point is placed.
+pub fn place_of(case: &Case, number: u32) -> PointPlace
+    requires fit { IsFit case.now }
     requires number { number < length (judged case.now).points }
     ensures { result ≡ place_at (judged case.now) number }
 {
@@ -196,7 +230,7 @@ fn is_at(at: Point, upto: Option<Point>) -> bool
 
 /// Whether the point is between the edges on both sides of the place, with its label at both.
 fn is_in_cell(case: &Case, live: &[u32], place: usize, spot: Spot) -> bool
-    requires fit { IsFit (judged case.now) }
+    requires fit { IsFit case.now }
     requires known { AreBelow (length case.now.edges.now) live.now }
     requires spot { IsPointOf (judged case.now).points spot }
     ensures { IsTrue result ↔ IsBetweenEdges (judged case.now) live.now spot.number place }

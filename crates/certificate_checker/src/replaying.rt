@@ -21,7 +21,7 @@ use straight_predicates::Row;
 
 /// Goes over all events, and names the first one that breaks a rule. It takes no memory.
 pub fn replay(case: &Case, state: &mut State) -> Result<(), Broken>
-    requires fit { IsFit (judged case.now) }
+    requires fit { IsFit case.now }
     requires begun { HasReplayed (judged case.now) 0 state.old }
     ensures done { OnOk result (HasReplayed (judged case.now) (length (judged case.now).table)
         state.new) }
@@ -38,7 +38,7 @@ pub fn replay(case: &Case, state: &mut State) -> Result<(), Broken>
 
 /// Places the points up to the event of that number.
 fn place_to(case: &Case, event: u32, state: &mut State)
-    requires fit { IsFit (judged case.now) }
+    requires fit { IsFit case.now }
     requires event { event ≤ length (judged case.now).table }
     requires replayed { HasReplayed (judged case.now) event state.old }
     ensures replayed { HasReplayed (judged case.now) event state.new }
@@ -55,7 +55,7 @@ fn place_to(case: &Case, event: u32, state: &mut State)
 }
 
 fn step(case: &Case, event: u32, state: &mut State) -> Result<(), Broken>
-    requires fit { IsFit (judged case.now) }
+    requires fit { IsFit case.now }
     requires event { event < length (judged case.now).table }
     requires replayed { HasReplayed (judged case.now) event state.old }
     ensures done { OnOk result (HasReplayed (judged case.now) (suc event) state.new) }
@@ -68,7 +68,7 @@ fn step(case: &Case, event: u32, state: &mut State) -> Result<(), Broken>
 }
 
 fn test_event(case: &Case, event: u32, state: &State) -> Result<(), Broken>
-    requires fit { IsFit (judged case.now) }
+    requires fit { IsFit case.now }
     requires event { event < length (judged case.now).table }
     requires replayed { HasReplayed (judged case.now) event state.now }
     ensures passes { OnOk result (PassesEvent (judged case.now) event) }
@@ -83,7 +83,7 @@ fn test_event(case: &Case, event: u32, state: &State) -> Result<(), Broken>
 /// Marks the half-edges beside the new neighbours, turns the event, and puts the edges that start
 /// there in the place of those that end.
 fn go_on(case: &Case, event: u32, state: &mut State)
-    requires fit { IsFit (judged case.now) }
+    requires fit { IsFit case.now }
     requires event { event < length (judged case.now).table }
     requires replayed { HasReplayed (judged case.now) event state.old }
     requires later { IsLater (judged case.now) event state.old.placing.next
@@ -108,7 +108,7 @@ fn go_on(case: &Case, event: u32, state: &mut State)
 }
 
 fn mark_event(case: &Case, event: u32, live: &[u32], border: &mut [bool], across: &mut [bool])
-    requires fit { IsFit (judged case.now) }
+    requires fit { IsFit case.now }
     requires event { event < length (judged case.now).table }
     requires passed { (j : ℕ) → j < event → PassesEvent (judged case.now) j }
     requires passes { PassesEvent (judged case.now) event }
@@ -130,7 +130,7 @@ fn mark_event(case: &Case, event: u32, live: &[u32], border: &mut [bool], across
 }
 
 fn move_event(case: &Case, event: u32, live: &mut Row<u32>, mesh: &mut Mesh, fan: &mut [HalfEdgeId])
-    requires fit { IsFit (judged case.now) }
+    requires fit { IsFit case.now }
     requires event { event < length (judged case.now).table }
     requires passes { PassesEvent (judged case.now) event }
     requires moved { IsMovedTo (judged case.now) event (values_of live.old) (room_of live.old)

@@ -1,4 +1,4 @@
-use Rattle.std.proofs.Common.{◌∙◌, arith, List, ℕ, length, subst}
+use Rattle.std.proofs.Common.{arith, List, ℕ, length, subst}
 use Rattle.straight_predicates.specs.Rows.{room_of, values_of}
 use Rattle.event_mesh.specs.Built.{IsMeshOf}
 use Rattle.certificate_checker.specs.Cases.{judged}
@@ -9,8 +9,8 @@ use Rattle.certificate_checker.proofs.checking.begin.Goals as goal
 pub returns : goal.returns
 returns c = record {
   moved = none_moved (judged c.args.case.now) (values_of c.in_ok-live.live) (room_of c.in_ok-live.live) c.widest.result (length c.in_ok-fan.fan.items) c.in_ok-mesh.mesh c.in_ok-live.ensures.values c.in_ok-live.ensures.room c.widest.ensures c.in_ok-fan.ensures
-      (none_turned (judged c.args.case.now) c.requires.counts c.events.result c.in_ok-of.of.low.items c.in_ok-of.of.high.items c.in_ok-of.ensures c.in_ok-mesh.mesh
-      (subst (λ (ls : List ℕ). IsMeshOf c.events.result ls c.in_ok-of.of.high.items (length ls) c.in_ok-mesh.mesh) c.deref.ensures.value
+      (none_turned (judged c.args.case.now) c.requires.fit.counts c.events.result c.args.of.now.low.items c.args.of.now.high.items c.requires.of c.in_ok-mesh.mesh
+      (subst (λ (ls : List ℕ). IsMeshOf c.events.result ls c.args.of.now.high.items (length ls) c.in_ok-mesh.mesh) c.deref.ensures.value
       (subst (λ (hs : List ℕ). IsMeshOf c.events.result c.deref.result.now hs (length c.deref.result.now) c.in_ok-mesh.mesh) c.deref-2.ensures.value c.in_ok-mesh.ensures)));
   border = none_marked (judged c.args.case.now) IsAtBorder c.in_ok-border.border.items c.len-size.result c.in_ok-border.ensures (let a = c.len-size.ensures in omega (arith, a));
   across = none_marked (judged c.args.case.now) (NamesAcross c.args.case.now.certificate.now.notes.items) c.in_ok-across.across.items c.len-size.result c.in_ok-across.ensures (let a = c.len-size.ensures in omega (arith, a));

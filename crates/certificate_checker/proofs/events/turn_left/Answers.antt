@@ -1,4 +1,4 @@
-use Rattle.std.proofs.Common.{◌≡◌, ℕ, IsTrue, false, rules, arith, pos, ◌<ℤ◌, ◌<◌, length, get_or, suc}
+use Rattle.std.proofs.Common.{◌≡◌, ℕ, IsTrue, false, rules, arith, pos, ◌<ℤ◌, length, get_or}
 use Rattle.plane.specs.Runs.Positions.{turn_at}
 use Rattle.straight_predicates.specs.EdgeLists.{edge_of}
 use Rattle.certificate_checker.proofs.Closeness.{high_close}

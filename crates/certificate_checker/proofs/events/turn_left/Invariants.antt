@@ -1,4 +1,4 @@
-use Rattle.std.proofs.Common.{◌≡◌, ℕ, suc, ◌<◌, pos, ◌<ℤ◌, get_or}
+use Rattle.std.proofs.Common.{ℕ, suc, ◌<◌, pos, ◌<ℤ◌, get_or}
 use Rattle.plane.specs.Runs.Positions.{turn_at}
 use Rattle.straight_predicates.specs.EdgeLists.{edge_of}
 use Rattle.certificate_checker.proofs.events.turn_left.Given as goal

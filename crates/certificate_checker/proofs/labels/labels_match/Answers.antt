@@ -1,4 +1,4 @@
-use Rattle.certificate_checker.proofs.ListParts.{at_note, before_note, match_end, match_more, match_no}
+use Rattle.certificate_checker.proofs.ListParts.{at_note, before_note}
 use Rattle.certificate_checker.proofs.labels.labels_match.Goals as goal
 
 pub label_over-label-requires-clause-edge : goal.label_over-label-requires-clause-edge

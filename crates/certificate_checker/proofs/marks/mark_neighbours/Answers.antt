@@ -1,4 +1,3 @@
-use Rattle.plane.specs.Runs.Gaps.{gaps_between}
 use Rattle.certificate_checker.specs.Marked.{IsAtBorder, NamesAcross}
 use Rattle.certificate_checker.proofs.ListParts.{one_note}
 use Rattle.certificate_checker.proofs.Marking.{marking_last, marking_step}

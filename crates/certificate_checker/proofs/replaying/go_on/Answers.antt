@@ -1,4 +1,4 @@
-use Rattle.std.proofs.Common.{suc, ◌∙◌, List, Bool, ℕ, length, subst, sym}
+use Rattle.std.proofs.Common.{suc, ◌∙◌, List, ℕ, length, subst, sym}
 use Rattle.std.proofs.lemmas.List.{with_items_is}
 use Rattle.straight_predicates.specs.Rows.{room_of, values_of}
 use Rattle.certificate_checker.specs.Cases.{judged}

@@ -1,6 +1,0 @@
-use Rattle.certificate_checker.specs.Cases.{judged}
-use Rattle.certificate_checker.proofs.Linking.{rank_as}
-use Rattle.certificate_checker.proofs.links.rank_at.Goals as goal
-
-pub returns : goal.returns
-returns c = rank_as (judged c.args.case.now) c.deref-notes.result.now c.args.h _ c.deref-notes.ensures.value c.requires
