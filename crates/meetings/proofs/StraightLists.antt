@@ -122,7 +122,7 @@ module _ (low high : Point) (curves : List Curve) (edges : List Edge) (numbers :
   both_inside e c d (inl q) = (subst (IsInside low high) (sym q.0) d.from, subst (IsInside low high) (sym q.1) d.to)
   both_inside e c d (inr q) = (subst (IsInside low high) (sym q.0) d.to, subst (IsInside low high) (sym q.1) d.from)
 
-  inside : (m : ℕ) → m < length edges → IsInside low high (edge_of edges m).low × IsInside low high (edge_of edges m).high
+  pub inside : (m : ℕ) → m < length edges → IsInside low high (edge_of edges m).low × IsInside low high (edge_of edges m).high
   inside m l = let s = a.each m l in both_inside (edge_of edges m) (curve_of curves (number_of numbers m)) (drawn (number_of numbers m) _ s.known) s.ends
 
   pub all_close : AreAllClose edges

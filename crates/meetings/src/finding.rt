@@ -1,16 +1,13 @@
 // A bad pair of a drawing.
-ghost use Rattle.std.specs.Prelude.{◌≡◌, ℕ, ◌<◌, None, IfOk, IfSome, length, slice_index};
+ghost use Rattle.std.specs.Prelude.{◌≡◌, ℕ, None, IfOk, IfSome};
 ghost use Rattle.plane.specs.Rule.BadPairs.{IsBadPair};
 ghost use Rattle.plane.specs.Rule.Plans.{plan, curve};
 ghost use Rattle.plane.specs.Rule.Triangles.{Apart};
-ghost use Rattle.line_sweep.specs.Kinds.{AreBad};
 ghost use Rattle.meetings.specs.CurvePairs.{AreBothStraight};
-ghost use Rattle.meetings.specs.StraightEdges.{IsRising};
 
 use super::arcs::arc_meeting;
-use super::edges::{Straights, straight_edges};
 use super::pairs::BadPair;
-use line_sweep::{SweepRefusal, sweep};
+use super::straight_runs::{StraightRun, sweep_straights};
 use plane::Drawing;
 use ports::Memory;
 use std::alloc::Global;
@@ -42,37 +39,8 @@ fn straight_meeting(alloc: Global, drawing: &Drawing) -> Result<Option<BadPair>,
         (curve (plan drawing.now) i) (curve (plan drawing.now) j)
         → IsBadPair (plan drawing.now) i j → ⊥) }
 {
-    let straights = straight_edges(alloc, drawing)?;
-    match sweep(alloc, &straights.edges) {
-        Ok(_) => Ok(None),
-        Err(SweepRefusal::Bad { first, second }) => {
-            Ok(Some(in_order(&straights, first, second)))
-        }
-        Err(SweepRefusal::Memory) => Err(Memory),
-    }
-}
-
-/// The numbers of two edges' curves, the lesser first.
-fn in_order(straights: &Straights, first: u32, second: u32) -> BadPair
-    requires bad { AreBad straights.now.edges.items first second }
-    requires size { length straights.now.numbers.items ≡ length straights.now.edges.items }
-    requires rising { IsRising straights.now.numbers.items }
-    ensures bad { (a b : ℕ) × AreBad straights.now.edges.items a b
-        × (result.first ≡ slice_index straights.now.numbers.items a)
-        × (result.second ≡ slice_index straights.now.numbers.items b) }
-    ensures order { result.first < result.second }
-{
-    let a = straights.numbers[first as usize];
-    let b = straights.numbers[second as usize];
-    if a < b {
-        BadPair {
-            first: a,
-            second: b,
-        }
-    } else {
-        BadPair {
-            first: b,
-            second: a,
-        }
+    match sweep_straights(alloc, drawing)? {
+        StraightRun::Bad(pair) => Ok(Some(pair)),
+        StraightRun::Clear { .. } => Ok(None),
     }
 }

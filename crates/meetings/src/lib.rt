@@ -3,7 +3,8 @@
 //! - **What it answers.** `bad_meeting`: some pair of curves that is bad, the lesser number first,
 //!   or None exactly where the drawing has no such pair. Two straights are named where some are
 //!   bad; else the least pair with a half arc, by its first number, then by its second
-//!   (`arc_meeting`). `is_on`: whether a point is on a curve. `reach`: a box that holds a curve.
+//!   (`arc_meeting`). `sweep_straights`: the run of the straights' edges, or two that are bad.
+//!   `is_on`: whether a point is on a curve. `reach`: a box that holds a curve.
 //! - **The rule that it serves.** Lines of an area meet in control points alone. What it names is
 //!   not apart in the sense of that rule (`plane::rule::bad_curves_are_not_apart`).
 //! - **How.** The straights' edges are swept (`line_sweep`). Pairs with a half arc are tested where
@@ -31,9 +32,12 @@ mod finding;
 mod pairs;
 mod placing;
 mod reaching;
+mod straight_runs;
 
 pub use arcs::arc_meeting;
+pub use edges::Straights;
 pub use finding::bad_meeting;
 pub use pairs::BadPair;
 pub use placing::is_on;
 pub use reaching::reach;
+pub use straight_runs::{StraightRun, sweep_straights};

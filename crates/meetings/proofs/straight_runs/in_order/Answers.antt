@@ -2,7 +2,7 @@ use Rattle.std.proofs.Common.{◌<◌, length, ◌∙◌, arith}
 use Rattle.std.proofs.lemmas.Grind.{get_or_default_zero}
 use Rattle.meetings.proofs.BadCurves.{bad_back}
 use Rattle.meetings.proofs.StraightLists.{lesser_number}
-use Rattle.meetings.proofs.finding.in_order.Goals as goal
+use Rattle.meetings.proofs.straight_runs.in_order.Goals as goal
 
 pub returns-else-a-b-clause-bad : goal.returns-else-a-b-clause-bad
 returns-else-a-b-clause-bad c =

@@ -1,0 +1,12 @@
+pub mod Choices
+pub mod BoxPoints
+pub mod GroupEdges
+pub mod TubePlaces
+pub mod NumberedEdges
+pub mod AnyEdges
+pub mod Unbroken
+pub mod ShortForm
+pub mod PlacedGroups
+pub mod LevelListing
+pub mod BrokenPairs
+pub mod FirstBreaks

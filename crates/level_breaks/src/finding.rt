@@ -1,0 +1,206 @@
+// The first two curves that break a level.
+ghost use Rattle.std.specs.Prelude.{◌≡◌, ◌↔◌, ◌≤◌, ℕ, ◌<◌, Some, None, IfOk, IfSome, IsTrue};
+ghost use Rattle.std.specs.Prelude.{length};
+ghost use Rattle.plane.specs.Rule.Plans.{plan};
+ghost use Rattle.near_pairs.specs.LeastPairs.{IsLeastPair};
+ghost use Rattle.tubes.specs.Settled.{AreTubesAt, Breaks, IsFirstBreak, IsSettledAt};
+ghost use Rattle.level_breaks.specs.GroupBreaks.{AreBroken, BreakOneWay, HasEdges};
+ghost use Rattle.level_breaks.specs.Groups.{AreGroups};
+ghost use Rattle.level_breaks.specs.LevelLists.{HasNoBadStraights, IsLesser};
+
+use super::chords::is_under_chord;
+use super::entering::is_entered;
+use super::groups::Group;
+use super::listing::{boxes, first_bare, half_arc_marks, is_half_arc, level_tubes};
+use super::meeting::edges_meet;
+use super::pairs::LevelBreak;
+use near_pairs::{NearPair, PairTest, Reach, least};
+use plane::Drawing;
+use ports::Memory;
+use std::alloc::Global;
+use tubes::Tube;
+
+/// A drawing with its tubes at a level and the boxes of its curves, of which pairs are tested.
+#[derive(Drop)]
+struct BreakTest<'a> {
+    drawing: &'a Drawing,
+    level: u8,
+    tubes: &'a [Option<Tube>],
+    boxes: &'a [Reach],
+}
+
+impl<'a> BreakTest<'a> {
+    ghost use Rattle.std.specs.Prelude.{◌≡◌, ◌<◌, length};
+    ghost use Rattle.near_pairs.specs.Boxes.{reach_of};
+    ghost use Rattle.plane.specs.Rule.Plans.{curve, plan};
+    ghost use Rattle.level_breaks.specs.LevelLists.{tube_of};
+
+    fn group(&self, number: u32) -> Group<'a>
+        requires there { number < length self.now.drawing.now.curves.items }
+        requires tubes { number < length self.now.tubes.now }
+        requires boxes { number < length self.now.boxes.now }
+        ensures curve { result.curve.now ≡ curve (plan self.now.drawing.now) number }
+        ensures tube { result.tube.now ≡ tube_of self.now.tubes.now number }
+        ensures reach { result.reach ≡ reach_of self.now.boxes.now number }
+    {
+        let number = number as usize;
+        Group {
+            curve: &self.drawing.curves[number],
+            tube: &self.tubes[number],
+            reach: self.boxes[number],
+        }
+    }
+}
+
+impl<'a> PairTest for BreakTest<'a> {
+    ghost use Rattle.std.specs.Prelude.{◌<◌, ◌≤◌, length};
+    ghost use Rattle.plane.specs.Rule.Plans.{plan};
+    ghost use Rattle.tubes.specs.Settled.{AreTubesAt, Breaks};
+    ghost use Rattle.level_breaks.specs.LevelLists.{AreBoxesTo};
+
+    ghost can_test = { λ s i j. (i < j) × (j < length s.drawing.now.curves.items) × (s.level ≤ 5)
+        × AreTubesAt (plan s.drawing.now) s.level s.tubes.now
+        × AreBoxesTo s.drawing.now.curves.items s.tubes.now
+        (length s.drawing.now.curves.items) s.boxes.now };
+
+    ghost sought = { λ s i j. Breaks (plan s.drawing.now) s.level i j };
+
+    fn is_sought(&self, first: u32, second: u32) -> bool {
+        let one = self.group(first);
+        let other = self.group(second);
+        plane::settled::own_edges_of_tubes();
+        have_edges(&one, &other) && are_broken(&one, &other)
+    }
+}
+
+fn have_edges(one: &Group, other: &Group) -> bool
+    ensures { IsTrue result ↔ (HasEdges one.now.curve.now one.now.tube.now
+        × HasEdges other.now.curve.now other.now.tube.now) }
+{
+    has_edges(one) && has_edges(other)
+}
+
+/// Whether the curve is a straight or has a tube.
+fn has_edges(group: &Group) -> bool
+    ensures { IsTrue result ↔ HasEdges group.now.curve.now group.now.tube.now }
+{
+    group.tube.is_some() || !is_half_arc(group.curve)
+}
+
+fn are_broken(one: &Group, other: &Group) -> bool
+    requires { AreGroups one.now other.now }
+    ensures { IsTrue result ↔ AreBroken one.now.curve.now one.now.tube.now
+        other.now.curve.now other.now.tube.now }
+{
+    edges_meet(one, other) || break_one_way(one, other) || break_one_way(other, one)
+}
+
+fn break_one_way(one: &Group, other: &Group) -> bool
+    requires { AreGroups one.now other.now }
+    ensures { IsTrue result ↔ BreakOneWay one.now.curve.now one.now.tube.now
+        other.now.curve.now other.now.tube.now }
+{
+    is_entered(one, other) || is_under_chord(one, other)
+}
+
+/// The least pair of curves that breaks the level, by its first number, then by its second; a half
+/// arc without a tube is named twice. None exactly where the level settles the drawing. No two
+/// straights of the drawing may be bad. The only error is want of memory.
+pub fn first_break(
+    alloc: Global,
+    drawing: &Drawing,
+    level: u8,
+) -> Result<Option<LevelBreak>, Memory>
+    requires level { level ≤ 5 }
+    requires straights { HasNoBadStraights (plan drawing.now) }
+    ensures settled { IfOk result (λ r. r ≡ None → IsSettledAt (plan drawing.now) level) }
+    ensures breaks { IfOk result (λ r. IfSome r (λ p.
+        IsFirstBreak (plan drawing.now) level p.first p.second)) }
+{
+    plane::sweeps::meetings_are_decided();
+    plane::settled::own_edges_of_tubes();
+    tubes::laws::edges_of_tubed_drawing();
+    let tubes = level_tubes(alloc, drawing, level)?;
+    let pair = first_pair(alloc, drawing, level, &tubes)?;
+    let bare = first_bare(&drawing.curves, &tubes);
+    Ok(lesser(pair, bare))
+}
+
+/// The least pair of two curves that breaks the level.
+fn first_pair(
+    alloc: Global,
+    drawing: &Drawing,
+    level: u8,
+    tubes: &[Option<Tube>],
+) -> Result<Option<NearPair>, Memory>
+    requires level { level ≤ 5 }
+    requires straights { HasNoBadStraights (plan drawing.now) }
+    requires tubes { AreTubesAt (plan drawing.now) level tubes.now }
+    ensures some { IfOk result (λ r. IfSome r (λ p. IsLeastPair
+        (Breaks (plan drawing.now) level) (length drawing.now.curves.items) p)) }
+    ensures none { IfOk result (λ r. r ≡ None → (i j : ℕ) → i < j
+        → j < length drawing.now.curves.items → Breaks (plan drawing.now) level i j → ⊥) }
+{
+    plane::arcs::boxes_hold_means();
+    plane::rule::edges_of_straights();
+    let boxes = boxes(alloc, &drawing.curves, tubes)?;
+    let marks = half_arc_marks(alloc, &drawing.curves)?;
+    let test = BreakTest {
+        drawing,
+        level,
+        tubes,
+        boxes: &boxes,
+    };
+    least(alloc, &boxes, &marks, &test)
+}
+
+/// The lesser of a pair of two curves and of one curve, named twice.
+fn lesser(pair: Option<NearPair>, bare: Option<u32>) -> Option<LevelBreak>
+    requires { IfSome pair (λ p. p.first < p.second) }
+    ensures none { result ≡ None → (pair ≡ None) × (bare ≡ None) }
+    ensures some { IfSome result (IsLesser pair bare) }
+{
+    match pair {
+        Some(pair) => Some(lesser_of(pair, bare)),
+        None => match bare {
+            Some(curve) => Some(twice(curve)),
+            None => None,
+        },
+    }
+}
+
+fn lesser_of(pair: NearPair, bare: Option<u32>) -> LevelBreak
+    requires { pair.first < pair.second }
+    ensures { IsLesser (Some pair) bare result }
+{
+    match bare {
+        Some(curve) => {
+            if pair.first < curve {
+                of_two(pair)
+            } else {
+                twice(curve)
+            }
+        }
+        None => of_two(pair),
+    }
+}
+
+fn of_two(pair: NearPair) -> LevelBreak
+    ensures first { result.first ≡ pair.first }
+    ensures second { result.second ≡ pair.second }
+{
+    LevelBreak {
+        first: pair.first,
+        second: pair.second,
+    }
+}
+
+fn twice(curve: u32) -> LevelBreak
+    ensures first { result.first ≡ curve }
+    ensures second { result.second ≡ curve }
+{
+    LevelBreak {
+        first: curve,
+        second: curve,
+    }
+}

@@ -1,0 +1,32 @@
+// Laws of levels and of the pairs that break them.
+ghost use Rattle.std.specs.Prelude.{◌⊎◌, ℕ};
+ghost use Rattle.plane.specs.Rule.BadPairs.{IsBadPair};
+ghost use Rattle.plane.specs.Rule.Plans.{IsHalfArc, Plan};
+ghost use Rattle.tubes.specs.DrawnEdges.{AreStraights};
+ghost use Rattle.tubes.specs.Settled.{Breaks, IsSettledAt};
+
+/// No two curves break a level that settles the drawing.
+pub fn settled_is_unbroken()
+    ensures { (d : Plan) (level i j : ℕ) → IsSettledAt d level → Breaks d level i j → ⊥ }
+{
+    plane::sweeps::meetings_are_decided();
+}
+
+/// Where no two curves are bad, one of two that break a level is a half arc.
+pub fn undecided_has_half_arc()
+    ensures { (d : Plan) (level i j : ℕ) → ((k l : ℕ) → IsBadPair d k l → ⊥)
+        → Breaks d level i j → IsHalfArc d i ⊎ IsHalfArc d j }
+{
+    plane::rule::edges_of_straights();
+}
+
+/// A drawing of straights of which no two are bad is settled at level 0.
+pub fn straights_are_settled()
+    ensures { (d : Plan) → AreStraights d → ((k l : ℕ) → IsBadPair d k l → ⊥)
+        → IsSettledAt d 0 }
+{
+    plane::rule::edges_of_straights();
+    plane::sweeps::meetings_are_decided();
+    plane::settled::own_edges_of_tubes();
+    tubes::laws::edges_of_tubed_drawing();
+}

@@ -1,0 +1,44 @@
+//! Which two curves of a drawing break a level.
+//!
+//! - **What it answers.** `first_break`: the least two curves that break the level, by the first
+//!   number, then by the second; a half arc that has no tube at the level breaks it alone, and is
+//!   named twice. None exactly where the level settles the drawing.
+//! - **The rule that it serves.** A level settles a drawing where every two edges that stand for
+//!   its curves meet in common ends alone, corners of tubes are their own, and nothing enters a
+//!   tube (`IsSettledAt` and `Breaks` of `tubes`). No two curves break a level that settles the
+//!   drawing (`laws::settled_is_unbroken`); where no two curves are bad, one of two that break a
+//!   level is a half arc (`laws::undecided_has_half_arc`), and straights alone are settled at level
+//!   0 (`laws::straights_are_settled`).
+//! - **What it asks for.** No two straights of the drawing are bad. So pairs of straights are not
+//!   tested.
+//! - **How.** Two curves break a level exactly where one of three things holds: two of their edges,
+//!   one of each curve, meet badly; an edge of one of them ends in the tube of the other, at no end
+//!   of that curve; or one of them is a straight between the ends of the other, a half arc whose
+//!   tube has an inner corner on the chord or beyond it. A tube alone breaks nothing. In each case
+//!   boxes round the ends of their edges share a place, so that `near_pairs` finds the pairs to
+//!   test; within a pair edges and points are held against the other curve's box first.
+//! - **Widths.** Corners of tubes leave the window by less than 2^28 units, so that all differences
+//!   are below 2^41, as turns and meetings of edges ask.
+//! - **Degenerate cases.** No curve, half arcs of a few units and of half a turn and more, flat
+//!   ones, third points on either side, straights along a chord, and curves that share one end or
+//!   both are taken.
+//! - **Not here:** the sweep of a level's edges, and which level is tried.
+//!
+//! Cost: the tubes of the level; then half arcs times the curves that begin within their boxes
+//! along x, or the other way round, and for those whose boxes share a place at most the product of
+//! their edges. Memory: 32 bytes for each corner pair of a tube (32 K bytes with K = 2^(level + 1)
+//! bays), a `Tube` and 65 bytes a curve.
+#![tactic(auto)]
+
+mod boxes;
+mod chords;
+mod entering;
+mod finding;
+mod groups;
+pub mod laws;
+mod listing;
+mod meeting;
+mod pairs;
+
+pub use finding::first_break;
+pub use pairs::LevelBreak;
