@@ -1,5 +1,5 @@
--- The answer to a drawing of straights: the first line that fits counts.
-use Rattle.std.specs.Prelude.{◌≡◌, ℕ, ◌<◌, Bool, true, false, []}
+-- The answer to a drawing: the first line that fits counts.
+use Rattle.std.specs.Prelude.{◌≡◌, ℕ, ◌<◌, ◌≤◌, Bool, true, false, []}
 use Rattle.plane.specs.Rule.BadPairs.{IsBadPair}
 use Rattle.plane.specs.Rule.Plans.{Plan}
 use Rattle.certificate.specs.declared.notes.Certificate.{Certificate}
@@ -8,7 +8,8 @@ use Rattle.certificate_checker.specs.Verdicts.{Proves}
 use Rattle.area_search.specs.declared.kinds.AreaFinding.{AreaFinding}
 use Rattle.area_search.specs.declared.kinds.AreaFinding.TheVariants.{Meeting, On, Outside, Two, Empty}
 use Rattle.area_search.specs.declared.kinds.AreaAnswer.{AreaAnswer}
-use Rattle.area_search.specs.declared.kinds.AreaAnswer.TheVariants.{Proved, Fault}
+use Rattle.area_search.specs.declared.kinds.AreaAnswer.TheVariants.{Proved, Fault, Undecided}
+use Rattle.tubes.specs.Settled.{IsFirstBreak, IsSettledAt}
 use Rattle.area_search.specs.Faults.{LiesOn, LiesOutside, AreTwo, IsEmptySide}
 
 -- ---- none of a kind
@@ -53,6 +54,21 @@ pub record IsLeastEmpty (d : Plan) (i : ℕ) (left : Bool) : Type 0 where
   pub no_curve : (k : ℕ) (side : Bool) → k < i → IsEmptySide d k side → ⊥
   pub no_left : left ≡ false → IsEmptySide d i true → ⊥
 
+-- ---- levels
+-- The level is the least one that settles the drawing.
+pub record IsLeastLevel (d : Plan) (level : ℕ) : Type 0 where
+  pub low : level ≤ 5
+  pub settled : IsSettledAt d level
+  pub least : (l : ℕ) → l < level → IsSettledAt d l → ⊥
+
+-- some level settles the drawing
+abbrev pub IsSettled : Plan → Type 0
+IsSettled d = (level : ℕ) × IsLeastLevel d level
+
+-- none does
+abbrev pub IsUnsettled : Plan → Type 0
+IsUnsettled d = (level : ℕ) → level ≤ 5 → IsSettledAt d level → ⊥
+
 -- the certificate has no names
 pub record IsNameless (c : Certificate) : Type 0 where
   pub topic : c.topic ≡ []
@@ -65,17 +81,20 @@ pub data IsAnswer (d : Plan) : AreaAnswer → Type 0 where
   meeting : (i j : ℕ) → IsBadPair d i j → IsAnswer d (Fault (Meeting i j))
   -- else the least point on a curve, and its least curve
   on : (j i : ℕ) → HasNoBadPair d → IsLeastOn d j i → IsAnswer d (Fault (On j i))
+  -- else, where no level settles the drawing, the least pair that breaks the last level
+  undecided : (i j : ℕ) → AreClear d → IsUnsettled d → IsFirstBreak d 5 i j → IsAnswer d (Undecided i j)
   -- else the least point outside
-  outside : (j : ℕ) → AreClear d → IsLeastOutside d j → IsAnswer d (Fault (Outside j))
+  outside : (j : ℕ) → AreClear d → IsSettled d → IsLeastOutside d j → IsAnswer d (Fault (Outside j))
   -- else the least two points that are joined
-  two : (i j : ℕ) → AreInside d → AreLeastTwo d i j → IsAnswer d (Fault (Two i j))
+  two : (i j : ℕ) → AreInside d → IsSettled d → AreLeastTwo d i j → IsAnswer d (Fault (Two i j))
   -- else the least empty side
-  empty : (i : ℕ) (left : Bool) → AreAlone d → IsLeastEmpty d i left → IsAnswer d (Fault (Empty i left))
-  -- else a certificate that proves the drawing, at the level of straights
-  proved : (c : Certificate) → Proves d (claims c) → c.level ≡ 0 → IsNameless c → IsAnswer d (Proved c)
+  empty : (i : ℕ) (left : Bool) → AreAlone d → IsSettled d → IsLeastEmpty d i left → IsAnswer d (Fault (Empty i left))
+  -- else a certificate that proves the drawing, at the least level that settles it
+  proved : (c : Certificate) → Proves d (claims c) → IsLeastLevel d c.level → IsNameless c → IsAnswer d (Proved c)
 
 -- Two answers agree where they are equal but for the pair of a meeting, and for what a certificate says at its level.
 pub data Agree : AreaAnswer → AreaAnswer → Type 0 where
   meetings : (i j k l : ℕ) → Agree (Fault (Meeting i j)) (Fault (Meeting k l))
   faults : (f : AreaFinding) → Agree (Fault f) (Fault f)
+  pairs : (i j : ℕ) → Agree (Undecided i j) (Undecided i j)
   certificates : (c e : Certificate) → c.level ≡ e.level → Agree (Proved c) (Proved e)

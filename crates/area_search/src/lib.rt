@@ -1,36 +1,55 @@
 //! The search of an area: the first fault of its drawing, or a certificate that it has none.
 //!
-//! - **What it answers.** For a drawing of straights either a certificate that proves it to be a
-//!   partition, or a fault: two lines that meet badly, else the first point on a line, else the
-//!   first point outside of all lines, else the first two points in one region, else the first side
-//!   of a line that bounds a region without a point. A fault is named by the least numbers, but for
-//!   the two lines that meet badly, of which any pair may be named.
+//! - **What it answers.** For a drawing of straights and half arcs a fault, the first in the order
+//!   of the answers: two curves that meet badly, else a point on a curve, else, after `Undecided`,
+//!   a point outside of all lines, two points in one region, a side of a curve that bounds a region
+//!   without a point. A fault is named by the least numbers, but for two curves that meet badly, of
+//!   which any pair may be named. Where there is none, a certificate that proves the drawing to be
+//!   a partition, at the least level that settles it. `Undecided` names the least pair of curves
+//!   that breaks the last level, where no level settles the drawing; one of them is a half arc.
 //! - **The rule that it serves.** The lines of an area part the plane, and each bounded region
-//!   holds exactly one object's point. A certificate is answered exactly where that is so, and each
-//!   fault contradicts it (`laws::answers_are_right`).
-//! - **How.** One sweep of the edges, which finds a bad pair or a complete run; one replay of the
-//!   run for the places of the points, and one for the mesh of its half-edges; the faces of the
-//!   mesh by what its cells join; and links from each half-edge to the border or to a point. What
-//!   the certificate says is what the run, the places, the faces and the links are
-//!   (`laws::certified_runs_prove`); `certificate_checker` judges it without any of them.
-//! - **Not here yet:** half arcs. A drawing of straights is asked for, and `Undecided` never comes.
+//!   holds exactly one object's point. Of a drawing that a level settles, as each drawing of
+//!   straights is, a certificate is answered exactly where that is so, and each fault contradicts
+//!   it (`laws`).
+//! - **How.** One sweep of the edges of level 0. Where it ends, no corner of a tube is another
+//!   curve's too and both sides of each cell face one tube or none, level 0 settles the drawing
+//!   (`by_sweep`). Else bad pairs are looked for, then points on curves (`on_curves`), then the
+//!   least level without a pair that breaks it (`levels`). Of a drawing that a level settles, with a
+//!   complete run of its edges at that level (`finishing`): one replay of the run for the places of
+//!   the points, which tell for each whether it lies on a curve, in the tube of a half arc or in a
+//!   cell (`spots`); one for the mesh of its half-edges; the faces of the mesh by what its cells
+//!   join, and those beside each curve (`case_sides`); and links from each half-edge to the border,
+//!   a tube or a point. What the certificate says is what the run, the places, the faces and the
+//!   links are; `certificate_checker` judges it without any of them.
 //! - **Degenerate cases.** No line, no point, several rings, holes, lines that end inside a region,
 //!   rings that touch in a vertex, equal points and points at vertices are all taken.
 //! - **Not here:** names of areas, lines of the transfer, and the text of a certificate.
 //!
-//! Cost: O((m + p + events) log (m + p)) for m lines and p points, and what the live list moves in
-//! the sweep and in two replays; some 300 bytes a line at the peak.
+//! Cost: O((m + p + events) log (m + p)) for m edges and p points, and what the live list moves in
+//! the sweep and in two replays; some 300 bytes an edge at the peak. Where level 0 does not settle,
+//! two sweeps of the straights more, half arcs times the curves, points and groups of edges that
+//! begin within their boxes, at each level, and the tubes of a level.
 #![tactic(auto)]
 
-mod certifying;
+mod by_sweep;
+mod case;
+mod case_certificates;
+mod case_judging;
+mod case_notes;
+mod case_roots;
+mod case_sides;
+mod cell_sides;
 mod finding;
-mod judging;
+mod finishing;
 mod kinds;
 pub mod laws;
+mod levels;
 mod meshing;
+mod on_curves;
 mod owners;
 mod points;
 mod sides;
+mod spots;
 mod writing;
 
 pub use finding::find_area;

@@ -1,8 +1,6 @@
 // Small drawings and their answers. Each certificate is handed to the checker.
-ghost use Rattle.std.specs.Prelude.{IfOk, IsTrue, OnOk};
-ghost use Rattle.plane.specs.Rule.Plans.{plan};
+ghost use Rattle.std.specs.Prelude.{IsTrue};
 ghost use Rattle.plane.specs.Rule.Windows.{IsInside};
-ghost use Rattle.tubes.specs.DrawnEdges.{AreAllStraight, AreStraights};
 
 use area_search::{AreaAnswer, AreaFinding, find_area};
 use certificate_checker::{Verdict, check};
@@ -159,10 +157,7 @@ pub fn is_inside(window: &Window2, p: Point) -> bool
     false
 }
 
-fn add_line(drawing: &mut Drawing, line: &[i64; 4]) -> Result<(), Memory>
-    requires { AreAllStraight drawing.old.curves.items }
-    ensures { OnOk result (AreAllStraight drawing.new.curves.items) }
-{
+fn add_line(drawing: &mut Drawing, line: &[i64; 4]) -> Result<(), Memory> {
     let from = Point {
         x: line[0],
         y: line[1],
@@ -181,10 +176,7 @@ fn add_line(drawing: &mut Drawing, line: &[i64; 4]) -> Result<(), Memory>
     Ok(())
 }
 
-fn add_point(drawing: &mut Drawing, point: &[i64; 2]) -> Result<(), Memory>
-    requires { AreAllStraight drawing.old.curves.items }
-    ensures { OnOk result (AreAllStraight drawing.new.curves.items) }
-{
+fn add_point(drawing: &mut Drawing, point: &[i64; 2]) -> Result<(), Memory> {
     let at = Point {
         x: point[0],
         y: point[1],
@@ -195,9 +187,7 @@ fn add_point(drawing: &mut Drawing, point: &[i64; 2]) -> Result<(), Memory>
     Ok(())
 }
 
-fn drawn(alloc: Global, lines: &[[i64; 4]], points: &[[i64; 2]]) -> Result<Drawing, Memory>
-    ensures { IfOk result (λ d. AreStraights (plan d)) }
-{
+fn drawn(alloc: Global, lines: &[[i64; 4]], points: &[[i64; 2]]) -> Result<Drawing, Memory> {
     let mut drawing = Drawing::new(alloc, WINDOW);
     for line in lines {
         add_line(&mut drawing, line)?;
@@ -210,6 +200,7 @@ fn drawn(alloc: Global, lines: &[[i64; 4]], points: &[[i64; 2]]) -> Result<Drawi
 
 fn answers(rt: &impl Abort, alloc: Global, case: &Case) -> Result<(), Fail> {
     let drawing = drawn(alloc, case.1, case.2)?;
+    assert!(rt; drawing.curves.len() <= 100);
     match find_area(alloc, &drawing)? {
         AreaAnswer::Proved(certificate) => {
             assert_eq!(rt; None, case.3, "{}", case.0);

@@ -16,14 +16,14 @@ use straight_predicates::{Turn, turn};
 // The coordinates of a line's vertices, from the window's low corner: two of a straight, three of
 // an arc, which is two half arcs.
 #[derive(Clone, Copy)]
-enum Line {
+pub enum Line {
     Straight([i64; 4]),
     Arc([i64; 6]),
 }
 
 use Line::{Arc, Straight};
 
-const WINDOWS: [Window2; 3] = [
+pub const WINDOWS: [Window2; 3] = [
     Window2 {
         low: Point { x: 0, y: 0 },
         high: Point {
@@ -237,7 +237,7 @@ fn add_arc(drawing: &mut Drawing, start: Point, on: Point, end: Point) -> Result
     Ok(false)
 }
 
-fn drawn(alloc: Global, window: Window2, lines: &[Line]) -> Result<Option<Drawing>, Memory> {
+pub fn drawn(alloc: Global, window: Window2, lines: &[Line]) -> Result<Option<Drawing>, Memory> {
     let mut drawing = Drawing::new(alloc, window);
     for line in lines {
         if !add_line(&mut drawing, line)? {

@@ -181,7 +181,7 @@ fn add_line(drawing: &mut Drawing, line: &Line) -> Result<(), Memory> {
     Ok(())
 }
 
-fn add_point(drawing: &mut Drawing, point: [i64; 2]) -> Result<(), Memory> {
+pub fn add_point(drawing: &mut Drawing, point: [i64; 2]) -> Result<(), Memory> {
     let at = Point {
         x: point[0],
         y: point[1],
@@ -227,7 +227,7 @@ pub fn broken(verdict: Verdict) -> Broken {
 }
 
 // What is broken of the first certificate of a text, rule 1 where there is none.
-fn judge(alloc: Global, drawing: &Drawing, bytes: &[u8]) -> Result<Broken, Memory> {
+pub fn judge(alloc: Global, drawing: &Drawing, bytes: &[u8]) -> Result<Broken, Memory> {
     if bytes.len() > 1 << 30 {
         return Err(Memory);
     }

@@ -1,7 +1,9 @@
-// The edges of small drawings.
+// The edges of small drawings, the sides that face their tubes, and corners of tubes that are not
+// their own.
 use plane::{Drawing, Edge, Point, Window2};
 use std::test::Fail;
-use tubes::{EdgeList, Owner, Part, edge_list, tubed_edge_list};
+use straight_predicates::Timetable;
+use tubes::{EdgeList, Facing, Owner, Part, edge_list, facings, foreign_corner};
 
 const WINDOW: Window2 = Window2 {
     low: Point { x: 0, y: 0 },
@@ -14,24 +16,29 @@ const B: Point = Point { x: 0, y: 50 };
 
 const C: Point = Point { x: 50, y: 50 };
 
+/// An inner corner of the tube of the half arc from B to C, and a point far from both tubes.
+const CORNER: Point = Point { x: 25, y: 60 };
+
+const FAR: Point = Point { x: 50, y: 100 };
+
 /// The ends of the edges of the straight from C to A and of the half arcs from A over B to C, at
-/// level 0, and what each edge is of which curve.
-const TUBED: [([i64; 4], u32, Part); 11] = [
-    ([0, 0, 50, 50], 0, Part::Straight),
-    ([-10, 25, 0, 0], 1, Part::Inner),
-    ([-10, 25, 0, 50], 1, Part::Inner),
-    ([-19, 7, 0, 0], 1, Part::Outer),
-    ([-19, 7, -19, 42], 1, Part::Outer),
-    ([-19, 42, 0, 50], 1, Part::Outer),
-    ([0, 50, 25, 60], 2, Part::Inner),
-    ([25, 60, 50, 50], 2, Part::Inner),
-    ([0, 50, 6, 70], 2, Part::Outer),
-    ([6, 70, 43, 70], 2, Part::Outer),
-    ([43, 70, 50, 50], 2, Part::Outer),
+/// level 0, what each edge is of which curve, and the side that faces its tube.
+const TUBED: [([i64; 4], u32, Part, Facing); 11] = [
+    ([0, 0, 50, 50], 0, Part::Straight, Facing::Neither),
+    ([-10, 25, 0, 0], 1, Part::Inner, Facing::Below),
+    ([-10, 25, 0, 50], 1, Part::Inner, Facing::Above),
+    ([-19, 7, 0, 0], 1, Part::Outer, Facing::Above),
+    ([-19, 7, -19, 42], 1, Part::Outer, Facing::Below),
+    ([-19, 42, 0, 50], 1, Part::Outer, Facing::Below),
+    ([0, 50, 25, 60], 2, Part::Inner, Facing::Above),
+    ([25, 60, 50, 50], 2, Part::Inner, Facing::Above),
+    ([0, 50, 6, 70], 2, Part::Outer, Facing::Below),
+    ([6, 70, 43, 70], 2, Part::Outer, Facing::Below),
+    ([43, 70, 50, 50], 2, Part::Outer, Facing::Below),
 ];
 
 #[test]
-fn straights_have_edges_and_half_arcs_none_yet(rt: HostRuntime) -> Result<(), Fail> {
+fn straights_have_one_edge_each(rt: HostRuntime) -> Result<(), Fail> {
     let mut drawing = Drawing::new(rt.alloc(), WINDOW);
     drawing.add_straight(B, A, 1)?;
     drawing.add_straight(B, C, 2)?;
@@ -52,20 +59,27 @@ fn straights_have_edges_and_half_arcs_none_yet(rt: HostRuntime) -> Result<(), Fa
     assert_eq!(rt; owners[2], last);
     drawing.add_arc(A, B, C, 4, 5)?;
     assert!(rt; edge_list(rt.alloc(), &drawing, 5)?.is_none());
-    assert!(rt; tubed_edge_list(rt.alloc(), &drawing, 5)?.is_none());
     Ok(())
 }
 
 #[test]
 fn half_arcs_have_the_chains_of_their_tubes(rt: HostRuntime) -> Result<(), Fail> {
-    let mut drawing = Drawing::new(rt.alloc(), WINDOW);
+    let alloc = rt.alloc();
+    let mut drawing = Drawing::new(alloc, WINDOW);
     drawing.add_straight(C, A, 1)?;
     drawing.add_arc(A, B, C, 2, 3)?;
-    let list = tubed_edge_list(rt.alloc(), &drawing, 0)?;
-    let EdgeList { edges, owners } = list.expect(&rt, "edges");
-    assert_eq!(rt; edges.len(), TUBED.len());
-    assert_eq!(rt; owners.len(), TUBED.len());
-    for ((edge, owner), (ends, curve, part)) in edges.iter().zip(&owners).zip(TUBED) {
+    let list = edge_list(alloc, &drawing, 0)?.expect(&rt, "edges");
+    let sides = facings(alloc, &drawing, &list)?;
+    assert_eq!(rt; list.edges.len(), TUBED.len());
+    assert_eq!(rt; list.owners.len(), TUBED.len());
+    assert_eq!(rt; sides.len(), TUBED.len());
+    for (((edge, owner), side), (ends, curve, part, facing)) in list
+        .edges
+        .iter()
+        .zip(&list.owners)
+        .zip(&sides)
+        .zip(TUBED)
+    {
         let [low_x, low_y, high_x, high_y] = ends;
         let want = Edge {
             low: Point { x: low_x, y: low_y },
@@ -76,6 +90,25 @@ fn half_arcs_have_the_chains_of_their_tubes(rt: HostRuntime) -> Result<(), Fail>
         };
         assert_eq!(rt; *edge, want);
         assert_eq!(rt; *owner, Owner { curve, part });
+        assert_eq!(rt; *side, facing);
+    }
+    Ok(())
+}
+
+/// The event at (25, 60) is the seventh: before it come the corners of the first tube, its half
+/// arc's ends and a corner of the second tube.
+#[test]
+fn a_corner_at_which_a_straight_ends_is_foreign(rt: HostRuntime) -> Result<(), Fail> {
+    let alloc = rt.alloc();
+    let mut drawing = Drawing::new(alloc, WINDOW);
+    drawing.add_arc(A, B, C, 2, 3)?;
+    for want in [None, Some(6)] {
+        let list = edge_list(alloc, &drawing, 0)?.expect(&rt, "edges");
+        let table = Timetable::new(alloc, &list.edges)?;
+        let of = table.edge_events(alloc, &list.edges)?;
+        let found = foreign_corner(alloc, &drawing, &list, &of.low, &of.high, table.events())?;
+        assert_eq!(rt; found, want);
+        drawing.add_straight(CORNER, FAR, 4)?;
     }
     Ok(())
 }

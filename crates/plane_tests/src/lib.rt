@@ -1,14 +1,18 @@
 //! Tests of the crates of the plane, by their public items alone: predicates and small drawings,
-//! boxes, bad pairs of curves, meshes, the sweep, places of points, faces, certificates, their
-//! checker, and whole areas.
+//! boxes, bad pairs of curves, pairs that break a level, meshes, the sweep, places of points, faces,
+//! certificates, their checker, and whole areas.
 //!
 //! They stand in a crate of their own since a library with tests is proved once more with them.
 #![tactic(auto)]
 
 #[cfg(test)]
+mod arc_certificates;
+#[cfg(test)]
 mod areas;
 #[cfg(test)]
 mod bad_pairs;
+#[cfg(test)]
+mod broken_levels;
 #[cfg(test)]
 mod certificates;
 #[cfg(test)]

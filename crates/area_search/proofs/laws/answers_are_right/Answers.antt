@@ -1,4 +1,4 @@
-use Rattle.area_search.proofs.AnswerLaws.{is_proved, agree, is_partition}
+use Rattle.area_search.proofs.AnswerLaws.{agree, is_partition, is_proved, never_of_straights}
 use Rattle.area_search.proofs.laws.answers_are_right.Goals as goal
 
 pub returns-clause-partition : goal.returns-clause-partition
@@ -9,3 +9,6 @@ returns-clause-proved c = is_proved c.bad_curves_are_not_apart.ensures
 
 pub returns-clause-agree : goal.returns-clause-agree
 returns-clause-agree c = agree c.bad_curves_are_not_apart.ensures c.proves_partition.ensures
+
+pub returns-clause-straights : goal.returns-clause-straights
+returns-clause-straights c = never_of_straights c.straights_are_settled.ensures

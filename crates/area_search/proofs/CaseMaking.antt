@@ -1,0 +1,31 @@
+-- A list of edges at a level that settles the drawing, with its facings and a complete run, is a case.
+use Rattle.std.proofs.Common.{ℕ, List, [], length, subst}
+use Rattle.plane.specs.CurveRuns.Levels.{IsSettledDrawing}
+use Rattle.plane.specs.Rule.Plans.{Plan}
+use Rattle.plane.specs.Runs.Moves.{Fit, Move, steps_from}
+use Rattle.plane.specs.Runs.Steps.{Run, Step}
+use Rattle.plane.specs.declared.kinds.Edge.{Edge}
+use Rattle.straight_predicates.specs.EdgeLists.{edge_of}
+use Rattle.tubes.specs.Settled.{AreFacings, IsSettledAt}
+use Rattle.tubes.specs.TubedEdges.{IsTubedList, drawn_bays}
+use Rattle.tubes.specs.declared.kinds.EdgeList.{EdgeList}
+use Rattle.tubes.specs.declared.kinds.Facing.{Facing}
+use Rattle.area_search.specs.Answers.{IsLeastLevel}
+use Rattle.area_search.specs.Cases.{IsCase}
+
+-- a complete run over the edges of a level that settles a drawing is settled
+abbrev pub RunsAreSettled : Type 0
+RunsAreSettled = (d : Plan) (level : ℕ) (list : EdgeList) (steps : List Step) → IsTubedList d level list → IsSettledAt d level → Run (length list.edges.items) (edge_of list.edges.items) steps
+    → IsSettledDrawing d (drawn_bays d level) (length list.edges.items) (edge_of list.edges.items) steps
+
+pub is_case : RunsAreSettled → (d : Plan) (level : ℕ) (list : EdgeList) (facings : List Facing) (vs : List Move) → IsTubedList d level list → IsLeastLevel d level → AreFacings d level facings
+    → Run (length list.edges.items) (edge_of list.edges.items) (steps_from [] vs) → Fit [] vs → IsCase d level list.edges.items list.owners.items facings vs
+is_case law d level list facings vs t l f run fit = record {
+  low = l.low;
+  tubes = t.tubes;
+  edges_are = t.edges;
+  owners_are = t.owners;
+  facings_are = f;
+  settled = subst (λ (es : List Edge). IsSettledDrawing d (drawn_bays d level) (length es) (edge_of es) (steps_from [] vs)) t.edges (law d level list (steps_from [] vs) t l.settled run);
+  fit = fit;
+}

@@ -1,0 +1,165 @@
+-- The two sides of each cell, and the run of a level's edges whose cells pair.
+use Rattle.std.proofs.Common.{◌≡◌, ◌↔◌, ◌⊎◌, inl, inr, Bool, true, false, IsTrue, ℕ, zero, suc, ◌+◌, ◌*◌, ◌^◌, ◌<◌, ◌≤◌, Option, Some, None, List, [], ◌∷◌, length, map, get_or, refl, sym, ap, subst, ◌∙◌, arith, pos}
+use Rattle.line_sweep.specs.Kinds.{gap_of, gaps_of}
+use Rattle.line_sweep.specs.declared.kinds.Cell.{Cell}
+use Rattle.plane.specs.CurveRuns.FacedTubes.{AreCellsPaired, faced}
+use Rattle.plane.specs.CurveRuns.Levels.{IsSettledDrawing}
+use Rattle.plane.specs.CurveRuns.TubedRuns as runs
+use Rattle.plane.specs.Faces.Classes.{Across, Touches}
+use Rattle.plane.specs.Faces.Halves.{Half, over, under, edge_of as half_edge}
+use Rattle.plane.specs.Faces.Replays.{replay}
+use Rattle.plane.specs.Lists.{Has}
+use Rattle.plane.specs.Rule.Plans.{IsHalfArc, Plan, curve}
+use Rattle.plane.specs.Runs.Gaps.{AtBorder, Gap, GapBetween, closed_gaps}
+use Rattle.plane.specs.Runs.Moves.{Fit, Move, live_from, steps_from}
+use Rattle.plane.specs.Runs.Steps.{Run}
+use Rattle.plane.specs.declared.kinds.CurveKind.TheVariants as kind
+use Rattle.plane.specs.declared.kinds.Edge.{Edge}
+use Rattle.plane.specs.declared.kinds.Point.{Point}
+use Rattle.straight_predicates.specs.EdgeLists.{edge_of}
+use Rattle.tubes.specs.DrawnEdges.{nth_curve}
+use Rattle.tubes.specs.Settled.{AreFacings, HaveTubes, IsOwnCorner, IsSettledAt, edge_at, edges_at, owned_at}
+use Rattle.tubes.specs.TubedEdges.{IsTubedList, drawn_bays, owner_as}
+use Rattle.tubes.specs.declared.kinds.EdgeList.{EdgeList}
+use Rattle.tubes.specs.declared.kinds.Facing.{Facing}
+use Rattle.tubes.specs.declared.kinds.Owner.{Owner}
+use Rattle.tubes.proofs.LevelEdges.{few_edges, of_half_arc, owner_within}
+use Rattle.tubes.proofs.SettledLevels.{level_settled, tubed_run, wide}
+use Rattle.area_search.specs.Answers.{IsLeastLevel}
+use Rattle.area_search.specs.CaseNotes.{tag_at}
+use Rattle.area_search.specs.CaseRoots.{owner_at}
+use Rattle.area_search.specs.Cases.{IsCase}
+use Rattle.area_search.specs.CellSides.{ArePaired, IsPaired, tag_over, tag_under}
+use Rattle.area_search.proofs.PlaneLaws.{across_gap, closed_edges, paired_settle, run_known, run_leaves_none, touches_border}
+use Rattle.area_search.proofs.TubeSides.{owner_count, owner_is, tag_is}
+
+-- ---- cells by number
+module _ (facings : List Facing) (owners : List Owner) where
+  pub nth_cell : (cells : List Cell) (k : ℕ) (x : Cell) → k < length cells → Has (gap_of (get_or cells k x)) (gaps_of cells)
+  nth_cell [] k x l = absurd (omega (arith, l))
+  nth_cell (c ∷ cells) zero x l = inl refl
+  nth_cell (c ∷ cells) (suc k) x l = inr (nth_cell cells k x (omega (arith, l)))
+
+  pub all_cells : (cells : List Cell) → ((k : ℕ) (x : Cell) → k < length cells → IsPaired facings owners (gap_of (get_or cells k x))) → ArePaired facings owners (gaps_of cells)
+  all_cells [] h g m = absurd m
+  all_cells (c ∷ cells) h g (inl e) = subst (IsPaired facings owners) (sym e) (h 0 c (omega arith))
+  all_cells (c ∷ cells) h g (inr m) = all_cells cells (λ k x l. h (suc k) x (omega (arith, l))) g m
+
+-- ---- drawings of straights have no corner of a tube
+pub straights_own : (d : Plan) (level : ℕ) → ((i : ℕ) → i < length d.curves → (nth_curve d.curves i).kind ≡ kind.HalfArc → ⊥) → (p : Point) → IsOwnCorner d level p
+straights_own d level none p e f l k t a b =
+    let h : IsHalfArc d (owned_at d level e).curve = (of_half_arc d level e l).0 t in
+    absurd (none (owned_at d level e).curve h.there h.kind)
+
+-- ---- the run of a level's edges
+module _ (d : Plan) (level : ℕ) (facings : List Facing) (told : AreFacings d level facings) (owners : List Owner) (are : owners ≡ map owner_as (runs.edge_list (drawn_bays d level) 0 d.curves))
+    (vs : List Move) (fit : Fit [] vs) (run : Run (length (edges_at d level)) (edge_at d level) (steps_from [] vs)) (paired : ArePaired facings owners (closed_gaps vs)) where
+  abbrev m : ℕ
+  m = length (edges_at d level)
+
+  abbrev E : ℕ → Edge
+  E = edge_at d level
+
+  abbrev face : Half → ℕ
+  face h = faced d (drawn_bays d level) E h
+
+  within : (g : Gap) (e : ℕ) → Has g (closed_gaps vs) → ((g.lower ≡ Some e) ⊎ (g.upper ≡ Some e)) → e < m
+  within g e h side = let w = closed_edges vs g e fit h side in run_known m E vs w.0 e run w.1 w.2
+
+  tagged : (h : Half) → half_edge h < m → tag_at facings owners h ≡ face h
+  tagged = tag_is d level facings told owners are
+
+  between : (g h : Half) → GapBetween vs g h → face g ≡ face h
+  between (over a) (under b) (c, has, low, up) =
+      sym (tagged (over a) (within c a has (inl low)))
+      ∙ sym (ap (tag_over facings owners) low) ∙ paired c has ∙ ap (tag_under facings owners) up
+      ∙ tagged (under b) (within c b has (inr up))
+  between (over a) (over b) x = absurd x
+  between (under a) h x = absurd x
+
+  at_border : (h : Half) → AtBorder vs h → face h ≡ 0
+  at_border (under e) (c, has, low, up) =
+      sym (tagged (under e) (within c e has (inr up))) ∙ sym (ap (tag_under facings owners) up) ∙ sym (paired c has) ∙ ap (tag_over facings owners) low
+  at_border (over e) (c, has, low, up) =
+      sym (tagged (over e) (within c e has (inl low))) ∙ sym (ap (tag_over facings owners) low) ∙ paired c has ∙ ap (tag_under facings owners) up
+
+  pub cells_paired : AreCellsPaired d (drawn_bays d level) (replay (pos 0) m E (steps_from [] vs))
+  cells_paired = record {
+    across = λ g h x. by_gap g h (across_gap vs fit (run_leaves_none m E vs run) (pos 0) m E g h x);
+    border = λ h x. at_border h (touches_border vs fit (run_leaves_none m E vs run) (pos 0) m E h x);
+  }
+    where
+      by_gap : (g h : Half) → (g ≡ h) ⊎ (GapBetween vs g h ⊎ GapBetween vs h g) → face g ≡ face h
+      by_gap g h (inl e) = ap face e
+      by_gap g h (inr (inl b)) = between g h b
+      by_gap g h (inr (inr b)) = sym (between h g b)
+
+-- ---- level 0
+module _ (d : Plan) (list : EdgeList) (t : IsTubedList d 0 list) (facings : List Facing) (told : AreFacings d 0 facings) (vs : List Move) (fit : Fit [] vs)
+    (run : Run (length list.edges.items) (edge_of list.edges.items) (steps_from [] vs)) (own : (p : Point) → IsOwnCorner d 0 p) (paired : ArePaired facings list.owners.items (closed_gaps vs)) where
+  own_run : Run (length (edges_at d 0)) (edge_at d 0) (steps_from [] vs)
+  own_run = subst (λ (es : List Edge). Run (length es) (edge_of es) (steps_from [] vs)) t.edges run
+
+  own_tubes : runs.IsTubedRun d (drawn_bays d 0) (length (edges_at d 0)) (edge_at d 0) (steps_from [] vs)
+  own_tubes = subst (λ (es : List Edge). runs.IsTubedRun d (drawn_bays d 0) (length es) (edge_of es) (steps_from [] vs)) t.edges (tubed_run d 0 list (steps_from [] vs) t own run)
+
+  settled : IsSettledDrawing d (drawn_bays d 0) (length (edges_at d 0)) (edge_at d 0) (steps_from [] vs)
+  settled = record {
+    run = own_tubes;
+    wide = wide d 0 t.tubes;
+    settled = paired_settle d (drawn_bays d 0) (length (edges_at d 0)) (edge_at d 0) (steps_from [] vs) own_tubes (wide d 0 t.tubes) (pos 0)
+        (cells_paired d 0 facings told list.owners.items t.owners vs fit own_run paired);
+  }
+
+  pub is_case : IsCase d 0 list.edges.items list.owners.items facings vs
+  is_case = record {
+    low = omega arith;
+    tubes = t.tubes;
+    edges_are = t.edges;
+    owners_are = t.owners;
+    facings_are = told;
+    settled = settled;
+    fit = fit;
+  }
+
+  pub is_least : IsLeastLevel d 0
+  is_least = record {
+    low = omega arith;
+    settled = level_settled d 0 (steps_from [] vs) t.tubes settled;
+    least = λ l h s. absurd (omega (arith, h));
+  }
+
+-- ---- the owners of edges have curves of the drawing
+pub curves_below : (d : Plan) (list : EdgeList) (facings : List Facing) → AreFacings d 0 facings → IsTubedList d 0 list → length d.curves < 2 ^ 30 → (e : ℕ) → e < length list.owners.items → (owner_at list.owners.items e).curve < 2 ^ 30
+curves_below d list facings told t few e l =
+    let k : e < length (edges_at d 0) = (let q = owner_count d 0 facings told list.owners.items t.owners in omega (arith, l, q)) in
+    let o = ap (λ (x : Owner). x.curve) (owner_is d 0 facings told list.owners.items t.owners e k) in
+    let c = owner_within d 0 e k in
+    omega (arith, o, c, few)
+
+pub few_of : (d : Plan) (list : EdgeList) → IsTubedList d 0 list → length d.curves ≤ 16000000 → length list.edges.items < 2147483648
+few_of d list t few = let f = few_edges d 0 (omega arith) t.tubes in let q = ap length t.edges in omega (arith, f, q, few)
+
+-- ---- answers of tests
+pub refused : {P : Type 0} → (P → ⊥) → IsTrue false ↔ P
+refused f = ((λ q. absurd (clash q)), (λ p. absurd (f p)))
+  where
+    clash : IsTrue false → ⊥
+    clash q = cc
+
+pub granted : {P : Type 0} → P → IsTrue true ↔ P
+granted p = ((λ q. p), (λ p. refl))
+
+pub unfit : {P : Type 0} (b : Bool) → IsTrue b ↔ P → b ≡ false → P → ⊥
+unfit b f e p = clash b (f.1 p) e
+  where
+    clash : (b : Bool) → IsTrue b → b ≡ false → ⊥
+    clash b t e = cc
+
+-- ---- the same pairs by other names of the lists
+pub paired_level : (facings other : List Facing) (owners named : List Owner) (cells told : List Cell) (vs : List Move)
+    → facings ≡ other → owners ≡ named → cells ≡ told → gaps_of told ≡ closed_gaps vs → ArePaired facings owners (gaps_of cells) → ArePaired other named (closed_gaps vs)
+paired_level facings other owners named cells told vs f o c g h =
+    subst (λ (fs : List Facing). ArePaired fs named (closed_gaps vs)) f
+    (subst (λ (os : List Owner). ArePaired facings os (closed_gaps vs)) o
+    (subst (ArePaired facings owners) (ap gaps_of c ∙ g) h))

@@ -1,0 +1,103 @@
+-- Objects' points on curves: the least of a kind, and the lists in which those on half arcs are looked for.
+use Rattle.std.specs.Prelude.{◌≡◌, ◌⊎◌, ℕ, ◌+◌, ◌-◌, ◌<◌, ◌≤◌, Bool, true, Option, Some, None, List, length, slice_index, slice_index_or, ⊤}
+use Rattle.plane.specs.Forms.Boxes.{HoldsCurve, InBox}
+use Rattle.plane.specs.Rule.Places.{point}
+use Rattle.plane.specs.Rule.Plans.{Plan, curve, object}
+use Rattle.plane.specs.declared.kinds.Curve.{Curve}
+use Rattle.plane.specs.declared.kinds.CurveKind.TheVariants as kind
+use Rattle.plane.specs.declared.kinds.Placed.{Placed}
+use Rattle.plane.specs.declared.kinds.Point.{Point}
+use Rattle.straight_predicates.specs.EdgeLists.{no_point}
+use Rattle.point_location.specs.Places.{no_place}
+use Rattle.point_location.specs.declared.places.Place.{Place}
+use Rattle.point_location.specs.declared.places.Place.TheVariants as place
+use Rattle.near_pairs.specs.Boxes.{box_of, mark_of, reach_of}
+use Rattle.near_pairs.specs.LeastPairs.{IsLess}
+use Rattle.near_pairs.specs.declared.reaches.Reach.{Reach}
+use Rattle.meetings.specs.CurvePairs.{IsJudgedOn}
+use Rattle.meetings.specs.StraightEdges.{IsRising}
+use Rattle.tubes.specs.DrawnEdges.{nth_curve}
+use Rattle.area_search.specs.Answers.{IsLeastOn}
+use Rattle.area_search.specs.Faults.{LiesOn}
+use Rattle.area_search.specs.declared.points.OnCurve.{OnCurve}
+
+-- ---- points on curves
+-- The least point on a curve and the least curve with it; no point is on a curve.
+abbrev pub IsFirstOnCurve : Plan → Option OnCurve → Type 0
+IsFirstOnCurve d None = (j i : ℕ) → LiesOn d j i → ⊥
+IsFirstOnCurve d (Some p) = IsLeastOn d p.point p.curve
+
+pub record LiesOnStraight (d : Plan) (j i : ℕ) : Type 0 where
+  pub on : LiesOn d j i
+  pub straight : (curve d i).kind ≡ kind.Straight
+
+pub record LiesOnArc (d : Plan) (j i : ℕ) : Type 0 where
+  pub on : LiesOn d j i
+  pub half_arc : (curve d i).kind ≡ kind.HalfArc
+
+-- The least of the pairs, by the point, then by the curve; there are none.
+abbrev pub IsLeastOf : (ℕ → ℕ → Type 0) → Option OnCurve → Type 0
+IsLeastOf R None = (j i : ℕ) → R j i → ⊥
+IsLeastOf R (Some p) = R p.point p.curve × ((j i : ℕ) → R j i → IsLess j i p.point p.curve → ⊥)
+
+-- The first is not after the second; none is after all.
+abbrev pub IsNotAfter : Option OnCurve → Option OnCurve → Type 0
+IsNotAfter r None = ⊤
+IsNotAfter None (Some p) = ⊥
+IsNotAfter (Some q) (Some p) = IsLess p.point p.curve q.point q.curve → ⊥
+
+pub record IsLesserOn (a b r : Option OnCurve) : Type 0 where
+  pub is : (r ≡ a) ⊎ (r ≡ b)
+  pub not_first : IsNotAfter r a
+  pub not_second : IsNotAfter r b
+
+-- ---- points on straights
+-- the place is no edge
+abbrev pub IsInCell : Place → Type 0
+IsInCell (place.Cell position lower upper) = ⊤
+IsInCell (place.OnEdge e) = ⊥
+
+-- the first k points are on no edge
+abbrev pub AreInCells : List Place → ℕ → Type 0
+AreInCells places k = (j : ℕ) → j < k → IsInCell (slice_index_or places j no_place)
+
+-- the first point on an edge, with its edge; all points are on none
+abbrev pub IsFirstOn : List Place → Option OnCurve → Type 0
+IsFirstOn places None = AreInCells places (length places)
+IsFirstOn places (Some p) = AreInCells places p.point × (p.point < length places) × (slice_index_or places p.point no_place ≡ place.OnEdge p.curve)
+
+-- ---- points on half arcs
+-- The half arcs among the first k curves, in their order.
+pub record AreArcsTo (curves : List Curve) (k : ℕ) (arcs : List ℕ) : Type 0 where
+  pub few : length arcs ≤ k
+  pub known : (m : ℕ) → m < length arcs → slice_index arcs m < k
+  pub half_arc : (m : ℕ) → m < length arcs → (nth_curve curves (slice_index arcs m)).kind ≡ kind.HalfArc
+  pub rising : IsRising arcs
+  pub whole : (i : ℕ) → i < k → (nth_curve curves i).kind ≡ kind.HalfArc → (m : ℕ) × (m < length arcs) × (slice_index arcs m ≡ i)
+
+-- The number i is that of a point, and j, less the number of points, that of a half arc in the list, on which it is judged to lie.
+pub record IsPointOnArc (d : Plan) (arcs : List ℕ) (i j : ℕ) : Type 0 where
+  pub point_there : i < length d.points
+  pub after : length d.points ≤ j
+  pub within : (j - length d.points) < length arcs
+  pub judged : IsJudgedOn (curve d (slice_index arcs (j - length d.points))) (object d i)
+
+-- the point of each number
+abbrev pub placed_at : List Placed → ℕ → Point
+placed_at points j = (slice_index_or points j (record { at = no_point; line = 0 })).at
+
+-- The boxes of the first k points.
+pub record ArePointBoxes (points : List Placed) (k : ℕ) (boxes : List Reach) : Type 0 where
+  pub size : length boxes ≡ k
+  pub holds : (j : ℕ) → j < k → InBox (box_of (reach_of boxes j)) (point (placed_at points j))
+
+-- The boxes of all points, and then those of the first k half arcs of the list.
+pub record AreArcBoxes (d : Plan) (arcs : List ℕ) (k : ℕ) (boxes : List Reach) : Type 0 where
+  pub size : length boxes ≡ length d.points + k
+  pub points : (j : ℕ) → j < length d.points → InBox (box_of (reach_of boxes j)) (point (object d j))
+  pub holds : (m : ℕ) → m < k → HoldsCurve (box_of (reach_of boxes (length d.points + m))) (curve d (slice_index arcs m))
+
+-- Of so many numbers those from the first on are marked.
+pub record AreMarkedFrom (first count : ℕ) (marks : List Bool) : Type 0 where
+  pub size : length marks ≡ count
+  pub marked : (n : ℕ) → first ≤ n → n < count → mark_of marks n ≡ true

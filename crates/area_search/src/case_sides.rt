@@ -1,0 +1,263 @@
+// The faces beside the curves of a case, and the sides of curves that bound a face without a point.
+ghost use Rattle.std.specs.Prelude.{◌≡◌, ℕ, ◌+◌, ◌*◌, ◌^◌, ◌<◌, ◌≤◌, ◌↔◌, false, true, IfOk, length};
+ghost use Rattle.std.specs.Prelude.{IsTrue, slice_index};
+ghost use Rattle.half_edges.specs.HalfEdges.{size};
+ghost use Rattle.plane.specs.CurveRuns.TubedRuns.{IsOfTube, half_within, third_is_left};
+ghost use Rattle.plane.specs.Faces.Halves.{number, twin};
+ghost use Rattle.plane.specs.Rule.Plans.{plan};
+ghost use Rattle.plane.specs.Forms.Segments.{IsEdgeOf};
+ghost use Rattle.straight_predicates.specs.EdgeLists.{edge_of};
+ghost use Rattle.straight_predicates.specs.declared.turns.Turn.TheVariants.{Left};
+ghost use Rattle.tubes.specs.DrawnEdges.{nth_curve};
+ghost use Rattle.tubes.specs.Settled.{edge_at, edges_at, owned_at};
+ghost use Rattle.tubes.specs.TubedEdges.{drawn_bays};
+ghost use Rattle.area_search.specs.Sides.{IsOnSide};
+ghost use Rattle.area_search.specs.Cases.{IsCaseOf, spot_face, spot_faces, spot_at};
+ghost use Rattle.area_search.specs.CaseSides.{AreBeside, AreFreeSides, IsBeside, IsBesideIn};
+ghost use Rattle.area_search.specs.CaseSides.{IsFreeFace, IsFreeSide, IsSpotOf, IsTurnable};
+ghost use Rattle.area_search.specs.CaseSides.{beside_at, edges_of_kind, first_at, free_of, is_first};
+
+use super::case::{Case, Spot};
+use super::sides::{Side, half_on};
+use half_edges::{HalfEdgeId, Mesh};
+use plane::{Curve, CurveKind, Edge};
+use ports::Memory;
+use std::alloc::Global;
+use straight_predicates::{Turn, turn};
+use tubes::Facing;
+
+/// The faces beside a curve: on the left and on the right of a straight, as seen from `from` to
+/// `to`; beside the inner and beside the outer chain of a half arc's tube.
+#[derive(Clone, Copy, Debug, PartialEq, Eq)]
+pub(crate) struct Beside {
+    pub first: u32,
+    pub second: u32,
+}
+
+/// The faces beside each curve. It takes time linear in the curves, and 8 bytes for each.
+pub(crate) fn faces_beside(alloc: Global, case: &Case, mesh: &Mesh) -> Result<Vec<Beside>, Memory>
+    requires case { IsCaseOf case.now }
+    requires few { length case.now.list.now.edges.items < 2 ^ 31 }
+    requires size { size mesh.now ≡ 2 * length case.now.list.now.edges.items }
+    ensures { IfOk result (λ besides. AreBeside (plan case.now.drawing.now) case.now.level
+        mesh.now.face (length (plan case.now.drawing.now).curves) besides.items) }
+{
+    let mut besides = Vec::with_capacity(alloc, case.drawing.curves.len())?;
+    let mut first = 0;
+    for number in 0..case.drawing.curves.len() {
+        let curve = &case.drawing.curves[number];
+        besides.push(faces_of_curve(case, mesh, curve, number as u32, first))?;
+        first += edge_count(curve.kind, case.level);
+    }
+    Ok(besides)
+}
+
+/// The number of edges of a curve at a level.
+fn edge_count(kind: CurveKind, level: u8) -> u32
+    requires { level ≤ 5 }
+    ensures { result ≡ edges_of_kind kind level }
+{
+    match kind {
+        CurveKind::Straight => 1,
+        CurveKind::HalfArc => 2 * bay_count(level) + 1,
+    }
+}
+
+/// The number of bays of a tube at a level.
+fn bay_count(level: u8) -> u32
+    requires { level ≤ 5 }
+    ensures { result ≡ 2 ^ (level + 1) }
+{
+    2 << level
+}
+
+/// The faces beside the curve of that number, whose first edge has the other one.
+fn faces_of_curve(case: &Case, mesh: &Mesh, curve: &Curve, number: u32, first: u32) -> Beside
+    requires case { IsCaseOf case.now }
+    requires few { length case.now.list.now.edges.items < 2 ^ 31 }
+    requires size { size mesh.now ≡ 2 * length case.now.list.now.edges.items }
+    requires there { number < length (plan case.now.drawing.now).curves }
+    requires curve { curve.now ≡ nth_curve (plan case.now.drawing.now).curves number }
+    requires first { first ≡ first_at (plan case.now.drawing.now) case.now.level number }
+    ensures { IsBeside (plan case.now.drawing.now) case.now.level mesh.now.face number result }
+{
+    match curve.kind {
+        CurveKind::Straight => faces_of_straight(&case.list.edges, mesh, curve, first),
+        CurveKind::HalfArc => {
+            let second = first + bay_count(case.level);
+            Beside {
+                first: face_outside(case, mesh, first),
+                second: face_outside(case, mesh, second),
+            }
+        }
+    }
+}
+
+/// The faces on the left and on the right of a straight with this edge.
+fn faces_of_straight(edges: &[Edge], mesh: &Mesh, curve: &Curve, number: u32) -> Beside
+    requires few { length edges.now < 2 ^ 31 }
+    requires size { size mesh.now ≡ 2 * length edges.now }
+    requires there { number < length edges.now }
+    requires edge { IsEdgeOf (edge_of edges.now number) curve.now }
+    requires distinct { curve.now.from ≡ curve.now.to → ⊥ }
+    ensures first { (h : ℕ) × IsOnSide (edge_of edges.now number) curve.now number true h
+        × (result.first ≡ slice_index mesh.now.face h) }
+    ensures second { (h : ℕ) × IsOnSide (edge_of edges.now number) curve.now number false h
+        × (result.second ≡ slice_index mesh.now.face h) }
+{
+    let edge = &edges[number as usize];
+    let left = half_on(edge, curve, number, true);
+    let right = half_on(edge, curve, number, false);
+    Beside {
+        first: mesh.face(left).0,
+        second: mesh.face(right).0,
+    }
+}
+
+/// The face of the half-edge of a tube's edge that does not face the tube.
+fn face_outside(case: &Case, mesh: &Mesh, edge: u32) -> u32
+    requires case { IsCaseOf case.now }
+    requires few { length case.now.list.now.edges.items < 2 ^ 31 }
+    requires size { size mesh.now ≡ 2 * length case.now.list.now.edges.items }
+    requires there { edge < length case.now.list.now.edges.items }
+    requires tube { IsOfTube (owned_at (plan case.now.drawing.now) case.now.level edge).part }
+    ensures { result ≡ slice_index mesh.now.face (number (twin (half_within
+        (plan case.now.drawing.now) (drawn_bays (plan case.now.drawing.now) case.now.level)
+        (edge_at (plan case.now.drawing.now) case.now.level) edge))) }
+{
+    let over = case.facings[edge as usize] == Facing::Below;
+    mesh.face(HalfEdgeId(2 * edge + u32::from(over))).0
+}
+
+/// The face of each point by its spot.
+pub(crate) fn faces_of_spots(
+    alloc: Global,
+    case: &Case,
+    mesh: &Mesh,
+    besides: &[Beside],
+    spots: &[Spot],
+) -> Result<Vec<u32>, Memory>
+    requires few { length case.now.list.now.edges.items < 2 ^ 31 }
+    requires edges { case.now.list.now.edges.items
+        ≡ edges_at (plan case.now.drawing.now) case.now.level }
+    requires size { size mesh.now ≡ 2 * length case.now.list.now.edges.items }
+    requires besides { AreBeside (plan case.now.drawing.now) case.now.level mesh.now.face
+        (length (plan case.now.drawing.now).curves) besides.now }
+    requires known { (j : ℕ) → j < length spots.now
+        → IsSpotOf (plan case.now.drawing.now) case.now.level (spot_at spots.now j) }
+    ensures { IfOk result (λ fs. fs.items
+        ≡ spot_faces (plan case.now.drawing.now) case.now.level mesh.now.face spots.now) }
+{
+    let mut faces = Vec::with_capacity(alloc, spots.len())?;
+    for point in 0..spots.len() {
+        faces.push(spot_face(case, mesh, besides, &spots[point]))?;
+    }
+    Ok(faces)
+}
+
+fn spot_face(case: &Case, mesh: &Mesh, besides: &[Beside], spot: &Spot) -> u32
+    requires few { length case.now.list.now.edges.items < 2 ^ 31 }
+    requires edges { case.now.list.now.edges.items
+        ≡ edges_at (plan case.now.drawing.now) case.now.level }
+    requires size { size mesh.now ≡ 2 * length case.now.list.now.edges.items }
+    requires besides { AreBeside (plan case.now.drawing.now) case.now.level mesh.now.face
+        (length (plan case.now.drawing.now).curves) besides.now }
+    requires known { IsSpotOf (plan case.now.drawing.now) case.now.level spot.now }
+    ensures { result
+        ≡ spot_face (plan case.now.drawing.now) case.now.level mesh.now.face spot.now }
+{
+    let _ = case;
+    match spot {
+        Spot::InTube {
+            curve,
+            inside: true,
+        } => besides[*curve as usize].first,
+        Spot::InTube {
+            curve,
+            inside: false,
+        } => besides[*curve as usize].second,
+        Spot::Cell {
+            lower: Some(edge),
+            ..
+        } => mesh.face(HalfEdgeId(2 * edge + 1)).0,
+        _ => 0,
+    }
+}
+
+/// The first side that bounds a face without owner, by the curve and then left before right. It
+/// takes time linear in the curves.
+pub(crate) fn first_free(curves: &[Curve], besides: &[Beside], owners: &[u32]) -> Option<Side>
+    requires few { length curves.now < 2 ^ 30 }
+    requires size { length besides.now ≡ length curves.now }
+    requires known { (i : ℕ) → i < length besides.now
+        → IsBesideIn (length owners.now) (beside_at besides.now i) }
+    requires close { (i : ℕ) → i < length curves.now → IsTurnable (nth_curve curves.now i) }
+    ensures { AreFreeSides curves.now besides.now owners.now result }
+{
+    for number in 0..curves.len() {
+        if let Some(left) = free_side(&curves[number], &besides[number], owners) {
+            return Some(Side {
+                curve: number as u32,
+                left,
+            });
+        }
+    }
+    None
+}
+
+/// Whether a side of the curve bounds such a face, and then whether it is the left one or the right
+/// one alone.
+fn free_side(curve: &Curve, beside: &Beside, owners: &[u32]) -> Option<bool>
+    requires known { IsBesideIn (length owners.now) beside.now }
+    requires close { IsTurnable curve.now }
+    ensures { IsFreeSide curve.now beside.now owners.now result }
+{
+    let first = is_free(owners, beside.first);
+    let second = is_free(owners, beside.second);
+    if first_is_left(curve) {
+        side_of(first, second)
+    } else {
+        side_of(second, first)
+    }
+}
+
+fn side_of(left: bool, right: bool) -> Option<bool>
+    ensures { result ≡ free_of left right }
+{
+    if left {
+        Some(true)
+    } else if right {
+        Some(false)
+    } else {
+        None
+    }
+}
+
+/// Whether the first face beside a curve is on the left: that of a straight always is, and that
+/// inside a half arc where the third point is on the left.
+fn first_is_left(curve: &Curve) -> bool
+    requires { IsTurnable curve.now }
+    ensures { result ≡ is_first curve.now true }
+{
+    match curve.kind {
+        CurveKind::Straight => true,
+        CurveKind::HalfArc => is_left(turn(curve.from, curve.to, curve.third)),
+    }
+}
+
+fn is_left(turn: Turn) -> bool
+    ensures yes { result ≡ true → turn ≡ Left }
+    ensures no { result ≡ false → turn ≡ Left → ⊥ }
+{
+    match turn {
+        Turn::Left => true,
+        Turn::Straight | Turn::Right => false,
+    }
+}
+
+fn is_free(owners: &[u32], face: u32) -> bool
+    requires { face < length owners.now }
+    ensures { IsTrue result ↔ IsFreeFace owners.now face }
+{
+    face != 0 && owners[face as usize] == 0
+}

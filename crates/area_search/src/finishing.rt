@@ -1,0 +1,119 @@
+// The answer to a drawing that a level settles.
+ghost use Rattle.std.specs.Prelude.{◌≡◌, ◌^◌, ◌<◌, [], IfOk, length};
+ghost use Rattle.line_sweep.specs.Kinds.{gaps_of, moves_of};
+ghost use Rattle.line_sweep.specs.Sweeping.{HasTimetable};
+ghost use Rattle.plane.specs.Rule.Plans.{plan};
+ghost use Rattle.plane.specs.Runs.Gaps.{closed_gaps};
+ghost use Rattle.plane.specs.Runs.Moves.{Fit, steps_from};
+ghost use Rattle.plane.specs.Runs.Steps.{Run};
+ghost use Rattle.straight_predicates.specs.EdgeLists.{edge_of};
+ghost use Rattle.tubes.specs.TubedEdges.{IsTubedList};
+ghost use Rattle.area_search.specs.Answers.{IsAnswer, IsLeastLevel};
+ghost use Rattle.area_search.specs.Cases.{ArePlacedOff, HasRunFaces, IsCaseOf, IsRunMesh};
+
+use super::case::{Case, Spot};
+use super::case_certificates::certify_case;
+use super::case_judging::{Judged, judge_case};
+use super::kinds::{AreaAnswer, AreaFinding};
+use super::meshing::mesh_of_run;
+use super::spots::{first_spot_on, spots_at};
+use faces::{Labelled, label};
+use line_sweep::Swept;
+use plane::Drawing;
+use ports::Memory;
+use std::alloc::Global;
+use tubes::{EdgeList, facings};
+
+/// The answer to a drawing by a complete run of its edges at the least level that settles it: its
+/// first fault, or a certificate with empty names. The only error is want of memory. It takes what
+/// placing the points, the mesh, its faces and the links of a certificate take, one after another.
+pub(crate) fn finish(
+    alloc: Global,
+    drawing: &Drawing,
+    level: u8,
+    list: &EdgeList,
+    swept: &Swept,
+) -> Result<AreaAnswer, Memory>
+    requires list { IsTubedList (plan drawing.now) level list.now }
+    requires least { IsLeastLevel (plan drawing.now) level }
+    requires few { length list.now.edges.items < 2 ^ 31 }
+    requires run { Run (length list.now.edges.items) (edge_of list.now.edges.items)
+        (steps_from [] (moves_of swept.now.events.items)) }
+    requires fit { Fit [] (moves_of swept.now.events.items) }
+    requires timed { HasTimetable list.now.edges.items (moves_of swept.now.events.items) }
+    requires cells { gaps_of swept.now.cells.items
+        ≡ closed_gaps (moves_of swept.now.events.items) }
+    ensures { IfOk result (IsAnswer (plan drawing.now)) }
+{
+    tubes::laws::settled_levels();
+    let facings = facings(alloc, drawing, list)?;
+    let case = Case {
+        drawing,
+        level,
+        list,
+        facings: &facings,
+        swept,
+    };
+    answer_case(alloc, &case)
+}
+
+/// The same for a case.
+pub(crate) fn answer_case(alloc: Global, case: &Case) -> Result<AreaAnswer, Memory>
+    requires case { IsCaseOf case.now }
+    requires least { IsLeastLevel (plan case.now.drawing.now) case.now.level }
+    requires few { length case.now.list.now.edges.items < 2 ^ 31 }
+    requires timed { HasTimetable case.now.list.now.edges.items
+        (moves_of case.now.swept.now.events.items) }
+    requires cells { gaps_of case.now.swept.now.cells.items
+        ≡ closed_gaps (moves_of case.now.swept.now.events.items) }
+    ensures { IfOk result (IsAnswer (plan case.now.drawing.now)) }
+{
+    let spots = spots_at(alloc, case)?;
+    match first_spot_on(&spots) {
+        Some(on) => Ok(AreaAnswer::Fault(AreaFinding::On {
+            point: on.point,
+            curve: on.curve,
+        })),
+        None => answer_placed(alloc, case, &spots),
+    }
+}
+
+/// The same, where no point lies on a curve.
+fn answer_placed(alloc: Global, case: &Case, spots: &[Spot]) -> Result<AreaAnswer, Memory>
+    requires case { IsCaseOf case.now }
+    requires least { IsLeastLevel (plan case.now.drawing.now) case.now.level }
+    requires few { length case.now.list.now.edges.items < 2 ^ 31 }
+    requires timed { HasTimetable case.now.list.now.edges.items
+        (moves_of case.now.swept.now.events.items) }
+    requires cells { gaps_of case.now.swept.now.cells.items
+        ≡ closed_gaps (moves_of case.now.swept.now.events.items) }
+    requires placed { ArePlacedOff (plan case.now.drawing.now) case.now.level
+        (moves_of case.now.swept.now.events.items) spots.now }
+    ensures { IfOk result (IsAnswer (plan case.now.drawing.now)) }
+{
+    let labelled = label_case(alloc, case)?;
+    match judge_case(alloc, case, spots, &labelled.mesh, labelled.count)? {
+        Judged::Faulty(finding) => Ok(AreaAnswer::Fault(finding)),
+        Judged::Owned(owners) => Ok(AreaAnswer::Proved(certify_case(
+            alloc, case, spots, &labelled, &owners,
+        )?)),
+    }
+}
+
+/// The mesh of the case's run with its faces.
+fn label_case(alloc: Global, case: &Case) -> Result<Labelled, Memory>
+    requires case { IsCaseOf case.now }
+    requires few { length case.now.list.now.edges.items < 2 ^ 31 }
+    requires cells { gaps_of case.now.swept.now.cells.items
+        ≡ closed_gaps (moves_of case.now.swept.now.events.items) }
+    ensures faces { IfOk result (λ l. HasRunFaces (plan case.now.drawing.now) case.now.level
+        (moves_of case.now.swept.now.events.items) l.mesh l.count) }
+    ensures mesh { IfOk result (λ l. IsRunMesh (plan case.now.drawing.now) case.now.level
+        (moves_of case.now.swept.now.events.items) (gaps_of case.now.swept.now.cells.items)
+        l.mesh) }
+{
+    let mesh = mesh_of_run(alloc, &case.list.edges, case.swept)?;
+    let labelled = label(alloc, mesh, case.swept)?;
+    let _ = labelled.mesh.edges();
+    Ok(labelled)
+}

@@ -1,0 +1,152 @@
+// The least level that settles a drawing, by pairs of its curves, and the answer there.
+ghost use Rattle.std.specs.Prelude.{◌↔◌, ◌≤◌, IfOk, IsTrue, length};
+ghost use Rattle.plane.specs.Rule.Plans.{plan};
+ghost use Rattle.meetings.specs.StraightRuns.{IsClearRun};
+ghost use Rattle.tubes.specs.Settled.{IsSettledAt};
+ghost use Rattle.tubes.specs.TubedEdges.{AreUsable, IsTubedList};
+ghost use Rattle.area_search.specs.Answers.{AreClear, HasNoBadPair, IsAnswer, IsLeastLevel};
+ghost use Rattle.area_search.specs.LevelAnswers.{IsFaultOfCurves};
+
+use super::finishing::finish;
+use super::kinds::{AreaAnswer, AreaFinding};
+use super::on_curves::first_on_curve;
+use level_breaks::first_break;
+use line_sweep::{SweepRefusal, Swept, sweep};
+use meetings::{StraightRun, Straights, arc_meeting, sweep_straights};
+use plane::Drawing;
+use ports::Memory;
+use std::alloc::Global;
+use tubes::{EdgeList, edge_list};
+
+/// The answer to a drawing by the order of the answers: a pair of curves that is bad, a point on a
+/// curve, and then the answer at the least level that settles it, or the first pair that breaks the
+/// last one. The only error is want of memory. Of each part the memory is let go before the next.
+pub(crate) fn search_levels(alloc: Global, drawing: &Drawing) -> Result<AreaAnswer, Memory>
+    requires { length drawing.now.curves.items ≤ 16000000 }
+    ensures { IfOk result (IsAnswer (plan drawing.now)) }
+{
+    match fault_of_curves(alloc, drawing)? {
+        Some(finding) => Ok(AreaAnswer::Fault(finding)),
+        None => try_levels(alloc, drawing),
+    }
+}
+
+/// A bad pair, or else the first point on a curve, if there is one.
+fn fault_of_curves(alloc: Global, drawing: &Drawing) -> Result<Option<AreaFinding>, Memory>
+    ensures { IfOk result (IsFaultOfCurves (plan drawing.now)) }
+{
+    match sweep_straights(alloc, drawing)? {
+        StraightRun::Bad(pair) => Ok(Some(AreaFinding::Meeting {
+            first: pair.first,
+            second: pair.second,
+        })),
+        StraightRun::Clear { straights, swept } => {
+            fault_beside_straights(alloc, drawing, &straights, &swept)
+        }
+    }
+}
+
+/// The same, where no two straights are bad.
+fn fault_beside_straights(
+    alloc: Global,
+    drawing: &Drawing,
+    straights: &Straights,
+    swept: &Swept,
+) -> Result<Option<AreaFinding>, Memory>
+    requires { IsClearRun (plan drawing.now) straights.now swept.now }
+    ensures { IfOk result (IsFaultOfCurves (plan drawing.now)) }
+{
+    match arc_meeting(alloc, drawing)? {
+        Some(pair) => Ok(Some(AreaFinding::Meeting {
+            first: pair.first,
+            second: pair.second,
+        })),
+        None => fault_of_points(alloc, drawing, straights, swept),
+    }
+}
+
+/// The first point on a curve, where no two curves are bad.
+fn fault_of_points(
+    alloc: Global,
+    drawing: &Drawing,
+    straights: &Straights,
+    swept: &Swept,
+) -> Result<Option<AreaFinding>, Memory>
+    requires run { IsClearRun (plan drawing.now) straights.now swept.now }
+    requires pairs { HasNoBadPair (plan drawing.now) }
+    ensures { IfOk result (IsFaultOfCurves (plan drawing.now)) }
+{
+    match first_on_curve(alloc, drawing, straights, swept)? {
+        Some(on) => Ok(Some(AreaFinding::On {
+            point: on.point,
+            curve: on.curve,
+        })),
+        None => Ok(None),
+    }
+}
+
+/// The answer at the least level that settles the drawing, or the first pair that breaks the last
+/// level, where no two curves are bad and no point is on a curve.
+fn try_levels(alloc: Global, drawing: &Drawing) -> Result<AreaAnswer, Memory>
+    requires few { length drawing.now.curves.items ≤ 16000000 }
+    requires clear { AreClear (plan drawing.now) }
+    ensures { IfOk result (IsAnswer (plan drawing.now)) }
+{
+    level_breaks::laws::settled_is_unbroken();
+    for level in 0..5u8 {
+        if is_settled(alloc, drawing, level)? {
+            return answer_at(alloc, drawing, level);
+        }
+    }
+    match first_break(alloc, drawing, 5)? {
+        Some(pair) => Ok(AreaAnswer::Undecided {
+            first: pair.first,
+            second: pair.second,
+        }),
+        None => answer_at(alloc, drawing, 5),
+    }
+}
+
+fn is_settled(alloc: Global, drawing: &Drawing, level: u8) -> Result<bool, Memory>
+    requires level { level ≤ 5 }
+    requires clear { AreClear (plan drawing.now) }
+    ensures { IfOk result (λ settled. IsTrue settled ↔ IsSettledAt (plan drawing.now) level) }
+{
+    level_breaks::laws::settled_is_unbroken();
+    Ok(first_break(alloc, drawing, level)?.is_none())
+}
+
+/// The answer at a level that settles the drawing, where no lesser one does.
+fn answer_at(alloc: Global, drawing: &Drawing, level: u8) -> Result<AreaAnswer, Memory>
+    requires few { length drawing.now.curves.items ≤ 16000000 }
+    requires least { IsLeastLevel (plan drawing.now) level }
+    ensures { IfOk result (IsAnswer (plan drawing.now)) }
+{
+    match edge_list(alloc, drawing, level)? {
+        Some(list) => answer_edges(alloc, drawing, level, &list),
+        None => unreachable!(),
+    }
+}
+
+/// The same, with the edges of the level.
+fn answer_edges(
+    alloc: Global,
+    drawing: &Drawing,
+    level: u8,
+    list: &EdgeList,
+) -> Result<AreaAnswer, Memory>
+    requires few { length drawing.now.curves.items ≤ 16000000 }
+    requires least { IsLeastLevel (plan drawing.now) level }
+    requires list { IsTubedList (plan drawing.now) level list.now }
+    requires usable { AreUsable (plan drawing.now) list.now.edges.items }
+    ensures { IfOk result (IsAnswer (plan drawing.now)) }
+{
+    tubes::laws::few_edges();
+    tubes::laws::tubed_lists();
+    plane::sweeps::meetings_are_decided();
+    match sweep(alloc, &list.edges) {
+        Ok(swept) => finish(alloc, drawing, level, list, &swept),
+        Err(SweepRefusal::Bad { .. }) => unreachable!(),
+        Err(SweepRefusal::Memory) => Err(Memory),
+    }
+}
