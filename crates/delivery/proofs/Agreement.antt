@@ -24,7 +24,7 @@ use Rattle.delivery.specs.Gathering.{Gathered, Reads, ReadsAll, Compiles, Gather
 use Rattle.delivery.specs.Amounting.{Amounts}
 use Rattle.delivery.specs.Judging.{lines_of, objects, AreJudged, IsRowsChecked, faulty, oversized, judged, IsChecked, at_fault, well_formed}
 use Rattle.delivery.specs.ModelTexts.{Refusal, IsRefused, HasLayout}
-use Rattle.delivery.specs.Outcomes.{Filing, Target, check_target, trial_target, Outcome, misbuilt, areas_told, arcs_left, verified, report_of}
+use Rattle.delivery.specs.Outcomes.{Filing, Target, check_target, trial_target, Outcome, misbuilt, areas_told, verified, report_of}
 use Rattle.delivery.specs.Reading.{IsWhole, IsLonger}
 use Rattle.delivery.proofs.AreaLemmas.{AreaLaws, same_lines, areas_agree}
 use Rattle.delivery.proofs.Causes.{by_write}
@@ -53,14 +53,14 @@ not_longer files name limit a h k =
     absurd (omega (arith, ap length e, h.1, k.2))
 
 -- ---- one thing is read of the files, unless one of them could not be
-abbrev IsUnread : Gathered → Type 0
+abbrev pub IsUnread : Gathered → Type 0
 IsUnread (gathering.unread f) = ⊤
 IsUnread _ = ⊥
 
 is_unread : (g : Gathered) (f : File) → g ≡ gathering.unread f → IsUnread g
 is_unread g f e = subst IsUnread (sym e) tt
 
-abbrev Same : Gathered → Gathered → Type 0
+abbrev pub Same : Gathered → Gathered → Type 0
 Same g h = IsUnread g ⊎ (IsUnread h ⊎ (g ≡ h))
 
 module _ (files : Files) (far near : List ℕ → Type 0) where
@@ -121,7 +121,7 @@ module _ (files : Files) (far near : List ℕ → Type 0) where
       | inr n ↦ laid_after n.0 n.1 n.2 k
     ]
 
-  same_gathered : (c : Command) (g h : Gathered) → Gathers (Some files) far c g → Gathers (Some files) near c h → Same g h
+  pub same_gathered : (c : Command) (g h : Gathered) → Gathers (Some files) far c g → Gathers (Some files) near c h → Same g h
   same_gathered c g h r k =
       same_read (model_of c) g h (λ text. Compiles (Some files) far c text g) (λ text. Compiles (Some files) near c text h)
       (λ text p q. same_compiled c text g h p q) r k
@@ -180,20 +180,12 @@ module _ (laws : AreaLaws) where
   agree_filed_rows : (l : Layout) (rows : List (List Row)) (filed : List ℕ) (o p : Outcome) → IsRowsVerified l rows filed o → IsRowsVerified l rows filed p → Agree o p
   agree_filed_rows l rows filed o p (filed_texts.faulty n e) (filed_texts.faulty m f) = agree_both o p _ e f
   agree_filed_rows l rows filed o p (filed_texts.faulty n e) (filed_texts.oversized k b f) = absurd (n k)
-  agree_filed_rows l rows filed o p (filed_texts.faulty n e) (filed_texts.arcs k b h) = absurd (n k)
   agree_filed_rows l rows filed o p (filed_texts.faulty n e) (filed_texts.verified k b j) = absurd (n k)
   agree_filed_rows l rows filed o p (filed_texts.oversized k b e) (filed_texts.faulty m f) = absurd (m k)
   agree_filed_rows l rows filed o p (filed_texts.oversized k b e) (filed_texts.oversized m d f) = agree_both o p _ e f
-  agree_filed_rows l rows filed o p (filed_texts.oversized k b e) (filed_texts.arcs m d h) = absurd (differ (sym b ∙ d))
   agree_filed_rows l rows filed o p (filed_texts.oversized k b e) (filed_texts.verified m d j) = absurd (differ (sym b ∙ d))
-  agree_filed_rows l rows filed o p (filed_texts.arcs k b h) (filed_texts.faulty m f) = absurd (m k)
-  agree_filed_rows l rows filed o p (filed_texts.arcs k b h) (filed_texts.oversized m d f) = absurd (differ (sym d ∙ b))
-  agree_filed_rows l rows filed o p (filed_texts.arcs k b h) (filed_texts.arcs m d i) =
-      agree_same o p (h.told ∙ ap (arcs_left l) (same_drawings l rows l.areas h.drawings i.drawings h.drawn i.drawn) ∙ sym i.told)
-  agree_filed_rows l rows filed o p (filed_texts.arcs k b h) (filed_texts.verified m d j) = absurd (j.straights h.arcs)
   agree_filed_rows l rows filed o p (filed_texts.verified k b i) (filed_texts.faulty m f) = absurd (m k)
   agree_filed_rows l rows filed o p (filed_texts.verified k b i) (filed_texts.oversized m d f) = absurd (differ (sym d ∙ b))
-  agree_filed_rows l rows filed o p (filed_texts.verified k b i) (filed_texts.arcs m d h) = absurd (i.straights h.arcs)
   agree_filed_rows l rows filed o p (filed_texts.verified k b i) (filed_texts.verified m d j) = agree_verified l rows filed o p i j
 
   agree_filed : (l : Layout) (text filed : List ℕ) (o p : Outcome) → IsVerified l text filed o → IsVerified l text filed p → Agree o p

@@ -1,54 +1,50 @@
 -- The answer to one area, and to one area after the other.
-use Rattle.std.proofs.Common.{◌≡◌, ℕ, suc, true, Bool, List, [], ◌∷◌, ◌++◌, length, Some, None, refl, sym, ap, ◌∙◌, subst, arith, append-nil, append_assoc, ◌||◌, ◌⊎◌, inl, inr}
+use Rattle.std.proofs.Common.{◌≡◌, ℕ, suc, List, [], ◌∷◌, ◌++◌, length, Some, None, refl, sym, ap, ◌∙◌, subst, arith, append-nil, append_assoc, ◌⊎◌, inl, inr}
+use Rattle.std.specs.List.{All}
+use Rattle.std.proofs.lemmas.List.Elements.{All-head, All-tail}
 use Rattle.certificate.specs.Spelling.{Plain, view}
 use Rattle.certificate.specs.declared.notes.Certificate.{Certificate}
 use Rattle.certificate_checker.specs.Subjects.{claims}
 use Rattle.certificate_checker.specs.Verdicts.{Proves}
 use Rattle.table_layout.specs.Layouts.{AreaOf, Layout}
-use Rattle.std.specs.List.{list_any}
-use Rattle.plane.specs.Rule.Plans.{Plan}
+use Rattle.plane.specs.Rule.Plans.{Plan, plan}
 use Rattle.plane.specs.declared.drawing.Drawing.{Drawing}
-use Rattle.tubes.specs.DrawnEdges.{AreStraights}
 use Rattle.area_search.specs.Answers as search
 use Rattle.area_search.specs.declared.kinds.AreaAnswer.{AreaAnswer as Found}
 use Rattle.area_search.specs.declared.kinds.AreaAnswer.TheVariants as found
 use Rattle.area_search.specs.declared.kinds.AreaFinding.{AreaFinding}
-use Rattle.delivery.specs.AnswerViews.{certificates_in, named, has_arc_seen}
-use Rattle.delivery.specs.AreaAnswers.{IsAnswer, faulty, proved, fault_told, proof_told, has_arc, plans, AreAnswers}
+use Rattle.delivery.specs.AnswerViews.{certificates_in, named}
+use Rattle.delivery.specs.AreaAnswers.{IsAnswer, faulty, undecided, proved, fault_told, undecided_told, proof_told, plans, AreAnswers}
 use Rattle.delivery.specs.AreaCertificates.{claims_of}
+use Rattle.delivery.specs.AreaLimits.{HasFewCurves}
 use Rattle.delivery.proofs.CertificateLemmas.{proved_view}
 use Rattle.delivery.specs.AreaNames.{topic_name, table_name}
 use Rattle.delivery.specs.declared.report.lines.AreaAnswer.{AreaAnswer}
 
 -- ---- one answer
--- the certificate that a search gives has a level, and proves
-abbrev IsProof : Plan → Found → Type 0
-IsProof d (found.Proved c) = Proves d (claims c) × (c.level ≡ 0)
-IsProof d other = Bool
+-- the certificate that a search gives proves, at the least level
+proof_of : (d : Plan) (c : Certificate) → search.IsAnswer d (found.Proved c) → Proves d (claims c) × search.IsLeastLevel d c.level
+proof_of d _ (search.proved c p l n) = (p, l)
 
-is_proof : (d : Plan) (b : Found) → search.IsAnswer d b → IsProof d b
-is_proof d _ (search.proved c p l n) = (p, l)
-is_proof d _ (search.meeting i j b) = true
-is_proof d _ (search.on j i n l) = true
-is_proof d _ (search.outside j n l) = true
-is_proof d _ (search.two i j n l) = true
-is_proof d _ (search.empty i left n l) = true
-
-module _ (l : Layout) (a : AreaOf) (d : Plan) (b : Found) (s : AreStraights d) (h : search.IsAnswer d b) where
+module _ (l : Layout) (a : AreaOf) (d : Plan) (b : Found) (h : search.IsAnswer d b) where
   pub answer_proved : (c e : Certificate) (topic table attribute : List ℕ) → b ≡ found.Proved c → view e ≡ named topic table attribute (view c)
       → topic ≡ topic_name l a → table ≡ table_name l a → attribute ≡ a.name → (x : AreaAnswer) → x ≡ proof_told d c.level → IsAnswer l a d x (certificates_in (Some e))
   answer_proved c e topic table attribute q v t m n x y =
-      let p = subst (IsProof d) q (is_proof d b h) in
-      proved (view e) s
+      let p = proof_of d c (subst (search.IsAnswer d) q h) in
+      let level : c.level ≡ (view e).level = sym (ap (λ (z : Plain). z.level) v) in
+      proved (view e)
       (record {
         named = record { topic = ap (λ (z : Plain). z.topic) v ∙ t; table = ap (λ (z : Plain). z.table) v ∙ m; attribute = ap (λ (z : Plain). z.attribute) v ∙ n };
         proves = subst (λ (z : Plain). Proves d (claims_of z)) (sym v) (proved_view d c p.0);
       })
-      (ap (λ (z : Plain). z.level) v ∙ p.1)
-      (y ∙ ap (proof_told d) (sym (ap (λ (z : Plain). z.level) v))) refl
+      (subst (search.IsLeastLevel d) level p.1)
+      (y ∙ ap (proof_told d) level) refl
 
   pub answer_faulty : (f : AreaFinding) → b ≡ found.Fault f → (x : AreaAnswer) → x ≡ fault_told d f → IsAnswer l a d x (certificates_in None)
-  answer_faulty f q x y = faulty f s (subst (search.IsAnswer d) q h) y refl
+  answer_faulty f q x y = faulty f (subst (search.IsAnswer d) q h) y refl
+
+  pub answer_undecided : (i j : ℕ) → b ≡ found.Undecided i j → (x : AreaAnswer) → x ≡ undecided_told d i j → IsAnswer l a d x (certificates_in None)
+  answer_undecided i j q x y = undecided i j (subst (search.IsAnswer d) q h) y refl
 
 -- ---- one area after the other
 -- what is answered to some areas may be followed by what is answered to the rest
@@ -87,7 +83,9 @@ both_ended (a ∷ as_) [] h k = absurd (omega (arith, h))
 both_ended (a ∷ as_) (b ∷ bs) h (inl e) = absurd (cc)
 both_ended (a ∷ as_) (b ∷ bs) h (inr e) = absurd (cc)
 
--- ---- half arcs of drawings
-pub arcs_seen : (ds : List Drawing) → list_any has_arc_seen ds ≡ has_arc (plans ds)
-arcs_seen [] = refl
-arcs_seen (d ∷ ds) = ap (λ (b : Bool). has_arc_seen d || b) (arcs_seen ds)
+-- ---- drawings with few curves, one after the other
+pub few_first : (all : List Drawing) (d : Drawing) (rest : List Drawing) → all ≡ d ∷ rest → All HasFewCurves (plans all) → HasFewCurves (plan d)
+few_first all d rest e h = All-head HasFewCurves (plan d) (plans rest) (subst (λ (ds : List Drawing). All HasFewCurves (plans ds)) e h)
+
+pub few_rest : (all : List Drawing) (d : Drawing) (rest : List Drawing) → all ≡ d ∷ rest → All HasFewCurves (plans all) → All HasFewCurves (plans rest)
+few_rest all d rest e h = All-tail HasFewCurves (plan d) (plans rest) (subst (λ (ds : List Drawing). All HasFewCurves (plans ds)) e h)

@@ -1,6 +1,6 @@
 -- Answers to areas: what they say of the areas, and that two of one area agree.
-use Rattle.std.proofs.Common.{◌≡◌, ◌⊎◌, inl, inr, ℕ, zero, suc, ◌<◌, Bool, true, false, ◌||◌, List, [], ◌∷◌, ◌++◌, length, get_or, Option, None, Some, append_assoc, refl, sym, ap, ◌∙◌, subst, arith}
-use Rattle.std.specs.List.{All, AllZip, Any, list_any}
+use Rattle.std.proofs.Common.{◌≡◌, ◌⊎◌, inl, inr, ℕ, suc, ◌<◌, ◌≤◌, Bool, true, false, ◌||◌, List, [], ◌∷◌, ◌++◌, length, Option, None, Some, append_assoc, refl, sym, ap, ◌∙◌, subst, arith}
+use Rattle.std.specs.List.{All, AllZip, Any}
 use Rattle.std.specs.Prelude.{if◌then◌else◌}
 use Rattle.std.proofs.lemmas.List.Elements.{All-nil, All-cons, All-head, All-tail}
 use Rattle.certificate.specs.Spelling.{Plain}
@@ -12,18 +12,18 @@ use Rattle.table_layout.specs.Layouts.{AreaOf, Layout}
 use Rattle.plane.specs.Rule.Partition.{IsPartition}
 use Rattle.plane.specs.Rule.Plans.{Plan, curve, IsHalfArc}
 use Rattle.plane.specs.declared.kinds.Curve.{Curve}
-use Rattle.plane.specs.declared.kinds.CurveKind.{CurveKind}
 use Rattle.plane.specs.declared.kinds.CurveKind.TheVariants.{Straight, HalfArc}
-use Rattle.tubes.specs.DrawnEdges.{AreAllStraight, AreStraights, nth_curve}
+use Rattle.straight_predicates.proofs.Orders.{by_lt}
+use Rattle.tubes.specs.DrawnEdges.{AreAllStraight, AreStraights}
 use Rattle.area_search.specs.Answers as search
 use Rattle.area_search.specs.declared.kinds.AreaAnswer.{AreaAnswer as Found}
 use Rattle.area_search.specs.declared.kinds.AreaAnswer.TheVariants as found
 use Rattle.area_search.specs.declared.kinds.AreaFinding.{AreaFinding}
 use Rattle.area_search.specs.declared.kinds.AreaFinding.TheVariants as fault
 use Rattle.delivery.specs.Answers.{Matches, same, meetings, AgreeLines, Agree}
-use Rattle.delivery.specs.AreaAnswers.{IsAnswer, later, faulty, proved, fault_told, proof_told, curve_line, is_half, is_half_arc, has_half_arc, has_arc, HasHalfArc, IsDrawn, AreAnswers, is_fault, is_left, has_fault, has_left, IsFaultyPlan, IsDecidedPlan, HasFaultyArea, ArePartedAreas, HasArcArea, AreLeftAreas}
+use Rattle.delivery.specs.AreaAnswers.{IsAnswer, faulty, undecided, proved, fault_told, undecided_told, proof_told, curve_line, IsDrawn, AreAnswers, is_fault, is_left, has_fault, has_left, IsFaultyPlan, IsUndecidedPlan, IsFaultlessPlan, HasFaultyArea, ArePartedAreas, AreLeftAreas, HaveStraightLines}
 use Rattle.delivery.specs.AreaNames.{topic_name, table_name}
-use Rattle.delivery.specs.Drawings.{IsDrawing, AreDrawings}
+use Rattle.delivery.specs.Drawings.{IsDrawing, AreDrawings, area_curves}
 use Rattle.delivery.specs.Lines as lines
 use Rattle.delivery.specs.Lines.{Line}
 use Rattle.delivery.specs.Outcomes.{Target, Outcome, trial_line, size_lines, trial_lines, reported, accepted, with_verdict, area_line, area_lines, areas_told}
@@ -40,9 +40,17 @@ use Rattle.delivery.specs.declared.status.Status.TheVariants as status
 abbrev pub AnswersAgree : Type 0
 AnswersAgree = (d : Plan) (a b : Found) → search.IsAnswer d a → search.IsAnswer d b → search.Agree a b
 
--- a partition is proved
+-- a partition that a level settles is proved
 abbrev pub PartitionsAreProved : Type 0
-PartitionsAreProved = (d : Plan) (a : Found) → IsPartition d → search.IsAnswer d a → (c : Certificate) × (a ≡ found.Proved c)
+PartitionsAreProved = (d : Plan) (a : Found) → IsPartition d → search.IsSettled d → search.IsAnswer d a → (c : Certificate) × (a ≡ found.Proved c)
+
+-- a drawing with a fault is no partition
+abbrev pub FaultsAreTrue : Type 0
+FaultsAreTrue = (d : Plan) (f : AreaFinding) → search.IsAnswer d (found.Fault f) → IsPartition d → ⊥
+
+-- of two curves that are not decided one is a half arc
+abbrev pub PairsHaveHalfArcs : Type 0
+PairsHaveHalfArcs = (d : Plan) (i j : ℕ) → search.IsAnswer d (found.Undecided i j) → IsHalfArc d i ⊎ IsHalfArc d j
 
 -- what is proved is a partition
 abbrev pub ProofsHold : Type 0
@@ -56,16 +64,18 @@ VerificationsAgree = (l : Layout) (ds : List Plan) (text : List ℕ) (v w : Veri
 abbrev pub VerifiedPartitions : Type 0
 VerifiedPartitions = (l : Layout) (ds : List Plan) (text levels : List ℕ) → IsVerification l ds text (verifying.proved levels) → All IsPartition ds
 
--- a drawing has one number of events, and a certificate that proves it a position for each
+-- a drawing has one number of events at a level, and a certificate that proves it there a position for each
 abbrev pub EventsAreOne : Type 0
-EventsAreOne = (d : Plan) (m n : ℕ) → HasEvents d m → HasEvents d n → m ≡ n
+EventsAreOne = (d : Plan) (level m n : ℕ) → HasEvents d level m → HasEvents d level n → m ≡ n
 
 abbrev pub PositionsAreEvents : Type 0
-PositionsAreEvents = (d : Plan) (c : Claims) → Proves d c → HasEvents d (length c.positions)
+PositionsAreEvents = (d : Plan) (c : Claims) → Proves d c → HasEvents d c.level (length c.positions)
 
 pub record AreaLaws : Type 0 where
   pub agree : AnswersAgree
   pub partitions : PartitionsAreProved
+  pub faults : FaultsAreTrue
+  pub half_arcs : PairsHaveHalfArcs
   pub proofs : ProofsHold
   pub verifications : VerificationsAgree
   pub verified : VerifiedPartitions
@@ -84,36 +94,6 @@ neither true c h = absurd (cc)
 neither false c h = (refl, h)
 
 -- ---- straights and half arcs
-kind_half : (k : CurveKind) → is_half k ≡ true → k ≡ HalfArc
-kind_half Straight h = absurd (cc)
-kind_half HalfArc h = refl
-
-kind_straight : (k : CurveKind) → is_half k ≡ false → k ≡ Straight
-kind_straight Straight h = refl
-kind_straight HalfArc h = absurd (cc)
-
-abbrev HalfArcIn : List Curve → Type 0
-HalfArcIn cs = (i : ℕ) × (i < length cs) × ((nth_curve cs i).kind ≡ HalfArc)
-
-half_arc_in : (cs : List Curve) → list_any is_half_arc cs ≡ true → HalfArcIn cs
-half_arc_in [] h = absurd (cc)
-half_arc_in (c ∷ cs) h = elim (either (is_half_arc c) (list_any is_half_arc cs) h) as (λ z. HalfArcIn (c ∷ cs)) [
-  | inl e ↦ (0, omega arith, kind_half c.kind e)
-  | inr e ↦ (let r = half_arc_in cs e in (suc r.0, (let n = r.1 in omega (arith, n)), r.2))
-]
-
-straights_in : (cs : List Curve) → list_any is_half_arc cs ≡ false → AreAllStraight cs
-straights_in [] h i l = absurd (omega (arith, l))
-straights_in (c ∷ cs) h zero l = kind_straight c.kind (neither (is_half_arc c) (list_any is_half_arc cs) h).0
-straights_in (c ∷ cs) h (suc i) l = straights_in cs (neither (is_half_arc c) (list_any is_half_arc cs) h).1 i (omega (arith, l))
-
--- a drawing has a half arc, or straights alone
-pub some_half_arc : (d : Plan) (b : Bool) → b ≡ list_any is_half_arc d.curves → b ≡ true → HasHalfArc d
-some_half_arc d b e t = let r = half_arc_in d.curves (sym e ∙ t) in (r.0, record { there = r.1; kind = r.2 })
-
-pub all_straights : (d : Plan) (b : Bool) → b ≡ list_any is_half_arc d.curves → b ≡ false → AreStraights d
-all_straights d b e f = straights_in d.curves (sym e ∙ f)
-
 -- a drawing of straights has no half arc
 no_half_arc : (d : Plan) (i : ℕ) → AreStraights d → IsHalfArc d i → ⊥
 no_half_arc d i s h = kinds (curve d i) (s i h.there) h.kind
@@ -136,29 +116,29 @@ fault_not_left d (fault.Outside j) = refl
 fault_not_left d (fault.Two i j) = refl
 fault_not_left d (fault.Empty i left) = refl
 
-not_proved : (f : AreaFinding) → (c : Certificate) × (found.Fault f ≡ found.Proved c) → ⊥
-not_proved f r = let e = r.1 in cc
+not_proved : (i j : ℕ) → (c : Certificate) × (found.Undecided i j ≡ found.Proved c) → ⊥
+not_proved i j r = let e = r.1 in cc
 
 module _ (laws : AreaLaws) (l : Layout) (a : AreaOf) (d : Plan) (x : AreaAnswer) (cs : List Plain) where
   faulty_plan : is_fault x ≡ true → IsAnswer l a d x cs → IsFaultyPlan d
-  faulty_plan t (later i h e z) = differ (is_fault x) t (ap is_fault e)
-  faulty_plan t (faulty f s h e z) = record { finding = f; first = h; no_partition = λ p. not_proved f (laws.partitions d (found.Fault f) p h) }
-  faulty_plan t (proved c s h v e z) = differ (is_fault x) t (ap is_fault e)
+  faulty_plan t (faulty f h e z) = record { finding = f; first = h; no_partition = laws.faults d f h }
+  faulty_plan t (undecided i j h e z) = differ (is_fault x) t (ap is_fault e)
+  faulty_plan t (proved c h v e z) = differ (is_fault x) t (ap is_fault e)
 
-  left_plan : is_left x ≡ true → IsAnswer l a d x cs → HasHalfArc d
-  left_plan t (later i h e z) = (i, h)
-  left_plan t (faulty f s h e z) = differ (is_left x) t (ap is_left e ∙ fault_not_left d f)
-  left_plan t (proved c s h v e z) = differ (is_left x) t (ap is_left e)
+  undecided_plan : is_left x ≡ true → IsAnswer l a d x cs → IsUndecidedPlan d
+  undecided_plan t (faulty f h e z) = differ (is_left x) t (ap is_left e ∙ fault_not_left d f)
+  undecided_plan t (undecided i j h e z) = record { first = i; second = j; pair = h; half_arc = laws.half_arcs d i j h }
+  undecided_plan t (proved c h v e z) = differ (is_left x) t (ap is_left e)
 
-  decided_plan : is_fault x ≡ false → IsAnswer l a d x cs → HasHalfArc d ⊎ IsPartition d
-  decided_plan t (later i h e z) = inl (i, h)
-  decided_plan t (faulty f s h e z) = differ (is_fault x) (ap is_fault e ∙ fault_is_fault d f) t
-  decided_plan t (proved c s h v e z) = inr (laws.proofs d _ h.proves)
+  faultless_plan : is_fault x ≡ false → IsAnswer l a d x cs → IsFaultlessPlan d
+  faultless_plan t (faulty f h e z) = differ (is_fault x) (ap is_fault e ∙ fault_is_fault d f) t
+  faultless_plan t (undecided i j h e z) = inl (record { first = i; second = j; pair = h; half_arc = laws.half_arcs d i j h })
+  faultless_plan t (proved c h v e z) = inr (laws.proofs d _ h.proves)
 
   parted_plan : is_fault x ≡ false → is_left x ≡ false → IsAnswer l a d x cs → IsPartition d
-  parted_plan t n (later i h e z) = differ (is_left x) (ap is_left e) n
-  parted_plan t n (faulty f s h e z) = differ (is_fault x) (ap is_fault e ∙ fault_is_fault d f) t
-  parted_plan t n (proved c s h v e z) = laws.proofs d _ h.proves
+  parted_plan t n (faulty f h e z) = differ (is_fault x) (ap is_fault e ∙ fault_is_fault d f) t
+  parted_plan t n (undecided i j h e z) = differ (is_left x) (ap is_left e) n
+  parted_plan t n (proved c h v e z) = laws.proofs d _ h.proves
 
 any_here : (P : AreaOf → Type 0) (a : AreaOf) (as_ : List AreaOf) → P a → Any P (a ∷ as_)
 any_here P a as_ h = (0, a, omega arith, refl, h)
@@ -179,26 +159,26 @@ module _ (laws : AreaLaws) (l : Layout) (rows : List (List Row)) where
     | inr e ↦ any_there (IsDrawn l rows IsFaultyPlan) a as_ (some_faulty as_ ds xs h.1 w.1 h.3 e)
   ]
 
-  some_left : (as_ : List AreaOf) (ds : List Plan) (xs : List AreaAnswer) (cs : List Plain) → AllZip (IsDrawing l rows) as_ ds → AreAnswers l as_ ds xs cs → has_left xs ≡ true → Any (IsDrawn l rows HasHalfArc) as_
+  some_left : (as_ : List AreaOf) (ds : List Plan) (xs : List AreaAnswer) (cs : List Plain) → AllZip (IsDrawing l rows) as_ ds → AreAnswers l as_ ds xs cs → has_left xs ≡ true → Any (IsDrawn l rows IsUndecidedPlan) as_
   some_left [] [] [] cs w h f = absurd (cc)
   some_left [] [] (x ∷ xs) cs w h f = absurd h
   some_left [] (d ∷ ds) xs cs w h f = absurd h
   some_left (a ∷ as_) [] xs cs w h f = absurd h
   some_left (a ∷ as_) (d ∷ ds) [] cs w h f = absurd h
-  some_left (a ∷ as_) (d ∷ ds) (x ∷ xs) cs w h f = elim (either (is_left x) (has_left xs) f) as (λ z. Any (IsDrawn l rows HasHalfArc) (a ∷ as_)) [
-    | inl e ↦ any_here (IsDrawn l rows HasHalfArc) a as_ (d, w.0, left_plan laws l a d x h.0 e h.2)
-    | inr e ↦ any_there (IsDrawn l rows HasHalfArc) a as_ (some_left as_ ds xs h.1 w.1 h.3 e)
+  some_left (a ∷ as_) (d ∷ ds) (x ∷ xs) cs w h f = elim (either (is_left x) (has_left xs) f) as (λ z. Any (IsDrawn l rows IsUndecidedPlan) (a ∷ as_)) [
+    | inl e ↦ any_here (IsDrawn l rows IsUndecidedPlan) a as_ (d, w.0, undecided_plan laws l a d x h.0 e h.2)
+    | inr e ↦ any_there (IsDrawn l rows IsUndecidedPlan) a as_ (some_left as_ ds xs h.1 w.1 h.3 e)
   ]
 
-  all_decided : (as_ : List AreaOf) (ds : List Plan) (xs : List AreaAnswer) (cs : List Plain) → AllZip (IsDrawing l rows) as_ ds → AreAnswers l as_ ds xs cs → has_fault xs ≡ false → All (IsDrawn l rows IsDecidedPlan) as_
-  all_decided [] [] [] cs w h f = All-nil (IsDrawn l rows IsDecidedPlan)
-  all_decided [] [] (x ∷ xs) cs w h f = absurd h
-  all_decided [] (d ∷ ds) xs cs w h f = absurd h
-  all_decided (a ∷ as_) [] xs cs w h f = absurd h
-  all_decided (a ∷ as_) (d ∷ ds) [] cs w h f = absurd h
-  all_decided (a ∷ as_) (d ∷ ds) (x ∷ xs) cs w h f =
+  all_faultless : (as_ : List AreaOf) (ds : List Plan) (xs : List AreaAnswer) (cs : List Plain) → AllZip (IsDrawing l rows) as_ ds → AreAnswers l as_ ds xs cs → has_fault xs ≡ false → All (IsDrawn l rows IsFaultlessPlan) as_
+  all_faultless [] [] [] cs w h f = All-nil (IsDrawn l rows IsFaultlessPlan)
+  all_faultless [] [] (x ∷ xs) cs w h f = absurd h
+  all_faultless [] (d ∷ ds) xs cs w h f = absurd h
+  all_faultless (a ∷ as_) [] xs cs w h f = absurd h
+  all_faultless (a ∷ as_) (d ∷ ds) [] cs w h f = absurd h
+  all_faultless (a ∷ as_) (d ∷ ds) (x ∷ xs) cs w h f =
       let n = neither (is_fault x) (has_fault xs) f in
-      All-cons (IsDrawn l rows IsDecidedPlan) a as_ (d, w.0, decided_plan laws l a d x h.0 n.0 h.2) (all_decided as_ ds xs h.1 w.1 h.3 n.1)
+      All-cons (IsDrawn l rows IsFaultlessPlan) a as_ (d, w.0, faultless_plan laws l a d x h.0 n.0 h.2) (all_faultless as_ ds xs h.1 w.1 h.3 n.1)
 
   all_parted : (as_ : List AreaOf) (ds : List Plan) (xs : List AreaAnswer) (cs : List Plain) → AllZip (IsDrawing l rows) as_ ds → AreAnswers l as_ ds xs cs → has_fault xs ≡ false → has_left xs ≡ false → All (IsDrawn l rows IsPartition) as_
   all_parted [] [] [] cs w h f g = All-nil (IsDrawn l rows IsPartition)
@@ -216,7 +196,7 @@ module _ (laws : AreaLaws) (l : Layout) (rows : List (List Row)) where
     faulty_area = some_faulty l.areas ds xs cs w h
 
     pub left_areas : has_fault xs ≡ false → has_left xs ≡ true → AreLeftAreas l rows
-    left_areas f g = (some_left l.areas ds xs cs w h g, all_decided l.areas ds xs cs w h f)
+    left_areas f g = (some_left l.areas ds xs cs w h g, all_faultless l.areas ds xs cs w h f)
 
     pub parted_areas : has_fault xs ≡ false → has_left xs ≡ false → ArePartedAreas l rows
     parted_areas = all_parted l.areas ds xs cs w h
@@ -233,37 +213,16 @@ module _ (l : Layout) (rows : List (List Row)) where
   pub parted_all : (ds : List Plan) → AreDrawings l rows ds → All IsPartition ds → ArePartedAreas l rows
   parted_all = parted_from l.areas
 
-  -- some drawing has a half arc, or none has
-  arc_from : (as_ : List AreaOf) (ds : List Plan) → AllZip (IsDrawing l rows) as_ ds → has_arc ds ≡ true → Any (IsDrawn l rows HasHalfArc) as_
-  arc_from [] [] w h = absurd (cc)
-  arc_from [] (d ∷ ds) w h = absurd w
-  arc_from (a ∷ as_) [] w h = absurd w
-  arc_from (a ∷ as_) (d ∷ ds) w h = elim (either (has_half_arc d) (has_arc ds) h) as (λ z. Any (IsDrawn l rows HasHalfArc) (a ∷ as_)) [
-    | inl e ↦ any_here (IsDrawn l rows HasHalfArc) a as_ (d, w.0, some_half_arc d true (sym e) refl)
-    | inr e ↦ any_there (IsDrawn l rows HasHalfArc) a as_ (arc_from as_ ds w.1 e)
-  ]
-
-  pub some_arc : (ds : List Plan) (b : Bool) → AreDrawings l rows ds → b ≡ has_arc ds → b ≡ true → HasArcArea l rows
-  some_arc ds b w e t = arc_from l.areas ds w (sym e ∙ t)
-
-  arc_on : (d e : Plan) → d.curves ≡ e.curves → HasHalfArc d → HasHalfArc e
-  arc_on d e q h =
-      let r : HalfArcIn e.curves = subst HalfArcIn q (h.0, h.1.there, h.1.kind) in
-      (r.0, record { there = r.1; kind = r.2 })
-
-  no_arc_from : (as_ : List AreaOf) (ds : List Plan) → AllZip (IsDrawing l rows) as_ ds → has_arc ds ≡ false → (k : ℕ) (a : AreaOf) → k < length as_ → a ≡ get_or as_ k a → IsDrawn l rows HasHalfArc a → ⊥
-  no_arc_from [] [] w h k a n e s = absurd (omega (arith, n))
-  no_arc_from [] (d ∷ ds) w h k a n e s = absurd w
-  no_arc_from (b ∷ as_) [] w h k a n e s = absurd w
-  no_arc_from (b ∷ as_) (d ∷ ds) w h zero a n e s =
-      let f = (neither (has_half_arc d) (has_arc ds) h).0 in
-      let t = subst (IsDrawn l rows HasHalfArc) e s in
-      let c = arc_on t.0 d (t.1.curves ∙ sym w.0.curves) t.2 in
-      no_half_arc d c.0 (all_straights d false (sym f) refl) c.1
-  no_arc_from (b ∷ as_) (d ∷ ds) w h (suc k) a n e s = no_arc_from as_ ds w.1 (neither (has_half_arc d) (has_arc ds) h).1 k a (omega (arith, n)) e s
-
-  pub no_arc : (ds : List Plan) (b : Bool) → AreDrawings l rows ds → b ≡ has_arc ds → b ≡ false → HasArcArea l rows → ⊥
-  no_arc ds b w e t h = no_arc_from l.areas ds w (sym e ∙ t) h.0 h.1 h.2 (sym h.3) h.4
+  -- no drawing of straights is undecided
+  pub straights_decided : HaveStraightLines l rows → AreLeftAreas l rows → ⊥
+  straights_decided s h =
+      let k = h.0.0 in
+      let a = h.0.1 in
+      let lines : AreAllStraight (area_curves l rows a) = subst (λ (b : AreaOf). AreAllStraight (area_curves l rows b)) h.0.3 (s k a h.0.2) in
+      none h.0.4.0 (subst AreAllStraight (sym h.0.4.1.curves) lines) h.0.4.2
+    where
+      none : (d : Plan) → AreStraights d → IsUndecidedPlan d → ⊥
+      none d s u = elim u.half_arc as (λ z. ⊥) [ inl n ↦ no_half_arc d u.first s n | inr n ↦ no_half_arc d u.second s n ]
 
 -- what is told of answers, by whether one is a fault and whether one is left
 abbrev pub told_by : Layout → ℕ → Target → List AreaAnswer → List Plain → Bool → Bool → Outcome
@@ -285,6 +244,25 @@ told_alike : (d : Plan) (f g : AreaFinding) → search.Agree (found.Fault f) (fo
 told_alike d _ _ (search.meetings i j k m) = both_meet (curve_line d i) (curve_line d j) (curve_line d k) (curve_line d m) refl refl
 told_alike d _ _ (search.faults f) = equal refl
 
+pairs_alike : (d : Plan) (i j k m : ℕ) → search.Agree (found.Undecided i j) (found.Undecided k m) → undecided_told d i j ≡ undecided_told d k m
+pairs_alike d _ _ _ _ (search.pairs i j) = refl
+
+abbrev is_pair : Found → Bool
+is_pair (found.Undecided i j) = true
+is_pair _ = false
+
+same_kinds : (a b : Found) → search.Agree a b → is_pair a ≡ is_pair b
+same_kinds _ _ (search.meetings i j k m) = refl
+same_kinds _ _ (search.faults f) = refl
+same_kinds _ _ (search.pairs i j) = refl
+same_kinds _ _ (search.certificates c e l) = refl
+
+-- a drawing has one least level
+same_level : (d : Plan) (l m : ℕ) → search.IsLeastLevel d l → search.IsLeastLevel d m → l ≡ m
+same_level d l m p q =
+    by_lt l m (λ (k : l < m). absurd (q.least l k p.settled))
+    (λ (k : m ≤ l). by_lt m l (λ (n : m < l). absurd (p.least m n q.settled)) (λ (n : l ≤ m). omega (arith, k, n)))
+
 alike_as : (x y v w : AreaAnswer) → x ≡ v → y ≡ w → AreAlike v w → AreAlike x y
 alike_as x y v w e f (equal h) = equal (e ∙ h ∙ sym f)
 alike_as x y v w e f (both_meet i j k m h n) = both_meet i j k m (e ∙ h) (f ∙ n)
@@ -304,15 +282,15 @@ alike_lines l a x y (both_meet i j k m e f) =
 
 module _ (laws : AreaLaws) (l : Layout) where
   alike : (a : AreaOf) (d : Plan) (x y : AreaAnswer) (cs es : List Plain) → IsAnswer l a d x cs → IsAnswer l a d y es → AreAlike x y
-  alike a d x y cs es (later i h e z) (later j k g w) = equal (e ∙ sym g)
-  alike a d x y cs es (later i h e z) (faulty f s k g w) = absurd (no_half_arc d i s h)
-  alike a d x y cs es (later i h e z) (proved c s k v g w) = absurd (no_half_arc d i s h)
-  alike a d x y cs es (faulty f s h e z) (later j k g w) = absurd (no_half_arc d j s k)
-  alike a d x y cs es (faulty f s h e z) (faulty n t k g w) = alike_as x y _ _ e g (told_alike d f n (laws.agree d (found.Fault f) (found.Fault n) h k))
-  alike a d x y cs es (faulty f s h e z) (proved c t k v g w) = absurd (not_proved f (laws.partitions d (found.Fault f) (laws.proofs d _ k.proves) h))
-  alike a d x y cs es (proved c s h v e z) (later j k g w) = absurd (no_half_arc d j s k)
-  alike a d x y cs es (proved c s h v e z) (faulty f t k g w) = absurd (not_proved f (laws.partitions d (found.Fault f) (laws.proofs d _ h.proves) k))
-  alike a d x y cs es (proved c s h v e z) (proved b t k u g w) = equal (e ∙ ap (proof_told d) (v ∙ sym u) ∙ sym g)
+  alike a d x y cs es (faulty f h e z) (faulty n k g w) = alike_as x y _ _ e g (told_alike d f n (laws.agree d (found.Fault f) (found.Fault n) h k))
+  alike a d x y cs es (faulty f h e z) (undecided i j k g w) = absurd (let q = same_kinds _ _ (laws.agree d (found.Fault f) (found.Undecided i j) h k) in cc)
+  alike a d x y cs es (faulty f h e z) (proved c k v g w) = absurd (laws.faults d f h (laws.proofs d _ k.proves))
+  alike a d x y cs es (undecided i j h e z) (faulty f k g w) = absurd (let q = same_kinds _ _ (laws.agree d (found.Undecided i j) (found.Fault f) h k) in cc)
+  alike a d x y cs es (undecided i j h e z) (undecided n m k g w) = equal (e ∙ pairs_alike d i j n m (laws.agree d (found.Undecided i j) (found.Undecided n m) h k) ∙ sym g)
+  alike a d x y cs es (undecided i j h e z) (proved c k v g w) = absurd (not_proved i j (laws.partitions d (found.Undecided i j) (laws.proofs d _ k.proves) (c.level, v) h))
+  alike a d x y cs es (proved c h v e z) (faulty f k g w) = absurd (laws.faults d f k (laws.proofs d _ h.proves))
+  alike a d x y cs es (proved c h v e z) (undecided i j k g w) = absurd (not_proved i j (laws.partitions d (found.Undecided i j) (laws.proofs d _ h.proves) (c.level, v) k))
+  alike a d x y cs es (proved c h v e z) (proved b k u g w) = equal (e ∙ ap (proof_told d) (same_level d c.level b.level v u) ∙ sym g)
 
   same_faults : (as_ : List AreaOf) (ds : List Plan) (xs ys : List AreaAnswer) (cs es : List Plain) → AreAnswers l as_ ds xs cs → AreAnswers l as_ ds ys es → has_fault xs ≡ has_fault ys
   same_faults [] [] [] [] cs es h k = refl
@@ -349,17 +327,18 @@ module _ (laws : AreaLaws) (l : Layout) where
   -- two certificates of one drawing have one number of positions
   module _ (n : ℕ) where
     proved_line : (a : AreaOf) (d : Plan) (x : AreaAnswer) (cs : List Plain) → IsAnswer l a d x cs → is_fault x ≡ false → is_left x ≡ false
-        → (e : ℕ) × HasEvents d e × (c : Plain) × (cs ≡ c ∷ []) × (trial_line n x c ≡ lines.trial n (length d.curves) e (length d.points) ∷ [])
-    proved_line a d x cs (later i h e z) f g = differ (is_left x) (ap is_left e) g
-    proved_line a d x cs (faulty p s h e z) f g = differ (is_fault x) (ap is_fault e ∙ fault_is_fault d p) f
-    proved_line a d x cs (proved c s h v e z) f g = (length c.positions, laws.positions d _ h.proves, c, z, ap (λ (y : AreaAnswer). trial_line n y c) e)
+        → (level : ℕ) × search.IsLeastLevel d level × (e : ℕ) × HasEvents d level e × (c : Plain) × (cs ≡ c ∷ []) × (trial_line n x c ≡ lines.trial n (length d.curves) e (length d.points) ∷ [])
+    proved_line a d x cs (faulty p h e z) f g = differ (is_fault x) (ap is_fault e ∙ fault_is_fault d p) f
+    proved_line a d x cs (undecided i j h e z) f g = differ (is_left x) (ap is_left e) g
+    proved_line a d x cs (proved c h v e z) f g = (c.level, v, length c.positions, laws.positions d _ h.proves, c, z, ap (λ (y : AreaAnswer). trial_line n y c) e)
 
     same_line : (a : AreaOf) (d : Plan) (x y : AreaAnswer) (cs es : List Plain) → IsAnswer l a d x cs → IsAnswer l a d y es → is_fault x ≡ false → is_left x ≡ false → is_fault y ≡ false → is_left y ≡ false
         → (c : Plain) × (e : Plain) × (cs ≡ c ∷ []) × (es ≡ e ∷ []) × (trial_line n x c ≡ trial_line n y e)
     same_line a d x y cs es h k fx gx fy gy =
         let p = proved_line a d x cs h fx gx in
         let q = proved_line a d y es k fy gy in
-        (p.2, q.2, p.3, q.3, p.4 ∙ ap (λ (m : ℕ). lines.trial n (length d.curves) m (length d.points) ∷ []) (laws.events d p.0 q.0 p.1 q.1) ∙ sym q.4)
+        let events = subst (λ (level : ℕ). HasEvents d level p.2) (same_level d p.0 q.0 p.1 q.1) p.3 in
+        (p.4, q.4, p.5, q.5, p.6 ∙ ap (λ (m : ℕ). lines.trial n (length d.curves) m (length d.points) ∷ []) (laws.events d q.0 p.2 q.2 events q.3) ∙ sym q.6)
 
     same_sizes : (as_ : List AreaOf) (ds : List Plan) (xs ys : List AreaAnswer) (cs es : List Plain) → AreAnswers l as_ ds xs cs → AreAnswers l as_ ds ys es → has_fault xs ≡ false → has_left xs ≡ false → has_fault ys ≡ false → has_left ys ≡ false → size_lines n xs cs ≡ size_lines n ys es
     same_sizes [] [] [] [] cs es h k fx gx fy gy = refl

@@ -11,7 +11,7 @@ use Rattle.plane.specs.declared.drawing.Drawing.{Drawing}
 use Rattle.delivery.specs.AreaAnswers.{plans, proof_told}
 use Rattle.certificate.specs.Spelling.{view, views}
 use Rattle.certificate.specs.declared.notes.Certificate.{Certificate}
-use Rattle.delivery.specs.Outcomes.{area_line, area_lines, arc_line, arc_lines, trial_line, size_lines, proofs_told}
+use Rattle.delivery.specs.Outcomes.{area_line, area_lines, trial_line, size_lines, proofs_told}
 use Rattle.delivery.specs.declared.report.lines.AreaAnswer.{AreaAnswer}
 use Rattle.delivery.specs.declared.report.lines.Line as code
 
@@ -31,19 +31,6 @@ pub told_more : (l : Layout) (all : List AreaOf) (a : AreaOf) (as_ : List AreaOf
 told_more l all a as_ whole x xs old new line result e f g h k =
     let same : area_lines l (areas_view all) whole ≡ (line_of line ∷ []) ++ area_lines l (areas_view as_) xs = rw (e, f, h) refl in
     rw (g, map-append line_of old (line ∷ []), append_assoc, ← same) k
-
--- ---- the lines of areas with a half arc
-pub arcs_end : (l : Layout) (as_ : List AreaOf) (ds : List Drawing) → (as_ ≡ []) ⊎ (ds ≡ []) → arc_lines l (areas_view as_) (plans ds) ≡ []
-arcs_end l [] ds h = refl
-arcs_end l (a ∷ as_) [] h = refl
-arcs_end l (a ∷ as_) (d ∷ ds) (inl h) = absurd (cc)
-arcs_end l (a ∷ as_) (d ∷ ds) (inr h) = absurd (cc)
-
-pub arcs_more : (l : Layout) (all : List AreaOf) (a : AreaOf) (as_ : List AreaOf) (whole : List Drawing) (d : Drawing) (ds : List Drawing) (old new result : List Line) → all ≡ a ∷ as_ → whole ≡ d ∷ ds
-    → new ≡ old ++ arc_line l (area_view a) (plan d) → old ++ arc_lines l (areas_view all) (plans whole) ≡ result → new ++ arc_lines l (areas_view as_) (plans ds) ≡ result
-arcs_more l all a as_ whole d ds old new result e f g k =
-    let same : arc_lines l (areas_view all) (plans whole) ≡ arc_line l (area_view a) (plan d) ++ arc_lines l (areas_view as_) (plans ds) = rw (e, f) refl in
-    rw (g, append_assoc, ← same) k
 
 -- ---- the lines of a trial
 pub sizes_end : (n : ℕ) (xs : List AreaAnswer) (cs : List Certificate) → (xs ≡ []) ⊎ (cs ≡ []) → size_lines n xs (views cs) ≡ []

@@ -15,7 +15,7 @@ use Rattle.delivery.specs.Amounting.{Amounts, HasSoundRows, HasFault, HasLargeAr
 use Rattle.delivery.specs.Judging.{findings, objects, Tells, IsClean, AreJudged, IsRowsChecked, faulty, oversized, judged, IsChecked, at_fault, well_formed}
 use Rattle.delivery.specs.AreaAnswers.{has_fault, has_left, HasFaultyArea, ArePartedAreas, AreLeftAreas}
 use Rattle.delivery.specs.AreaLimits.{has_too_large}
-use Rattle.delivery.specs.Outcomes.{Target, check_target, trial_target, Outcome, usage, unread, too_long, area_too_large, refused, compiled, misbuilt, rejected, areas_told, arcs_left, verified}
+use Rattle.delivery.specs.Outcomes.{Target, check_target, trial_target, Outcome, usage, unread, too_long, area_too_large, refused, compiled, misbuilt, rejected, areas_told, verified}
 use Rattle.delivery.specs.FiledTexts as filed_texts
 use Rattle.delivery.specs.FiledTexts.{AreVerified, IsRowsVerified, IsVerified}
 use Rattle.delivery.specs.Verifying as verifying
@@ -60,12 +60,11 @@ module _ (laws : AreaLaws) (told : Option Files) (counted : List ℕ → Type 0)
       where
         by : (v : Verification) → IsVerification l j.drawings filed v → Means told counted words (verified l (objects rows) j.drawings v).status
         by (verifying.proved levels) h = (verify c, l, text ∷ filed ∷ [], i, g_, (rows, t, k, b, ((j.drawings, j.drawn, levels, h), parted_all l rows j.drawings j.drawn (laws.verified l j.drawings filed levels h))))
-        by (verifying.not_proved a rule place) h = (verify c, l, text ∷ filed ∷ [], i, g_, (rows, t, k, b, (j.straights, (j.drawings, j.drawn, a, rule, place, h))))
+        by (verifying.not_proved a rule place) h = (verify c, l, text ∷ filed ∷ [], i, g_, (rows, t, k, b, (j.drawings, j.drawn, a, rule, place, h)))
 
     filed_rows_mean : (rows : List (List Row)) → Tells l text rows → (o : Outcome) → IsRowsVerified l rows filed o → Means told counted words o.status
     filed_rows_mean rows t o (filed_texts.faulty n e) = moved o (rejected (findings l rows)) e (verify c, l, text ∷ filed ∷ [], i, g_, inr (rows, t, n))
     filed_rows_mean rows t o (filed_texts.oversized k b e) = moved o area_too_large e (inr (verify c, l, text ∷ filed ∷ [], i, g_, (rows, t, k, b)))
-    filed_rows_mean rows t o (filed_texts.arcs k b h) = moved o (arcs_left l h.drawings) h.told (verify c, l, text ∷ filed ∷ [], i, g_, (rows, t, k, b, h.arcs))
     filed_rows_mean rows t o (filed_texts.verified k b j) = verified_means rows t k b o j
 
     verify_means : (o : Outcome) → IsVerified l text filed o → Means told counted words o.status
@@ -129,7 +128,6 @@ verified_fixed l rows filed o j = fixed_as o (verified l (objects rows) j.drawin
 filed_rows_fixed : (l : Layout) (rows : List (List Row)) (filed : List ℕ) (o : Outcome) → IsRowsVerified l rows filed o → IsFixed o.status
 filed_rows_fixed l rows filed o (filed_texts.faulty n e) = fixed_as o (rejected (findings l rows)) e tt
 filed_rows_fixed l rows filed o (filed_texts.oversized k b e) = fixed_as o area_too_large e tt
-filed_rows_fixed l rows filed o (filed_texts.arcs k b h) = fixed_as o (arcs_left l h.drawings) h.told tt
 filed_rows_fixed l rows filed o (filed_texts.verified k b j) = verified_fixed l rows filed o j
 
 filed_fixed : (l : Layout) (text filed : List ℕ) (o : Outcome) → IsVerified l text filed o → IsFixed o.status

@@ -3,14 +3,9 @@ use Rattle.std.proofs.Common.{◌≡◌, ℕ, zero, suc, ◌*◌, List, [], ◌�
 use Rattle.certificate.specs.Spelling.{ArePaired, pairs, view}
 use Rattle.certificate.specs.declared.notes.Certificate.{Certificate}
 use Rattle.certificate.specs.declared.notes.HalfNote.{HalfNote}
-use Rattle.certificate_checker.specs.Rules.{HasCounts}
 use Rattle.certificate_checker.specs.Subjects.{Claims, claims}
-use Rattle.certificate_checker.specs.Verdicts.{Proves, subject_in}
+use Rattle.certificate_checker.specs.Verdicts.{Proves}
 use Rattle.plane.specs.Rule.Plans.{Plan}
-use Rattle.plane.specs.Runs.Timetables.{Timed}
-use Rattle.plane.specs.declared.kinds.Edge.{Edge}
-use Rattle.plane.specs.declared.kinds.Placed.{Placed}
-use Rattle.tubes.specs.DrawnEdges.{edges_of}
 use Rattle.delivery.specs.AreaCertificates.{claims_of, notes_of}
 
 -- notes that have partners are those of their pairs
@@ -31,11 +26,8 @@ even_paired (a ∷ []) n h = absurd (omega (arith, h))
 even_paired (a ∷ b ∷ notes) zero h = absurd (omega (arith, h))
 even_paired (a ∷ b ∷ notes) (suc n) h = even_paired notes n (omega (arith, h))
 
-pub counted_paired : (edges : List Edge) (points : List Placed) (table : List Timed) (c : Certificate) → HasCounts (subject_in edges points (claims c) table) → ArePaired c.notes.items
-counted_paired edges points table c h = even_paired c.notes.items (length edges) h.notes
-
 pub proved_paired : (d : Plan) (c : Certificate) → Proves d (claims c) → ArePaired c.notes.items
-proved_paired d c p = even_paired c.notes.items (length (edges_of d)) p.rules.counts.notes
+proved_paired d c p = even_paired c.notes.items _ p.rules.counts.notes
 
 -- what proves a drawing as it lies in memory proves it by its text
 pub proved_view : (d : Plan) (c : Certificate) → Proves d (claims c) → Proves d (claims_of (view c))

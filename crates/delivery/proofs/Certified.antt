@@ -6,7 +6,7 @@ use Rattle.itf_reader.specs.Forms.{Row}
 use Rattle.table_layout.specs.Layouts.{AreaOf, Layout}
 use Rattle.plane.specs.Rule.Plans.{Plan}
 use Rattle.delivery.specs.Amounting.{Amounts}
-use Rattle.delivery.specs.AreaAnswers.{IsAnswer, later, faulty, proved, AreAnswers, is_fault, is_left, has_fault, has_left}
+use Rattle.delivery.specs.AreaAnswers.{IsAnswer, faulty, undecided, proved, AreAnswers, is_fault, is_left, has_fault, has_left}
 use Rattle.delivery.specs.AreaCertificates.{IsCertificateOf, AreCertificatesOf}
 use Rattle.delivery.specs.Certified.{AreCertified, Certifies}
 use Rattle.delivery.specs.Commands.{Command, compile, check, verify, trial, writes_to}
@@ -24,9 +24,9 @@ use Rattle.delivery.proofs.OneCommand.{one_command}
 
 -- ---- one certificate for each area
 one_certificate : (l : Layout) (a : AreaOf) (d : Plan) (x : AreaAnswer) (here : List Plain) → IsAnswer l a d x here → is_fault x ≡ false → is_left x ≡ false → (c : Plain) × (here ≡ c ∷ []) × IsCertificateOf l a d c
-one_certificate l a d x here (later i h e z) f g = differ (is_left x) (ap is_left e) g
-one_certificate l a d x here (faulty n s h e z) f g = differ (is_fault x) (ap is_fault e ∙ fault_is_fault d n) f
-one_certificate l a d x here (proved c s h v e z) f g = (c, z, h)
+one_certificate l a d x here (faulty n h e z) f g = differ (is_fault x) (ap is_fault e ∙ fault_is_fault d n) f
+one_certificate l a d x here (undecided i j h e z) f g = differ (is_left x) (ap is_left e) g
+one_certificate l a d x here (proved c h v e z) f g = (c, z, h)
 
 certificates : (l : Layout) (as_ : List AreaOf) (ds : List Plan) (xs : List AreaAnswer) (cs : List Plain) → AreAnswers l as_ ds xs cs → has_fault xs ≡ false → has_left xs ≡ false → AreCertificatesOf l as_ ds cs
 certificates l [] [] [] cs h f g = subst (AreCertificatesOf l [] []) (sym h) tt

@@ -10,6 +10,7 @@ pub mod Closings
 pub mod CommandLemmas
 pub mod CurveLemmas
 pub mod Drawables
+pub mod FewCurves
 pub mod JudgingSteps
 pub mod KeptAt
 pub mod KeptPlaces
@@ -22,6 +23,7 @@ pub mod PointLemmas
 pub mod PutLemmas
 pub mod ReportLemmas
 pub mod Steps
+pub mod StraightAreas
 pub mod StrokeSteps
 pub mod TrialLengths
 pub mod TrialSizes

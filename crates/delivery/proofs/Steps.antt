@@ -1,28 +1,20 @@
 -- One step of a call after another.
-use Rattle.std.proofs.Common.{◌≡◌, ℕ, ◌≤◌, false, List, [], ◌∷◌, ◌++◌, Option, Result, Ok, Err, refl, subst, sym, arith, inl, inr}
+use Rattle.std.proofs.Common.{◌≡◌, ℕ, ◌≤◌, List, [], ◌∷◌, ◌++◌, Option, Result, Ok, Err, refl, subst, sym, arith, inl, inr}
 use Rattle.std.specs.Prelude.{IfOk, IsErrOf}
 use Rattle.ports.specs.Faults.{Rose}
 use Rattle.ports.specs.Files.{Files}
-use Rattle.itf_reader.specs.Forms.{Row}
 use Rattle.table_layout.specs.Layouts.{Layout}
 use Rattle.delivery.specs.Commands.{Command, compile, trial, Source, from_file, made, limit_of, model_of, further_files}
 use Rattle.delivery.specs.Deciding.{Decides, formless, formed}
 use Rattle.delivery.specs.Ending.{Ends, EndsAfter, EndsModel}
-use Rattle.delivery.specs.FiledTexts as filed_texts
-use Rattle.delivery.specs.FiledTexts.{IsRowsVerified}
-use Rattle.delivery.specs.AreaLimits.{has_too_large}
-use Rattle.delivery.specs.OutcomeViews.{outcome_of}
-use Rattle.delivery.specs.declared.outcome.Outcome as outcome
-use Rattle.delivery.specs.RowsRead as rows_read
 use Rattle.delivery.specs.Gathering as gathering
 use Rattle.delivery.specs.Gathering.{Gathered, Reads, ReadsAll, Compiles, Gathers}
 use Rattle.delivery.specs.Amounting.{Amounts}
-use Rattle.delivery.specs.Judging.{IsClean, IsChecked}
+use Rattle.delivery.specs.Judging.{IsChecked}
 use Rattle.delivery.specs.Outcomes.{Outcome, trial_target, compiled}
 use Rattle.delivery.specs.TrialFiles.{transfer_text}
 use Rattle.delivery.specs.Reading.{IsLonger}
 use Rattle.delivery.specs.FileRefusals.{IsNotRead}
-use Rattle.delivery.specs.RowsRead.{IsDrawnVerified}
 use Rattle.delivery.specs.declared.files.File.{File}
 use Rattle.delivery.specs.Pieces.{IsTransfer}
 use Rattle.delivery.specs.declared.files.File.TheVariants.{Transfer}
@@ -34,11 +26,6 @@ use Rattle.delivery.specs.declared.files.FileRefusal.TheVariants.{Failed, TooLon
 pub if_ok : {A E : Type 0} (P Q : A → Type 0) (r : Result A E) → ((x : A) → P x → Q x) → IfOk r P → IfOk r Q
 if_ok P Q (Ok x) f h = f x h
 if_ok P Q (Err e) f h = h
-
--- filed certificates against areas that are drawn
-pub rows_verified : (l : Layout) (rows : List (List Row)) (filed : List ℕ) (o : outcome.Outcome) → IsClean l rows → has_too_large rows l.areas ≡ false → IsDrawnVerified l rows filed o → IsRowsVerified l rows filed (outcome_of o)
-rows_verified l rows filed o c s (rows_read.arcs a) = filed_texts.arcs c s a
-rows_verified l rows filed o c s (rows_read.judged v) = filed_texts.verified c s v
 
 -- counts that rise in one part of a call rise in the whole of it
 pub rose_after : (a b c : ℕ) → a ≤ b → Rose b c → Rose a c

@@ -6,8 +6,7 @@ use Rattle.std.proofs.lemmas.Option.{same_Some, slice_get_within}
 use Rattle.straight_predicates.proofs.Orders.{by_lt}
 use Rattle.certificate.specs.Spelling.{Plain}
 use Rattle.certificate.proofs.TextLaws.{one_list}
-use Rattle.certificate_checker.proofs.OneFault.{broken_unproved, one_broken}
-use Rattle.certificate_checker.proofs.Proving.{proves_partition}
+use Rattle.certificate_checker.specs.Subjects.{Claims}
 use Rattle.certificate_checker.specs.Verdicts.{IsBroken, Proves}
 use Rattle.plane.specs.Rule.Partition.{IsPartition}
 use Rattle.plane.specs.Rule.Plans.{Plan}
@@ -15,6 +14,23 @@ use Rattle.table_layout.specs.Layouts.{AreaOf, Layout}
 use Rattle.delivery.specs.AreaCertificates.{AreCertificatesOf, IsCertificateOf, claims_of}
 use Rattle.delivery.specs.Verifying.{Verification, proved, not_proved, Spells, IsNamedAt, AreNamed, IsMisnamedAt, IsProvedAt, IsBrokenAt, levels_of, IsVerification, unspelt, misnamed, broken, all_proved}
 use Rattle.delivery.proofs.BadLines.{one_bad_line}
+
+-- ---- the laws of one certificate
+-- what proves a drawing breaks no rule
+abbrev pub ProofsAreUnbroken : Type 0
+ProofsAreUnbroken = (d : Plan) (c : Claims) (rule place : ℕ) → Proves d c → IsBroken d c rule place → ⊥
+
+-- one rule is broken first, in one place
+abbrev pub RulesAreOne : Type 0
+RulesAreOne = (d : Plan) (c : Claims) (m p n q : ℕ) → IsBroken d c m p → IsBroken d c n q → m ≡ n
+
+abbrev pub PlacesAreOne : Type 0
+PlacesAreOne = (d : Plan) (c : Claims) (m p n q : ℕ) → IsBroken d c m p → IsBroken d c n q → p ≡ q
+
+pub record CheckLaws : Type 0 where
+  pub unbroken : ProofsAreUnbroken
+  pub rule : RulesAreOne
+  pub place : PlacesAreOne
 
 same_list : (text : List ℕ) (cs es : List Plain) → Spells text cs → Spells text es → cs ≡ es
 same_list text cs es a b = one_list cs es a.spelt b.spelt (sym a.same ∙ b.same)
@@ -112,10 +128,10 @@ module _ (l : Layout) where
   ]
 
 -- ---- drawings
-module _ (ds : List Plan) (cs : List Plain) where
+module _ (laws : CheckLaws) (ds : List Plan) (cs : List Plain) where
   proved_unbroken : (k rule place : ℕ) → IsProvedAt ds cs k → IsBrokenAt ds cs k rule place → ⊥
   proved_unbroken k rule place p b =
-      broken_unproved b.drawing (claims_of b.certificate) rule place
+      laws.unbroken b.drawing (claims_of b.certificate) rule place
       (subst (λ d. Proves d (claims_of b.certificate)) (same_Some p.drawing b.drawing (sym p.drawing_there ∙ b.drawing_there))
       (subst (λ c. Proves p.drawing (claims_of c)) (same_Some p.certificate b.certificate (sym p.certificate_there ∙ b.certificate_there)) p.proves))
       b.broken
@@ -127,10 +143,12 @@ module _ (ds : List Plan) (cs : List Plain) where
 
   one_broken_rule : (k r s p q : ℕ) → IsBrokenAt ds cs k r p → IsBrokenAt ds cs k s q → (r ≡ s) × (p ≡ q)
   one_broken_rule k r s p q a b =
-      one_broken b.drawing (claims_of b.certificate) r p s q
-      (subst (λ d. IsBroken d (claims_of b.certificate) r p) (same_Some a.drawing b.drawing (sym a.drawing_there ∙ b.drawing_there))
-      (subst (λ c. IsBroken a.drawing (claims_of c) r p) (same_Some a.certificate b.certificate (sym a.certificate_there ∙ b.certificate_there)) a.broken))
-      b.broken
+      let first : IsBroken b.drawing (claims_of b.certificate) r p =
+      subst (λ d. IsBroken d (claims_of b.certificate) r p) (same_Some a.drawing b.drawing (sym a.drawing_there ∙ b.drawing_there))
+      (subst (λ c. IsBroken a.drawing (claims_of c) r p) (same_Some a.certificate b.certificate (sym a.certificate_there ∙ b.certificate_there)) a.broken) in (
+        laws.rule b.drawing (claims_of b.certificate) r p s q first b.broken,
+        laws.place b.drawing (claims_of b.certificate) r p s q first b.broken,
+      )
 
   same_broken : (k m r s p q : ℕ) → IsBrokenAt ds cs k r p → IsBrokenAt ds cs m s q → not_proved k r p ≡ not_proved m s q
   same_broken k m r s p q a b =
@@ -142,41 +160,44 @@ module _ (ds : List Plan) (cs : List Plain) where
   broken_within k r p b = slice_get_within cs k b.certificate b.certificate_there
 
 -- ---- two verifications
-pub verifications_agree : (l : Layout) (ds : List Plan) (text : List ℕ) (v w : Verification) → IsVerification l ds text v → IsVerification l ds text w → v ≡ w
-verifications_agree l ds text v w (unspelt m n b e) (unspelt k o c f) = e ∙ ap (not_proved 0 0) (one_bad_line text m k b c) ∙ sym f
-verifications_agree l ds text v w (unspelt m n b e) (misnamed es j t g f) = absurd (n es t)
-verifications_agree l ds text v w (unspelt m n b e) (broken es j r p t a g f) = absurd (n es t)
-verifications_agree l ds text v w (unspelt m n b e) (all_proved es t g f) = absurd (n es t)
-verifications_agree l ds text v w (misnamed cs k s h e) (unspelt m n b f) = absurd (n cs s)
-verifications_agree l ds text v w (misnamed cs k s h e) (misnamed es j t g f) =
+pub verifications_agree : CheckLaws → (l : Layout) (ds : List Plan) (text : List ℕ) (v w : Verification) → IsVerification l ds text v → IsVerification l ds text w → v ≡ w
+verifications_agree laws l ds text v w (unspelt m n b e) (unspelt k o c f) = e ∙ ap (not_proved 0 0) (one_bad_line text m k b c) ∙ sym f
+verifications_agree laws l ds text v w (unspelt m n b e) (misnamed es j t g f) = absurd (n es t)
+verifications_agree laws l ds text v w (unspelt m n b e) (broken es j r p t a g f) = absurd (n es t)
+verifications_agree laws l ds text v w (unspelt m n b e) (all_proved es t g f) = absurd (n es t)
+verifications_agree laws l ds text v w (misnamed cs k s h e) (unspelt m n b f) = absurd (n cs s)
+verifications_agree laws l ds text v w (misnamed cs k s h e) (misnamed es j t g f) =
     e ∙ ap (λ i. not_proved i 1 i) (one_misnamed l es k j (subst (λ xs. IsMisnamedAt l xs k) (same_list text cs es s t) h) g) ∙ sym f
-verifications_agree l ds text v w (misnamed cs k s h e) (broken es j r p t a g f) = absurd (not_misnamed l es k a (subst (λ xs. IsMisnamedAt l xs k) (same_list text cs es s t) h))
-verifications_agree l ds text v w (misnamed cs k s h e) (all_proved es t g f) = absurd (not_misnamed l es k (named_of l ds es g) (subst (λ xs. IsMisnamedAt l xs k) (same_list text cs es s t) h))
-verifications_agree l ds text v w (broken cs k r p s a h e) (unspelt m n b f) = absurd (n cs s)
-verifications_agree l ds text v w (broken cs k r p s a h e) (misnamed es j t g f) = absurd (not_misnamed l cs j a (subst (λ xs. IsMisnamedAt l xs j) (same_list text es cs t s) g))
-verifications_agree l ds text v w (broken cs k r p s a h e) (broken es j q o t b g f) =
-    e ∙ same_broken ds es k j r q p o (subst (λ xs. IsBrokenAt ds xs k r p) (same_list text cs es s t) h) g ∙ sym f
-verifications_agree l ds text v w (broken cs k r p s a h e) (all_proved es t g f) =
+verifications_agree laws l ds text v w (misnamed cs k s h e) (broken es j r p t a g f) = absurd (not_misnamed l es k a (subst (λ xs. IsMisnamedAt l xs k) (same_list text cs es s t) h))
+verifications_agree laws l ds text v w (misnamed cs k s h e) (all_proved es t g f) = absurd (not_misnamed l es k (named_of l ds es g) (subst (λ xs. IsMisnamedAt l xs k) (same_list text cs es s t) h))
+verifications_agree laws l ds text v w (broken cs k r p s a h e) (unspelt m n b f) = absurd (n cs s)
+verifications_agree laws l ds text v w (broken cs k r p s a h e) (misnamed es j t g f) = absurd (not_misnamed l cs j a (subst (λ xs. IsMisnamedAt l xs j) (same_list text es cs t s) g))
+verifications_agree laws l ds text v w (broken cs k r p s a h e) (broken es j q o t b g f) =
+    e ∙ same_broken laws ds es k j r q p o (subst (λ xs. IsBrokenAt ds xs k r p) (same_list text cs es s t) h) g ∙ sym f
+verifications_agree laws l ds text v w (broken cs k r p s a h e) (all_proved es t g f) =
     let b = subst (λ xs. IsBrokenAt ds xs k r p) (same_list text cs es s t) h in
-    absurd (proved_unbroken ds es k r p (proved_of l ds es k g (broken_within ds es k r p b)) b)
-verifications_agree l ds text v w (all_proved cs s h e) (unspelt m n b f) = absurd (n cs s)
-verifications_agree l ds text v w (all_proved cs s h e) (misnamed es j t g f) = absurd (not_misnamed l cs j (named_of l ds cs h) (subst (λ xs. IsMisnamedAt l xs j) (same_list text es cs t s) g))
-verifications_agree l ds text v w (all_proved cs s h e) (broken es j q o t b g f) =
+    absurd (proved_unbroken laws ds es k r p (proved_of l ds es k g (broken_within laws ds es k r p b)) b)
+verifications_agree laws l ds text v w (all_proved cs s h e) (unspelt m n b f) = absurd (n cs s)
+verifications_agree laws l ds text v w (all_proved cs s h e) (misnamed es j t g f) = absurd (not_misnamed l cs j (named_of l ds cs h) (subst (λ xs. IsMisnamedAt l xs j) (same_list text es cs t s) g))
+verifications_agree laws l ds text v w (all_proved cs s h e) (broken es j q o t b g f) =
     let x = subst (λ xs. IsBrokenAt ds xs j q o) (same_list text es cs t s) g in
-    absurd (proved_unbroken ds cs j q o (proved_of l ds cs j h (broken_within ds cs j q o x)) x)
-verifications_agree l ds text v w (all_proved cs s h e) (all_proved es t g f) = e ∙ ap (λ xs. proved (levels_of xs)) (same_list text cs es s t) ∙ sym f
+    absurd (proved_unbroken laws ds cs j q o (proved_of l ds cs j h (broken_within laws ds cs j q o x)) x)
+verifications_agree laws l ds text v w (all_proved cs s h e) (all_proved es t g f) = e ∙ ap (λ xs. proved (levels_of xs)) (same_list text cs es s t) ∙ sym f
 
 -- ---- what certificates prove
-pub certified_partitions : (l : Layout) (as_ : List AreaOf) (ds : List Plan) (cs : List Plain) → AreCertificatesOf l as_ ds cs → All IsPartition ds
-certified_partitions l [] [] [] h = All-nil IsPartition
-certified_partitions l [] [] (c ∷ cs) h = absurd h
-certified_partitions l [] (d ∷ ds) cs h = absurd h
-certified_partitions l (a ∷ as_) [] cs h = absurd h
-certified_partitions l (a ∷ as_) (d ∷ ds) [] h = absurd h
-certified_partitions l (a ∷ as_) (d ∷ ds) (c ∷ cs) h = All-cons IsPartition d ds (proves_partition d (claims_of c) h.0.proves) (certified_partitions l as_ ds cs h.1)
+abbrev pub ProvesPartition : Type 0
+ProvesPartition = (d : Plan) (c : Claims) → Proves d c → IsPartition d
 
-pub verified_partitions : (l : Layout) (ds : List Plan) (text levels : List ℕ) → IsVerification l ds text (proved levels) → All IsPartition ds
-verified_partitions l ds text levels (unspelt m n b e) = absurd (cc)
-verified_partitions l ds text levels (misnamed cs k s h e) = absurd (cc)
-verified_partitions l ds text levels (broken cs k r p s a h e) = absurd (cc)
-verified_partitions l ds text levels (all_proved cs s h e) = certified_partitions l l.areas ds cs h
+pub certified_partitions : ProvesPartition → (l : Layout) (as_ : List AreaOf) (ds : List Plan) (cs : List Plain) → AreCertificatesOf l as_ ds cs → All IsPartition ds
+certified_partitions law l [] [] [] h = All-nil IsPartition
+certified_partitions law l [] [] (c ∷ cs) h = absurd h
+certified_partitions law l [] (d ∷ ds) cs h = absurd h
+certified_partitions law l (a ∷ as_) [] cs h = absurd h
+certified_partitions law l (a ∷ as_) (d ∷ ds) [] h = absurd h
+certified_partitions law l (a ∷ as_) (d ∷ ds) (c ∷ cs) h = All-cons IsPartition d ds (law d (claims_of c) h.0.proves) (certified_partitions law l as_ ds cs h.1)
+
+pub verified_partitions : ProvesPartition → (l : Layout) (ds : List Plan) (text levels : List ℕ) → IsVerification l ds text (proved levels) → All IsPartition ds
+verified_partitions law l ds text levels (unspelt m n b e) = absurd (cc)
+verified_partitions law l ds text levels (misnamed cs k s h e) = absurd (cc)
+verified_partitions law l ds text levels (broken cs k r p s a h e) = absurd (cc)
+verified_partitions law l ds text levels (all_proved cs s h e) = certified_partitions law l l.areas ds cs h

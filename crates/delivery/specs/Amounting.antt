@@ -3,7 +3,7 @@ use Rattle.std.specs.Prelude.{◌≡◌, ◌≢◌, ℕ, true, false, List, [], 
 use Rattle.itf_reader.specs.Forms.{Row}
 use Rattle.itf_reader.specs.Readings.{Structure}
 use Rattle.table_layout.specs.Layouts.{Layout}
-use Rattle.delivery.specs.AreaAnswers.{HasArcArea, HasFaultyArea, ArePartedAreas, AreLeftAreas}
+use Rattle.delivery.specs.AreaAnswers.{HasFaultyArea, ArePartedAreas, AreLeftAreas, HaveStraightLines}
 use Rattle.delivery.specs.AreaLimits.{has_too_large}
 use Rattle.delivery.specs.Commands.{Command, compile, check, verify, trial}
 use Rattle.delivery.specs.FiledTexts.{IsVerified}
@@ -61,19 +61,23 @@ Rejects (verify c) l ts = ⊥
 Rejects (trial n c) l (text ∷ []) = HasFault l text ⊎ HasSoundRows l text (HasFaultyArea l)
 Rejects (trial n c) l ts = ⊥
 
--- the drawing of some AREA has a half arc; `check` and `trial`: and each other one is a partition
+-- `check` and `trial`: the drawing of some AREA is undecided, and each other one is undecided or a partition
 abbrev pub LeavesAreas : Command → Layout → List (List ℕ) → Type 0
 LeavesAreas (compile model) l ts = ⊥
 LeavesAreas (check c) l (text ∷ []) = HasSoundRows l text (AreLeftAreas l)
 LeavesAreas (check c) l ts = ⊥
-LeavesAreas (verify c) l (text ∷ filed ∷ []) = HasSoundRows l text (HasArcArea l)
 LeavesAreas (verify c) l ts = ⊥
 LeavesAreas (trial n c) l (text ∷ []) = HasSoundRows l text (AreLeftAreas l)
 LeavesAreas (trial n c) l ts = ⊥
 
--- all lines of AREAs are straights, and a certificate, the first that does, breaks a rule
+-- all lines of AREAs in the transfer are straights
+abbrev pub HasStraightAreas : Command → Layout → List (List ℕ) → Type 0
+HasStraightAreas c l [] = ⊥
+HasStraightAreas c l (text ∷ ts) = (rows : List (List Row)) × Tells l text rows × HaveStraightLines l rows
+
+-- the filed text breaks a rule: that of its spelling, that of names, or, in the first certificate that does, one of the others
 abbrev pub AreUnproved : Layout → List ℕ → List (List Row) → Type 0
-AreUnproved l filed rows = (HasArcArea l rows → ⊥) × ((ds : List Plan) × AreDrawings l rows ds × (a rule place : ℕ) × IsVerification l ds filed (not_proved a rule place))
+AreUnproved l filed rows = (ds : List Plan) × AreDrawings l rows ds × (a rule place : ℕ) × IsVerification l ds filed (not_proved a rule place)
 
 abbrev pub Unproves : Command → Layout → List (List ℕ) → Type 0
 Unproves (verify c) l (text ∷ filed ∷ []) = HasSoundRows l text (AreUnproved l filed)

@@ -26,9 +26,9 @@ Passes told counted words test = (c : Command) × (l : Layout) × (ts : List (Li
 
 -- The cause of each answer.
 -- Accepted: the model has no fault; for `check` and `trial`, every object meets the declarations of its table, and the drawing of every AREA is a partition; for `verify`, the filed certificates prove that, too.
--- Rejected: a line of the transfer is at fault, or the objects have findings; for `check` and `trial`, or they have none, and the drawing of an AREA, of straights alone, has a fault, so that it is no partition.
--- Undecided: every object meets the declarations of its table, no AREA is over its limit, and some drawing has a half arc; for `check` and `trial`, each other one is a partition. So it never comes where all lines of AREAs are straights.
--- NotProved: for `verify`, every object meets the declarations of its table, all lines of AREAs are straights, and the filed text breaks a rule of certificates.
+-- Rejected: a line of the transfer is at fault, or the objects have findings; for `check` and `trial`, or they have none, and the drawing of an AREA has a fault, so that it is no partition.
+-- Undecided: for `check` and `trial`, every object meets the declarations of its table, no AREA is over its limit, and no level settles the drawing of some AREA, as two of its curves show, of which one is a half arc; each other drawing is such a one or a partition. So it never comes where all lines of AREAs are straights.
+-- NotProved: for `verify`, every object meets the declarations of its table, and the filed text breaks a rule of certificates.
 -- ModelRefused: the model has this first fault of its tokens, of its grammar, or of its names and types.
 -- Usage: the words are no command. ReadFault: a fault was counted for a file that was to be read. OverLimit: a file is longer than its limit, or every object meets the declarations of its table and an area is over its limit.
 -- The cause of WriteFault is a clause of its own; Memory has none.

@@ -7,18 +7,15 @@ use Rattle.table_layout.specs.Layouts.{AreaOf, Layout}
 use Rattle.plane.specs.Rule.Partition.{IsPartition}
 use Rattle.plane.specs.Rule.Plans.{Plan, plan, curve, IsHalfArc}
 use Rattle.plane.specs.declared.drawing.Drawing.{Drawing}
-use Rattle.plane.specs.declared.kinds.Curve.{Curve}
-use Rattle.plane.specs.declared.kinds.CurveKind.{CurveKind}
-use Rattle.plane.specs.declared.kinds.CurveKind.TheVariants.{Straight, HalfArc}
-use Rattle.tubes.specs.DrawnEdges.{AreStraights}
+use Rattle.tubes.specs.DrawnEdges.{AreAllStraight}
 use Rattle.area_search.specs.Answers as search
-use Rattle.area_search.specs.declared.kinds.AreaAnswer.TheVariants.{Fault}
+use Rattle.area_search.specs.declared.kinds.AreaAnswer.TheVariants as found
 use Rattle.area_search.specs.declared.kinds.AreaFinding.{AreaFinding}
 use Rattle.area_search.specs.declared.kinds.AreaFinding.TheVariants as fault
 use Rattle.delivery.specs.AreaCertificates.{IsCertificateOf}
-use Rattle.delivery.specs.Drawings.{IsDrawing}
+use Rattle.delivery.specs.Drawings.{IsDrawing, area_curves}
 use Rattle.delivery.specs.declared.report.lines.AreaAnswer.{AreaAnswer}
-use Rattle.delivery.specs.declared.report.lines.AreaAnswer.TheVariants.{Later, Meeting, On, Outside, Two, Empty, Proved}
+use Rattle.delivery.specs.declared.report.lines.AreaAnswer.TheVariants.{Undecided, Meeting, On, Outside, Two, Empty, Proved}
 
 -- ---- one drawing
 -- the line of the transfer of a curve, and that of an object
@@ -36,18 +33,22 @@ fault_told d (fault.Outside j) = Outside (object_line d j)
 fault_told d (fault.Two i j) = Two (object_line d i) (object_line d j)
 fault_told d (fault.Empty i left) = Empty (curve_line d i) left
 
+-- two curves that are not decided, or one named twice, told by their lines
+abbrev pub undecided_told : Plan → ℕ → ℕ → AreaAnswer
+undecided_told d i j = Undecided (curve_line d i) (curve_line d j)
+
 -- how many curves and points are shown to be a partition, at a level
 abbrev pub proof_told : Plan → ℕ → AreaAnswer
 proof_told d level = Proved level (length d.curves) (length d.points)
 
 -- The answer to the drawing of an area, and the certificates that go with it: one where it is proved, else none.
 pub data IsAnswer (l : Layout) (a : AreaOf) (d : Plan) (x : AreaAnswer) (cs : List Plain) : Type 0 where
-  -- a half arc is left for later
-  later : (i : ℕ) → IsHalfArc d i → x ≡ Later → cs ≡ [] → IsAnswer l a d x cs
-  -- straights alone, with this first fault
-  faulty : (f : AreaFinding) → AreStraights d → search.IsAnswer d (Fault f) → x ≡ fault_told d f → cs ≡ [] → IsAnswer l a d x cs
-  -- straights alone, and a certificate that proves them at the level of straights
-  proved : (c : Plain) → AreStraights d → IsCertificateOf l a d c → c.level ≡ 0 → x ≡ proof_told d c.level → cs ≡ c ∷ [] → IsAnswer l a d x cs
+  -- this is the first fault
+  faulty : (f : AreaFinding) → search.IsAnswer d (found.Fault f) → x ≡ fault_told d f → cs ≡ [] → IsAnswer l a d x cs
+  -- no level settles the drawing, and these two curves are the first that break the last one
+  undecided : (i j : ℕ) → search.IsAnswer d (found.Undecided i j) → x ≡ undecided_told d i j → cs ≡ [] → IsAnswer l a d x cs
+  -- a certificate proves it, at the least level that settles it
+  proved : (c : Plain) → IsCertificateOf l a d c → search.IsLeastLevel d c.level → x ≡ proof_told d c.level → cs ≡ c ∷ [] → IsAnswer l a d x cs
 
 -- ---- all areas of a layout
 abbrev pub plans : List Drawing → List Plan
@@ -61,13 +62,13 @@ AreAnswers l as_ ds xs cs = ⊥
 
 -- the answer names what is at fault
 abbrev pub is_fault : AreaAnswer → Bool
-is_fault Later = false
+is_fault (Undecided first second) = false
 is_fault (Proved level curves points) = false
 is_fault _ = true
 
 -- the area is not decided
 abbrev pub is_left : AreaAnswer → Bool
-is_left Later = true
+is_left (Undecided first second) = true
 is_left _ = false
 
 abbrev pub has_fault : List AreaAnswer → Bool
@@ -76,29 +77,11 @@ has_fault xs = list_any is_fault xs
 abbrev pub has_left : List AreaAnswer → Bool
 has_left xs = list_any is_left xs
 
--- ---- the drawing of a half arc
-abbrev pub is_half : CurveKind → Bool
-is_half Straight = false
-is_half HalfArc = true
-
-abbrev pub is_half_arc : Curve → Bool
-is_half_arc c = is_half c.kind
-
--- some curve of some drawing is a half arc
-abbrev pub has_half_arc : Plan → Bool
-has_half_arc d = list_any is_half_arc d.curves
-
-abbrev pub has_arc : List Plan → Bool
-has_arc ds = list_any has_half_arc ds
-
-abbrev pub HasHalfArc : Plan → Type 0
-HasHalfArc d = (i : ℕ) × IsHalfArc d i
-
 -- ---- what the answers say of the areas
 -- the drawing has this first fault, so it is no partition
 pub record IsFaultyPlan (d : Plan) : Type 0 where
   pub finding : AreaFinding
-  pub first : search.IsAnswer d (Fault finding)
+  pub first : search.IsAnswer d (found.Fault finding)
   pub no_partition : IsPartition d → ⊥
 
 -- the drawing of the area is so
@@ -112,13 +95,22 @@ HasFaultyArea l rows = Any (IsDrawn l rows IsFaultyPlan) l.areas
 abbrev pub ArePartedAreas : Layout → List (List Row) → Type 0
 ArePartedAreas l rows = All (IsDrawn l rows IsPartition) l.areas
 
--- some area's drawing has a half arc
-abbrev pub HasArcArea : Layout → List (List Row) → Type 0
-HasArcArea l rows = Any (IsDrawn l rows HasHalfArc) l.areas
+-- no level settles the drawing: these two curves are the first that break the last level, or it is one curve named twice, and one of
+-- them is a half arc
+pub record IsUndecidedPlan (d : Plan) : Type 0 where
+  pub first : ℕ
+  pub second : ℕ
+  pub pair : search.IsAnswer d (found.Undecided first second)
+  pub half_arc : IsHalfArc d first ⊎ IsHalfArc d second
 
--- and each other area is a partition
-abbrev pub IsDecidedPlan : Plan → Type 0
-IsDecidedPlan d = HasHalfArc d ⊎ IsPartition d
+-- the drawing is undecided, or a partition
+abbrev pub IsFaultlessPlan : Plan → Type 0
+IsFaultlessPlan d = IsUndecidedPlan d ⊎ IsPartition d
 
+-- some area is undecided, and each other one is undecided or a partition
 abbrev pub AreLeftAreas : Layout → List (List Row) → Type 0
-AreLeftAreas l rows = HasArcArea l rows × All (IsDrawn l rows IsDecidedPlan) l.areas
+AreLeftAreas l rows = Any (IsDrawn l rows IsUndecidedPlan) l.areas × All (IsDrawn l rows IsFaultlessPlan) l.areas
+
+-- all lines of areas are straights
+abbrev pub HaveStraightLines : Layout → List (List Row) → Type 0
+HaveStraightLines l rows = All (λ a. AreAllStraight (area_curves l rows a)) l.areas

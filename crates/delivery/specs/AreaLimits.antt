@@ -1,7 +1,8 @@
 -- How large an area may be.
-use Rattle.std.specs.Prelude.{◌≡◌, ℕ, ◌+◌, Bool, false, nat_lt, ◌||◌, List, [], ◌∷◌, length, Some, slice_get, slice_index_or}
+use Rattle.std.specs.Prelude.{◌≡◌, ℕ, ◌+◌, ◌≤◌, Bool, false, nat_lt, ◌||◌, List, [], ◌∷◌, length, Some, slice_get, slice_index_or}
 use Rattle.std.specs.List.{list_any}
 use Rattle.itf_reader.specs.Forms.{Vertex, Row}
+use Rattle.plane.specs.Rule.Plans.{Plan}
 use Rattle.table_layout.specs.Layouts.{AreaOf}
 
 -- the greatest number of vertices of an area's lines, and of rows of its main table
@@ -28,3 +29,7 @@ IsWithinLimits rows as_ k = (a : AreaOf) → slice_get as_ k ≡ Some a → is_t
 -- some area is too large
 abbrev pub has_too_large : List (List Row) → List AreaOf → Bool
 has_too_large rows as_ = list_any (is_too_large rows) as_
+
+-- the drawing has no more curves than the lines of an area may have vertices
+abbrev pub HasFewCurves : Plan → Type 0
+HasFewCurves d = length d.curves ≤ area_limit

@@ -3,37 +3,26 @@ use Rattle.std.specs.Prelude.{◌≡◌, ◌≢◌, ℕ, true, false, List, []}
 use Rattle.itf_reader.specs.Forms.{Row}
 use Rattle.itf_reader.specs.Readings.{Structure}
 use Rattle.table_layout.specs.Layouts.{Layout}
-use Rattle.delivery.specs.AreaAnswers.{HasArcArea}
 use Rattle.delivery.specs.AreaLimits.{has_too_large}
 use Rattle.delivery.specs.Drawings.{AreDrawings}
 use Rattle.plane.specs.Rule.Plans.{Plan}
 use Rattle.delivery.specs.Judging.{findings, objects, IsMisbuilt, Tells, IsClean}
 use Rattle.delivery.specs.Outcomes as outcomes
-use Rattle.delivery.specs.Outcomes.{Outcome, area_too_large, misbuilt, rejected, arcs_left}
+use Rattle.delivery.specs.Outcomes.{Outcome, area_too_large, misbuilt, rejected}
 use Rattle.delivery.specs.Verifying.{Verification, IsVerification}
 
--- the text of the certificates is judged, where all lines of areas are straights
+-- the text of the certificates is judged against the drawings of all areas
 pub record AreVerified (l : Layout) (rows : List (List Row)) (filed : List ℕ) (o : Outcome) : Type 0 where
   pub drawings : List Plan
   pub verification : Verification
   pub drawn : AreDrawings l rows drawings
-  pub straights : HasArcArea l rows → ⊥
   pub judged : IsVerification l drawings filed verification
   pub told : o ≡ outcomes.verified l (objects rows) drawings verification
-
--- the areas are drawn, and those with a half arc are told
-pub record AreArcsTold (l : Layout) (rows : List (List Row)) (o : Outcome) : Type 0 where
-  pub drawings : List Plan
-  pub drawn : AreDrawings l rows drawings
-  pub arcs : HasArcArea l rows
-  pub told : o ≡ arcs_left l drawings
 
 -- the outcome of rows and of the text of certificates
 pub data IsRowsVerified (l : Layout) (rows : List (List Row)) (filed : List ℕ) (o : Outcome) : Type 0 where
   faulty : findings l rows ≢ [] → o ≡ rejected (findings l rows) → IsRowsVerified l rows filed o
   oversized : IsClean l rows → has_too_large rows l.areas ≡ true → o ≡ area_too_large → IsRowsVerified l rows filed o
-  -- an area with a half arc leaves them for later
-  arcs : IsClean l rows → has_too_large rows l.areas ≡ false → AreArcsTold l rows o → IsRowsVerified l rows filed o
   verified : IsClean l rows → has_too_large rows l.areas ≡ false → AreVerified l rows filed o → IsRowsVerified l rows filed o
 
 -- the outcome of a transfer's text and of the text of certificates

@@ -29,7 +29,6 @@ pub mod Pieces
 pub mod OutcomeViews
 pub mod Reading
 pub mod RefusalViews
-pub mod RowsRead
 pub mod Statuses
 pub mod TrialCounts
 pub mod TrialFiles

@@ -100,7 +100,7 @@ proof_text level curves points = codes "PROVED " ++ decimal level ++ codes " " +
 
 -- curves and objects are told by their lines
 abbrev pub area_text : AreaAnswer → List ℕ
-area_text answer.Later = codes "LATER"
+area_text (answer.Undecided first second) = codes "UNDECIDED " ++ pair_text first second
 area_text (answer.Meeting first second) = codes "MEETING " ++ pair_text first second
 area_text (answer.On object curve) = codes "ON " ++ pair_text object curve
 area_text (answer.Outside object) = codes "OUTSIDE " ++ decimal object

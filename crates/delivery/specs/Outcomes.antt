@@ -6,7 +6,7 @@ use Rattle.certificate.specs.Spelling.{Plain}
 use Rattle.itf_reader.specs.Findings.{Finding}
 use Rattle.itf_reader.specs.Readings.{Structure}
 use Rattle.table_layout.specs.Layouts.{Table, AreaOf, Layout}
-use Rattle.delivery.specs.AreaAnswers.{has_fault, has_left, has_half_arc, proof_told}
+use Rattle.delivery.specs.AreaAnswers.{has_fault, has_left, proof_told}
 use Rattle.delivery.specs.AreaNames.{topic_name, table_name}
 use Rattle.delivery.specs.Lines as lines
 use Rattle.delivery.specs.Lines.{Line, line_text}
@@ -126,18 +126,6 @@ areas_told l objects target xs cs =
     if has_fault xs then reported status.Rejected (with_verdict (area_lines l l.areas xs) verdict.Rejected)
     else if has_left xs then reported status.Undecided (with_verdict (area_lines l l.areas xs) verdict.Undecided)
     else accepted (area_lines l l.areas xs ++ trial_lines target.trial xs cs) objects target.name cs
-
--- an area with a half arc leaves the certificates for later: these are the lines of such areas
-abbrev pub arc_line : Layout → AreaOf → Plan → List Line
-arc_line l a d = if has_half_arc d then area_line l a answer.Later ∷ [] else []
-
-abbrev pub arc_lines : Layout → List AreaOf → List Plan → List Line
-arc_lines l [] ds = []
-arc_lines l (a ∷ as_) [] = []
-arc_lines l (a ∷ as_) (d ∷ ds) = arc_line l a d ++ arc_lines l as_ ds
-
-abbrev pub arcs_left : Layout → List Plan → Outcome
-arcs_left l ds = reported status.Undecided (with_verdict (arc_lines l l.areas ds) verdict.Undecided)
 
 -- so many objects, and drawings that are shown to be partitions at these levels
 abbrev pub proofs_told : List Plan → List ℕ → List AreaAnswer

@@ -1,11 +1,11 @@
 -- How many events the drawing of an area has.
 use Rattle.std.specs.Prelude.{◌≡◌, ℕ, List, length}
 use Rattle.plane.specs.Rule.Plans.{Plan}
-use Rattle.plane.specs.Runs.Timetables.{Timed}
-use Rattle.certificate_checker.specs.Verdicts.{IsTableOf}
+use Rattle.plane.specs.Runs.Timetables.{Timed, IsTimetable}
+use Rattle.tubes.specs.Settled.{edge_at, edges_at}
 
--- so many places at which edges of the drawing begin or end
-pub record HasEvents (d : Plan) (n : ℕ) : Type 0 where
+-- so many places at which edges of the drawing at the level begin or end
+pub record HasEvents (d : Plan) (level n : ℕ) : Type 0 where
   pub table : List Timed
-  pub is_table : IsTableOf d table
+  pub is_table : IsTimetable (length (edges_at d level)) (edge_at d level) table
   pub count : n ≡ length table

@@ -1,21 +1,24 @@
 // What is answered to the drawings of areas.
 ghost use Rattle.std.specs.Prelude.{◌≡◌, ◌++◌, ◌∷◌, ◌<◌, [], IfOk, OnOk, length};
-ghost use Rattle.std.specs.List.{list_any};
+ghost use Rattle.std.specs.List.{All};
 ghost use Rattle.certificate.specs.Spelling.{view, views};
 ghost use Rattle.plane.specs.Rule.Plans.{plan};
 ghost use Rattle.table_layout.specs.Values.{area_view, areas_view, layout_view};
 ghost use Rattle.area_search.specs.Answers.{IsAnswer as IsFound};
-ghost use Rattle.area_search.specs.declared.kinds.AreaAnswer.TheVariants.{Fault};
-ghost use Rattle.delivery.specs.AreaAnswers.{IsAnswer, AreAnswers, fault_told, proof_told, plans};
+ghost use Rattle.area_search.specs.declared.kinds.AreaAnswer.TheVariants.{Fault, Undecided};
+ghost use Rattle.delivery.specs.AreaAnswers.{IsAnswer, AreAnswers, plans};
+ghost use Rattle.delivery.specs.AreaAnswers.{fault_told, proof_told, undecided_told};
 ghost use Rattle.delivery.specs.AreaAnswers.{is_fault, is_left, has_fault, has_left};
-ghost use Rattle.delivery.specs.AreaAnswers.{is_half_arc, curve_line, object_line};
-ghost use Rattle.delivery.specs.AnswerViews.{certificates_in, has_arc_seen, named};
+ghost use Rattle.delivery.specs.AreaAnswers.{curve_line, object_line};
+ghost use Rattle.delivery.specs.AnswerViews.{certificates_in, named};
+ghost use Rattle.delivery.specs.AreaLimits.{HasFewCurves};
 
 use crate::area_names::{AreaNames, names_of};
 use crate::report::AreaAnswer;
+use area_search::laws::undecided_has_half_arc;
 use area_search::{AreaAnswer as Found, AreaFinding, find_area};
 use certificate::Certificate;
-use plane::{Curve, CurveKind, Drawing};
+use plane::Drawing;
 use ports::Memory;
 use std::alloc::Global;
 use table_layout::{AreaOf, Layout};
@@ -32,35 +35,6 @@ struct Answer {
 pub struct Answers {
     pub told: Vec<AreaAnswer>,
     pub certificates: Vec<Certificate>,
-}
-
-fn is_half_arc(curve: &Curve) -> bool
-    ensures { result ≡ is_half_arc curve.now }
-{
-    match curve.kind {
-        CurveKind::Straight => false,
-        CurveKind::HalfArc => true,
-    }
-}
-
-/// Some curve is a half arc.
-pub fn has_half_arc(curves: &[Curve]) -> bool
-    ensures { result ≡ list_any is_half_arc curves.now }
-{
-    curves.iter().any(|curve| is_half_arc(curve))
-}
-
-fn is_with_arc(drawing: &Drawing) -> bool
-    ensures { result ≡ has_arc_seen drawing.now }
-{
-    has_half_arc(&drawing.curves)
-}
-
-/// Some curve of some drawing is a half arc.
-pub fn has_arc(drawings: &[Drawing]) -> bool
-    ensures { result ≡ list_any has_arc_seen drawings.now }
-{
-    drawings.iter().any(|drawing| is_with_arc(drawing))
 }
 
 // The line of the transfer of a curve.
@@ -107,6 +81,20 @@ fn fault_told(drawing: &Drawing, finding: AreaFinding) -> AreaAnswer
     }
 }
 
+// Two curves of a drawing that is not decided, or one named twice, told by lines of the transfer.
+fn undecided_told(drawing: &Drawing, first: u32, second: u32) -> AreaAnswer
+    requires { IsFound (plan drawing.now) (Undecided first second) }
+    ensures { result ≡ undecided_told (plan drawing.now) first second }
+{
+    undecided_has_half_arc();
+    let lesser = curve_line(drawing, first);
+    let greater = curve_line(drawing, second);
+    AreaAnswer::Undecided {
+        first: lesser,
+        second: greater,
+    }
+}
+
 // A certificate under the names of its area.
 fn named(names: AreaNames, found: Certificate) -> Certificate
     ensures { view result ≡ named names.topic names.table names.attribute (view found) }
@@ -140,15 +128,10 @@ fn answer_of(
     area: &AreaOf,
     drawing: &Drawing,
 ) -> Result<Answer, Memory>
+    requires { HasFewCurves (plan drawing.now) }
     ensures { IfOk result (λ x. IsAnswer (layout_view layout.now) (area_view area.now)
         (plan drawing.now) x.told (certificates_in x.certificate)) }
 {
-    if has_half_arc(&drawing.curves) {
-        return Ok(Answer {
-            told: AreaAnswer::Later,
-            certificate: None,
-        });
-    }
     match find_area(alloc, drawing)? {
         Found::Proved(found) => Ok(Answer {
             told: proof_told(drawing, found.level),
@@ -158,7 +141,10 @@ fn answer_of(
             told: fault_told(drawing, finding),
             certificate: None,
         }),
-        Found::Undecided { .. } => unreachable!(),
+        Found::Undecided { first, second } => Ok(Answer {
+            told: undecided_told(drawing, first, second),
+            certificate: None,
+        }),
     }
 }
 
@@ -179,7 +165,8 @@ fn keep(answers: &mut Answers, answer: Answer) -> Result<(), Memory>
 /// The answers to the areas of a layout by their drawings, one area after the other. The cost of
 /// each is that of its search.
 pub fn answers_of(alloc: Global, layout: &Layout, drawings: &[Drawing]) -> Result<Answers, Memory>
-    requires { length drawings.now ≡ length layout.now.areas.items }
+    requires drawn { length drawings.now ≡ length layout.now.areas.items }
+    requires few { All HasFewCurves (plans drawings.now) }
     ensures { IfOk result (λ x. AreAnswers (layout_view layout.now)
         (areas_view layout.now.areas.items) (plans drawings.now) x.told.items
         (views x.certificates.items)) }
@@ -198,7 +185,7 @@ fn is_fault(answer: AreaAnswer) -> bool
     ensures { result ≡ is_fault answer }
 {
     match answer {
-        AreaAnswer::Later | AreaAnswer::Proved { .. } => false,
+        AreaAnswer::Undecided { .. } | AreaAnswer::Proved { .. } => false,
         AreaAnswer::Meeting { .. }
         | AreaAnswer::On { .. }
         | AreaAnswer::Outside { .. }
@@ -218,7 +205,7 @@ fn is_left(answer: AreaAnswer) -> bool
     ensures { result ≡ is_left answer }
 {
     match answer {
-        AreaAnswer::Later => true,
+        AreaAnswer::Undecided { .. } => true,
         AreaAnswer::Proved { .. }
         | AreaAnswer::Meeting { .. }
         | AreaAnswer::On { .. }

@@ -11,14 +11,17 @@
 //!   line is at fault, the first one is reported with its code. All values, identifications, IDENT
 //!   lists and references of a transfer are checked, and each finding is reported.
 //! - **What is decided.** Once a transfer has no finding, its areas are drawn and searched, one
-//!   after the other. An area of straights is a partition, or its first fault is reported. `check`
-//!   writes a certificate for each area where all are partitions; `verify` judges filed
+//!   after the other. An area is a partition, or its first fault is reported, or it is undecided.
+//!   `check` writes a certificate for each area where all are partitions; `verify` judges filed
 //!   certificates by their rules alone, without any search. An area of more than 16,000,000
-//!   vertices, or rows of its main table, is over its limit. An area with a half arc is left.
+//!   vertices, or rows of its main table, is over its limit.
 //! - **Drawings.** `drawing` turns the rows of an area into curves and points of the plane, each
 //!   with its line in the transfer. What makes a drawing a partition is said in `plane`; faults and
 //!   certificates are found by `area_search`, and certificates judged by `certificate_checker`.
-//! - **What is not checked here:** drawings with a half arc.
+//! - **What is left undecided:** an area whose drawing no level settles. Two of its lines are
+//!   reported that stand too close to each other at the last level, of which one has an arc, or the
+//!   line of one arc that has no tube there, twice. An area of straights is always decided
+//!   (`laws::straights_are_decided`), and `verify` leaves nothing undecided.
 //! - **Degenerate cases:** an empty file is read as one; a model without a table and a transfer
 //!   without an object are decided; two words may name one file, since all reads come before the
 //!   first write. A vertex at the place before it draws nothing, an arc over three places of one

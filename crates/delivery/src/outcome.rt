@@ -8,8 +8,7 @@ ghost use Rattle.delivery.specs.Outcomes.{reported, usage, area_too_large};
 ghost use Rattle.delivery.specs.Outcomes.{refused, compiled, misbuilt, rejected, areas_told};
 ghost use Rattle.delivery.specs.Outcomes.{accepted, area_line, area_lines, table_line};
 ghost use Rattle.delivery.specs.Outcomes.{with_verdict, trial_line, size_lines, trial_lines};
-ghost use Rattle.delivery.specs.Outcomes.{arc_line, arc_lines, arcs_left, proofs_told, verified};
-ghost use Rattle.plane.specs.Rule.Plans.{plan};
+ghost use Rattle.delivery.specs.Outcomes.{proofs_told, verified};
 ghost use Rattle.delivery.specs.AreaAnswers.{plans};
 ghost use Rattle.delivery.specs.LineViews.{line_of, lines_of};
 ghost use Rattle.delivery.specs.OutcomeViews.{outcome_of, target_of};
@@ -17,7 +16,7 @@ ghost use Rattle.delivery.specs.FileRefusals.{IsNotRead};
 ghost use Rattle.delivery.specs.RefusalViews.{refusal_of};
 ghost use Rattle.delivery.specs.VerificationViews.{verification_of};
 
-use crate::area_answers::{Answers, has_fault, has_half_arc, has_left, proof_told};
+use crate::area_answers::{Answers, has_fault, has_left, proof_told};
 use crate::area_names::{names_of, topic_text};
 use crate::files::{File, FileRefusal};
 use crate::refusals::Refusal;
@@ -319,48 +318,6 @@ pub fn areas_told<'a>(
         certificates: answers.certificates,
     };
     accepted(alloc, lines, objects, filing)
-}
-
-// Adds the line of an area, where it has a half arc.
-fn add_arc_line(
-    alloc: Global,
-    layout: &Layout,
-    area: &AreaOf,
-    drawing: &Drawing,
-    lines: &mut Vec<Line>,
-) -> Result<(), Memory>
-    ensures { OnOk result (lines_of lines.new.items ≡ lines_of lines.old.items ++ arc_line
-        (layout_view layout.now) (area_view area.now) (plan drawing.now)) }
-{
-    if has_half_arc(&drawing.curves) {
-        lines.push(area_line(alloc, layout, area, AreaAnswer::Later)?)?;
-    }
-    Ok(())
-}
-
-// The lines of areas with a half arc.
-fn arc_lines(alloc: Global, layout: &Layout, drawings: &[Drawing]) -> Result<Vec<Line>, Memory>
-    ensures { IfOk result (λ lines. lines_of lines.items ≡ arc_lines (layout_view layout.now)
-        (areas_view layout.now.areas.items) (plans drawings.now)) }
-{
-    let mut lines = Vec::new(alloc);
-    for (area, drawing) in layout.areas.iter().zip(drawings) {
-        add_arc_line(alloc, layout, area, drawing, &mut lines)?;
-    }
-    Ok(lines)
-}
-
-/// Some area has a half arc, which leaves the filed certificates for later.
-pub fn arcs_left<'a>(
-    alloc: Global,
-    layout: &Layout,
-    drawings: &[Drawing],
-) -> Result<Outcome<'a>, Memory>
-    ensures { IfOk result (λ o. outcome_of o ≡ arcs_left (layout_view layout.now)
-        (plans drawings.now)) }
-{
-    let lines = arc_lines(alloc, layout, drawings)?;
-    ended(alloc, Status::Undecided, lines, Verdict::Undecided)
 }
 
 // The answers to drawings that are proved at these levels.

@@ -1,21 +1,20 @@
 // The outcome of a transfer that was judged.
 ghost use Rattle.std.specs.Prelude.{◌≡◌, ◌≤◌, ◌^◌, ℕ, List, length, IfOk};
+ghost use Rattle.std.specs.List.{All};
 ghost use Rattle.itf_reader.specs.Forms.{Row as GivenRow};
 ghost use Rattle.table_layout.specs.Values.{layout_view};
 ghost use Rattle.delivery.specs.AreaAnswers.{plans};
+ghost use Rattle.delivery.specs.AreaLimits.{HasFewCurves};
 ghost use Rattle.delivery.specs.Drawings.{AreDrawings};
-ghost use Rattle.delivery.specs.FiledTexts.{IsVerified};
+ghost use Rattle.delivery.specs.FiledTexts.{AreVerified, IsVerified};
 ghost use Rattle.delivery.specs.Judging.{AreJudged, IsChecked, objects};
 ghost use Rattle.delivery.specs.OutcomeViews.{outcome_of, target_of};
 ghost use Rattle.delivery.specs.Outcomes.{check_target, trial_target};
 ghost use Rattle.delivery.specs.Pieces.{IsJudged};
-ghost use Rattle.delivery.specs.RowsRead.{IsDrawnVerified};
 
-use crate::area_answers::{answers_of, has_arc};
+use crate::area_answers::answers_of;
 use crate::judging::Judged;
-use crate::outcome::{
-    Outcome, Target, arcs_left, area_too_large, areas_told, misbuilt, rejected, verified,
-};
+use crate::outcome::{Outcome, Target, area_too_large, areas_told, misbuilt, rejected, verified};
 use crate::trial::TrialWords;
 use crate::verifying::verify_areas;
 use plane::Drawing;
@@ -31,7 +30,8 @@ fn check_areas<'a>(
     count: u128,
     drawings: &[Drawing],
 ) -> Result<Outcome<'a>, Memory>
-    requires { length drawings.now ≡ length layout.now.areas.items }
+    requires drawn { length drawings.now ≡ length layout.now.areas.items }
+    requires few { All HasFewCurves (plans drawings.now) }
     ensures { (rows : List (List GivenRow)) → count ≡ objects rows
         → AreDrawings (layout_view layout.now) rows (plans drawings.now)
         → IfOk result (λ o. AreJudged (target_of target.now) (layout_view layout.now) rows
@@ -109,11 +109,8 @@ fn verify_drawn<'a>(
     requires short { length filed.now ≤ 2 ^ 30 }
     ensures { (rows : List (List GivenRow)) → count ≡ objects rows
         → AreDrawings (layout_view layout.now) rows (plans drawings.now)
-        → IfOk result (IsDrawnVerified (layout_view layout.now) rows filed.now) }
+        → IfOk result (λ o. AreVerified (layout_view layout.now) rows filed.now (outcome_of o)) }
 {
-    if has_arc(drawings) {
-        return arcs_left(alloc, layout, drawings);
-    }
     let verification = verify_areas(alloc, layout, drawings, filed)?;
     verified(alloc, layout, count, drawings, &verification)
 }

@@ -2,14 +2,15 @@
 ghost use Rattle.std.specs.Prelude.{◌≡◌, ◌≢◌, ◌≤◌, ◌⊎◌, Some};
 ghost use Rattle.ports.specs.Faults.{Rose, NoReadFell, ReadRose};
 ghost use Rattle.ports.specs.Files.{Files};
-ghost use Rattle.delivery.specs.Answers.{Means, IsAnswer, IsFaultless, IsComplete};
+ghost use Rattle.delivery.specs.Amounting.{HasStraightAreas};
+ghost use Rattle.delivery.specs.Answers.{Means, Passes, IsAnswer, IsFaultless, IsComplete};
 ghost use Rattle.delivery.specs.Certified.{Certifies};
 ghost use Rattle.delivery.specs.Deciding.{Decides};
 ghost use Rattle.delivery.specs.Effects.{Does};
 ghost use Rattle.delivery.specs.Outcomes.{Outcome as AnyOutcome};
 
 use crate::deciding::decide;
-use crate::laws::outcomes_are_right;
+use crate::laws::{outcomes_are_right, straights_are_decided};
 use crate::publishing::publish;
 use crate::report::report;
 use crate::status::Status;
@@ -28,6 +29,11 @@ pub fn run<S: Shelf, K: Sink>(alloc: Global, words: &[Word], shelf: &mut S, out:
     // The cause of the answer: the headline.
     ensures means { Means (S.held shelf.old) (ReadRose (S.read_faults shelf.old) (S.read_faults shelf.new))
         words.now result }
+
+    // Where all lines of AREAs are straights, nothing is left undecided.
+    ensures decided { (files : Files) → S.held shelf.old ≡ Some files
+        → Passes (Some files) (ReadRose (S.read_faults shelf.old) (S.read_faults shelf.new))
+        words.now HasStraightAreas → result ≢ Status.Undecided }
 
     // After an accepted check or trial the file of the certificates holds a list that shows by
     // itself that the areas are partitions.
@@ -70,6 +76,7 @@ pub fn run<S: Shelf, K: Sink>(alloc: Global, words: &[Word], shelf: &mut S, out:
     ensures faults { K.faults out.old ≤ K.faults out.new }
 {
     outcomes_are_right();
+    straights_are_decided();
     let Ok(outcome) = decide(alloc, words, shelf) else {
         return Status::Memory;
     };

@@ -19,8 +19,9 @@ pub struct TableLine {
 /// What is found out about an area.
 #[derive(Clone, Copy, Debug, PartialEq, Eq)]
 pub enum AreaAnswer {
-    /// It is not decided yet.
-    Later,
+    /// It is not decided: no level settles its drawing. Two curves that show it, each by its line,
+    /// of which one is a half arc; or one half arc, by its line twice.
+    Undecided { first: u32, second: u32 },
     /// Two curves of its drawing, each by its line, meet elsewhere than in control points of both.
     Meeting { first: u32, second: u32 },
     /// The point of an object, by the object's line, lies on a curve, by its line.

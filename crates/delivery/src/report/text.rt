@@ -181,7 +181,7 @@ impl Text {
         ensures { OnOk result (self.new ≡ self.old ++ area_text answer) }
     {
         match answer {
-            AreaAnswer::Later => self.add(b"LATER"),
+            AreaAnswer::Undecided { first, second } => self.add_pair(b"UNDECIDED ", first, second),
             AreaAnswer::Meeting { first, second } => self.add_pair(b"MEETING ", first, second),
             AreaAnswer::On { object, curve } => self.add_pair(b"ON ", object, curve),
             AreaAnswer::Outside { object } => {

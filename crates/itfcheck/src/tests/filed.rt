@@ -8,13 +8,13 @@ use std::alloc::Global;
 use std::process::Abort;
 use std::test::Fail;
 
-const VERIFY: &[&str] = &["verify", "M", "T", "C"];
+pub const VERIFY: &[&str] = &["verify", "M", "T", "C"];
 
-const FILED: &str =
+pub const FILED: &str =
     "ITFCERT 1\nAREAS 1\nAREA Cover Parcel Form\nSIZES 0 4 4 1\nV 0\nV 1\nV 0\nV 0\n\
     E 0 R 0 1 R 0\nE 0 R 0 1 N 1\nE 1 R 0 0 R 0\nE 1 N 1 0 R 0\nP 1\nEND\n";
 
-const PROVED: &str = "AREA Cover Parcel Form PROVED 0 4 1\nVERDICT ACCEPTED 2\n";
+pub const PROVED: &str = "AREA Cover Parcel Form PROVED 0 4 1\nVERDICT ACCEPTED 2\n";
 
 // A text and what stands in its place.
 type Change = (&'static str, &'static str);
@@ -165,15 +165,15 @@ const CASES: [(Change, Change, &str, Status); 24] = [
         "STRUCTURE 20 end\nVERDICT REJECTED\n",
         Status::Rejected,
     ),
-    // An area with an arc leaves the certificates for later.
+    // The drawing has an arc, and so more edges than the certificate.
     (
         (
             "LIPT 200.000 200.000\nLIPT 100",
             "ARCP 210.000 200.000\nLIPT 100",
         ),
-        ("END\n", ""),
-        "AREA Cover Parcel Form LATER\nVERDICT UNDECIDED\n",
-        Status::Undecided,
+        SAME,
+        "NOTPROVED 0 2 0\nVERDICT NOTPROVED\n",
+        Status::NotProved,
     ),
 ];
 

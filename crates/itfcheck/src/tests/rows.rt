@@ -247,7 +247,7 @@ pub fn words_of(alloc: Global, texts: &[&str]) -> Result<Vec<Word>, Fail> {
 
 // The file of the certificates, where it is there.
 pub fn certificate(alloc: Global, shelf: &mut MemoryShelf) -> Result<Option<String>, Fail> {
-    let mut buffer = [0u8; 256];
+    let mut buffer = [0u8; 2048];
     match shelf.read("C", 0, &mut buffer) {
         Ok(length) => {
             let text = std::str::from_utf8(&buffer[..length]).unwrap_or("not a text");

@@ -7,8 +7,13 @@ use Rattle.plane.specs.Rule.Plans.{plan}
 use Rattle.table_layout.specs.Values.{area_view, areas_view, layout_view}
 use Rattle.delivery.specs.AreaAnswers.{plans}
 use Rattle.delivery.specs.AnswerViews.{certificates_in}
-use Rattle.delivery.proofs.AnswerLemmas.{both_ended, shorter_both, go_on, all_answered}
+use Rattle.delivery.proofs.AnswerLemmas.{both_ended, shorter_both, few_first, few_rest, go_on, all_answered}
 use Rattle.delivery.proofs.area_answers.answers_of.Goals as goal
+
+pub answer_of-requires : goal.answer_of-requires
+answer_of-requires c =
+    let more = Zip-more c.loop-area.area-iterator c.next.new.self c.next.result _ c.in-Some.is c.next.ensures.steps in
+    few_first _ _ _ more.1 c.loop-area.invariant.few
 
 pub loop-area-preserved : goal.loop-area-preserved
 loop-area-preserved c =
@@ -17,6 +22,7 @@ loop-area-preserved c =
       can_next = (tt, tt);
       is_finite = tt;
       same = shorter_both _ _ _ _ _ _ more.0 more.1 c.loop-area.invariant.same;
+      few = few_rest _ _ _ more.1 c.loop-area.invariant.few;
       goes_on = go_on (layout_view c.args.layout.now) (areas_view c.args.layout.now.areas.items) (areas_view (iter_rest (zip_first c.loop-area.area-iterator))) (plans c.args.drawings.now) (plans (iter_rest (zip_second c.loop-area.area-iterator)))
           (area_view c.in-Some.area.now) (plan c.in-Some.drawing.now) (areas_view (iter_rest (zip_first c.next.new.self))) (plans (iter_rest (zip_second c.next.new.self)))
           c.loop-area.answers.told.items (views c.loop-area.answers.certificates.items) c.in_ok-answer_of.field-0.told (certificates_in c.in_ok-answer_of.field-0.certificate)

@@ -1,9 +1,11 @@
 use Rattle.std.proofs.Common.{◌≡◌, length}
 use Rattle.std.specs.Iterator.Adapters.{zip_first, zip_second}
+use Rattle.std.specs.List.{All}
 use Rattle.std.specs.Slice.Iter.{iter_rest}
 use Rattle.certificate.specs.Spelling.{views}
 use Rattle.table_layout.specs.Values.{areas_view, layout_view}
 use Rattle.delivery.specs.AreaAnswers.{plans}
+use Rattle.delivery.specs.AreaLimits.{HasFewCurves}
 use Rattle.delivery.proofs.AnswerLemmas.{GoesOn}
 use Rattle.delivery.proofs.area_answers.answers_of.Given as goal
 
@@ -12,5 +14,6 @@ invariant-loop-area l = record {
   can_next : (goal.iterator-loop-area).can_next l.area-iterator;
   is_finite : (goal.iterator-loop-area).is_finite l.area-iterator;
   same : length (iter_rest (zip_second l.area-iterator)) ≡ length (iter_rest (zip_first l.area-iterator));
+  few : All HasFewCurves (plans (iter_rest (zip_second l.area-iterator)));
   goes_on : GoesOn (layout_view l.layout) (areas_view l.layout.areas.items) (plans l.drawings) (areas_view (iter_rest (zip_first l.area-iterator))) (plans (iter_rest (zip_second l.area-iterator))) l.answers.told.items (views l.answers.certificates.items);
 }

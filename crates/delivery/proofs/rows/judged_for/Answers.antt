@@ -1,22 +1,31 @@
 use Rattle.std.proofs.Common.{List, ap, ◌∙◌, sym, subst, length}
+use Rattle.std.specs.List.{All}
 use Rattle.itf_reader.specs.Refusals.{fault_of}
 use Rattle.plane.specs.declared.drawing.Drawing.{Drawing}
 use Rattle.table_layout.specs.Values.{layout_view}
 use Rattle.delivery.specs.AreaAnswers.{plans}
+use Rattle.delivery.specs.AreaLimits.{HasFewCurves}
 use Rattle.delivery.specs.Drawings.{AreDrawings}
 use Rattle.delivery.specs.Judging.{at_fault, well_formed, faulty, oversized, judged}
 use Rattle.delivery.specs.Outcomes.{rejected}
 use Rattle.delivery.specs.Pieces.{IsJudged}
 use Rattle.delivery.specs.declared.judging.closing.Judged.{Judged}
+use Rattle.delivery.proofs.FewCurves.{few_curves}
 use Rattle.delivery.proofs.Steps.{if_ok}
 use Rattle.delivery.proofs.Zips.{drawn_count}
 use Rattle.delivery.proofs.rows.judged_for.Goals as goal
 
-pub check_areas-requires : goal.check_areas-requires
-check_areas-requires c =
+pub check_areas-requires-clause-drawn : goal.check_areas-requires-clause-drawn
+check_areas-requires-clause-drawn c =
     let l = layout_view c.args.layout.now in
     let j = subst (λ (x : Judged). IsJudged l c.requires.0 x) c.in-Clean.is c.requires.1 in
     ap length c.deref.ensures.value ∙ drawn_count l j.0 c.args.layout.now.areas.items c.in-Clean.drawings.items j.5
+
+pub check_areas-requires-clause-few : goal.check_areas-requires-clause-few
+check_areas-requires-clause-few c =
+    let l = layout_view c.args.layout.now in
+    let j = subst (λ (x : Judged). IsJudged l c.requires.0 x) c.in-Clean.is c.requires.1 in
+    subst (λ (ds : List Drawing). All HasFewCurves (plans ds)) (sym c.deref.ensures.value) (few_curves l j.0 (plans c.in-Clean.drawings.items) j.3 j.5)
 
 pub returns-in-Misbuilt : goal.returns-in-Misbuilt
 returns-in-Misbuilt c text h =

@@ -4,11 +4,11 @@ use Rattle.plane.specs.declared.drawing.Drawing.{Drawing}
 use Rattle.table_layout.specs.Values.{layout_view}
 use Rattle.delivery.specs.AreaAnswers.{plans}
 use Rattle.delivery.specs.Drawings.{AreDrawings}
-use Rattle.delivery.specs.FiledTexts.{at_fault, well_formed, faulty, oversized}
+use Rattle.delivery.specs.FiledTexts.{at_fault, well_formed, faulty, oversized, verified}
 use Rattle.delivery.specs.Outcomes.{rejected}
 use Rattle.delivery.specs.Pieces.{IsJudged}
 use Rattle.delivery.specs.declared.judging.closing.Judged.{Judged}
-use Rattle.delivery.proofs.Steps.{if_ok, rows_verified}
+use Rattle.delivery.proofs.Steps.{if_ok}
 use Rattle.delivery.proofs.Zips.{drawn_count}
 use Rattle.delivery.proofs.rows.verified_by.Goals as goal
 
@@ -37,5 +37,5 @@ pub returns-in-Clean : goal.returns-in-Clean
 returns-in-Clean c text h =
     let l = layout_view c.args.layout.now in
     let j = subst (λ (x : Judged). IsJudged l text x) c.in-Clean.is h in
-    if_ok _ _ c.verify_drawn.result (λ o e. well_formed j.0 j.1 (rows_verified l j.0 c.args.filed.now o j.2 j.3 e))
+    if_ok _ _ c.verify_drawn.result (λ o e. well_formed j.0 j.1 (verified j.2 j.3 e))
     (c.verify_drawn.ensures j.0 j.4 (subst (λ (ds : List Drawing). AreDrawings l j.0 (plans ds)) (sym c.deref.ensures.value) j.5))

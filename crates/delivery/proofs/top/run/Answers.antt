@@ -10,6 +10,7 @@ use Rattle.delivery.specs.OutcomeViews.{outcome_of}
 use Rattle.delivery.proofs.Causes.{caused, never_memory, not_write_fault}
 use Rattle.delivery.proofs.Steps.{rose_after, rose_before, decides_on}
 use Rattle.delivery.proofs.Agreement.{exactly}
+use Rattle.delivery.proofs.StraightAreas.{decided}
 use Rattle.delivery.proofs.top.run.Goals as goal
 
 pub returns-clause-exact : goal.returns-clause-exact
@@ -34,6 +35,13 @@ returns-clause-means g c =
     (λ name r. rose_before (g.S.Shelf.read_faults c.args.shelf.now name) (g.S.Shelf.read_faults c.decide.new.shelf name) (g.S.Shelf.read_faults c.publish.new.shelf name) (c.publish.ensures.reads name) r)
     c.args.words.now (outcome_of c.in-Ok.outcome) c.in-Ok.ensures.outcome)
     c.publish.ensures.status
+
+pub returns-clause-decided : goal.returns-clause-decided
+returns-clause-decided g c =
+    decided (g.S.Shelf.held c.args.shelf.now)
+    (ReadRose (g.S.Shelf.read_faults c.args.shelf.now) (g.S.Shelf.read_faults c.publish.new.shelf))
+    c.args.words.now c.publish.result (returns-clause-means g c)
+    (λ files. c.straights_are_decided.ensures.calls files (g.S.Shelf.read_faults c.args.shelf.now) (g.S.Shelf.read_faults c.publish.new.shelf) (g.S.Shelf.read_faults c.args.shelf.now) (g.S.Shelf.read_faults c.publish.new.shelf) c.args.words.now)
 
 pub returns-clause-certified : goal.returns-clause-certified
 returns-clause-certified g c =

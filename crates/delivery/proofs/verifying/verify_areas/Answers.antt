@@ -1,8 +1,8 @@
 use Rattle.std.proofs.Common.{List, refl, sym, subst}
 use Rattle.certificate.specs.Spelling.{views}
 use Rattle.certificate.specs.declared.notes.Certificate.{Certificate}
-use Rattle.certificate_checker.proofs.Judging.{if_ok}
 use Rattle.delivery.specs.Verifying.{Spells, unspelt}
+use Rattle.delivery.proofs.Steps.{if_ok}
 use Rattle.delivery.proofs.VerifyingLemmas.{no_list, told_line}
 use Rattle.delivery.proofs.verifying.verify_areas.Goals as goal
 

@@ -3,7 +3,7 @@ use Rattle.plane.specs.Runs.Timetables.{Timed}
 use Rattle.delivery.proofs.trial.counts.events_are_counted.Goals as goal
 
 pub returns-clause-one : goal.returns-clause-one
-returns-clause-one c d m n h k =
+returns-clause-one c d level m n h k =
     h.count ∙ ap (λ (ts : List Timed). length ts) (c.timetables.ensures.one _ _ h.table k.table h.is_table k.is_table) ∙ sym k.count
 
 pub returns-clause-positions : goal.returns-clause-positions
