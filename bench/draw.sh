@@ -155,11 +155,11 @@ def arcs():
     first, second = (math.degrees(math.atan2(b, a)) for a, b in ((-4, -3), (-3, -4)))
     parts = [(9, 0, first % 360), (10, first, second - first),
              (14, 0, -(first % 360)), (15, -first, first - second)]
-    for name, text, wanted, changed, marks in [
-            ("a circle", whole, quarters, None, []),
-            ("a circle", whole, quarters, "UNDECIDED 9 12", ["line 9", "line 12"]),
-            ("long arcs", long, parts, None, [])]:
-        svg, features, corner = pictures(name, MODEL, text, "LATER", changed)
+    for name, text, wanted, answer, changed, marks in [
+            ("a circle", whole, quarters, "PROVED 0 4 1", None, []),
+            ("a circle", whole, quarters, "PROVED 0 4 1", "UNDECIDED 9 12", ["line 9", "line 12"]),
+            ("long arcs", long, parts, "MEETING 9 14", "PROVED 0 4 1", [])]:
+        svg, features, corner = pictures(name, MODEL, text, answer, changed)
         hold(titles(svg, "undecided") == marks and titles(svg, "fault") == [], name, "marks")
         for (number, begin, turned), part, feature in zip(wanted, of_class(svg, "curve"), features):
             centre, radius, angle, way = circle(part.get("d"))

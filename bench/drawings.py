@@ -1,15 +1,18 @@
 #!/usr/bin/env python3
-"""Makes partitions of straights to measure with.
+"""Makes partitions to measure with.
 
 usage: drawings.py grid N FOLDER        N by N squares, two N (N + 1) straights
        drawings.py parcels N FOLDER     about N parcels with crooked borders of three straights each,
                                         a building of six straights in every second one
+       drawings.py arcs N FOLDER        the same, but three of five borders are arcs
+       drawings.py cover N FOLDER       the same, but one of 12 borders is an arc
        drawings.py strokes N FOLDER     N straights that all lie above one another, in no order, and
                                         no object: a sweep has all of them live at once
 
 FOLDER gets `model` and `transfer`, which `check` accepts, and the same as 32-bit numbers in units
-of a millimetre: `straights`, x and y of the start, x and y of the end, and `points`, x and y. The
-same arguments give the same bytes.
+of a millimetre: `straights`, x and y of the start, x and y of the end, `arcs`, x and y of the start,
+of the place on the arc and of the end, `chords`, the straights and the two chords of each arc, and
+`points`, x and y. The same arguments give the same bytes.
 """
 import os
 import random
@@ -18,7 +21,7 @@ import sys
 
 MODEL = """TRANSFER Bench; DOMAIN Koord = COORD2 0.000 0.000 100000.000 100000.000;
 MODEL Bench TOPIC Land = TABLE Parcel =
-Form: AREA WITH (STRAIGHTS) VERTEX Koord; NO IDENT END Parcel; END Land. END Bench.
+Form: AREA WITH (STRAIGHTS, ARCS) VERTEX Koord; NO IDENT END Parcel; END Land. END Bench.
 FORMAT FREE; CODE BLANK = DEFAULT, UNDEFINED = DEFAULT, CONTINUE = DEFAULT; TID = ANY; END.
 """
 
@@ -45,6 +48,21 @@ def crooked(chance, start, end):
     return [start, beside(1), beside(2), end]
 
 
+def bent(chance, start, end):
+    """An arc from start to end, over a place up to 3 m beside the middle of its chord."""
+    wide, high = end[0] - start[0], end[1] - start[1]
+    length = (wide * wide + high * high) ** 0.5
+    off = chance.choice([-1, 1]) * chance.randint(800, 3000)
+    over = (round((start[0] + end[0]) / 2 - off * high / length),
+            round((start[1] + end[1]) / 2 + off * wide / length), "arc")
+    return [start, over, end]
+
+
+def border(chance, share, start, end):
+    """A line from start to end, in a share of all cases an arc."""
+    return (bent if share and chance.random() < share else crooked)(chance, start, end)
+
+
 def building(chance, x, y):
     """An L about a place, and a point in it."""
     wide, high = chance.randint(5000, 8000), chance.randint(5000, 8000)
@@ -55,8 +73,8 @@ def building(chance, x, y):
     return ring + ring[:1], (x - 1000, y - 1000)
 
 
-def parcels(count):
-    """Parcels of about 40 by 40 m, and buildings."""
+def parcels(count, share=0.0):
+    """Parcels of about 40 by 40 m, and buildings; that share of the borders are arcs."""
     chance = random.Random(1)
     size = max(1, round(count ** 0.5))
     step = 40000
@@ -65,10 +83,10 @@ def parcels(count):
     lines, points = [], []
     for j in range(size + 1):
         for i in range(size):
-            lines.append(crooked(chance, nodes[j][i], nodes[j][i + 1]))
+            lines.append(border(chance, share, nodes[j][i], nodes[j][i + 1]))
     for j in range(size):
         for i in range(size + 1):
-            lines.append(crooked(chance, nodes[j + 1][i], nodes[j][i]))
+            lines.append(border(chance, share, nodes[j + 1][i], nodes[j][i]))
     for j in range(size):
         for i in range(size):
             x, y = step * (i + 1) + step // 2, step * (j + 1) + step // 2
@@ -90,20 +108,51 @@ def strokes(count):
     return lines, []
 
 
+def curves_of(line):
+    """The straights and the arcs of a line, in order."""
+    vertices = iter(line[1:])
+    start = line[0]
+    for vertex in vertices:
+        over = vertex
+        end = next(vertices) if len(over) == 3 else over
+        yield (start, end) if end is over else (start, over[:2], end)
+        start = end
+
+
+def vertex_text(vertex):
+    return "%s %s\n" % ("ARCP" if len(vertex) == 3 else "LIPT", metres(vertex))
+
+
 def metres(point):
     return "%d.%03d %d.%03d" % (*divmod(point[0], 1000), *divmod(point[1], 1000))
 
 
 def main():
     kind, count, folder = sys.argv[1], int(sys.argv[2]), sys.argv[3]
-    lines, points = {"grid": grid, "parcels": parcels, "strokes": strokes}[kind](count)
+    kinds = {
+        "grid": grid,
+        "parcels": parcels,
+        "arcs": lambda count: parcels(count, 3 / 5),
+        "cover": lambda count: parcels(count, 1 / 12),
+        "strokes": strokes,
+    }
+    lines, points = kinds[kind](count)
+    curves = [curve for line in lines for curve in curves_of(line)]
     os.makedirs(folder, exist_ok=True)
     with open(f"{folder}/model", "w") as file:
         file.write(MODEL)
     with open(f"{folder}/straights", "wb") as file:
-        for line in lines:
-            for a, b in zip(line, line[1:]):
-                file.write(struct.pack("<4i", *a, *b))
+        for curve in curves:
+            if len(curve) == 2:
+                file.write(struct.pack("<4i", *curve[0], *curve[1]))
+    with open(f"{folder}/arcs", "wb") as file:
+        for curve in curves:
+            if len(curve) == 3:
+                file.write(struct.pack("<6i", *curve[0], *curve[1], *curve[2]))
+    with open(f"{folder}/chords", "wb") as file:
+        for curve in curves:
+            for start, end in zip(curve, curve[1:]):
+                file.write(struct.pack("<4i", *start, *end))
     with open(f"{folder}/points", "wb") as file:
         for point in points:
             file.write(struct.pack("<2i", *point))
@@ -111,7 +160,7 @@ def main():
         file.write("SCNT\n////\nMTID Bench\nMODL Bench\nTOPI Land\nTABL Parcel_Form\n")
         for number, line in enumerate(lines, 1):
             file.write("OBJE %d\nSTPT %s\n" % (number, metres(line[0])))
-            file.writelines("LIPT %s\n" % metres(point) for point in line[1:])
+            file.writelines(vertex_text(vertex) for vertex in line[1:])
             file.write("ELIN\n")
         file.write("ETAB\nTABL Parcel\n")
         for number, point in enumerate(points, 1):

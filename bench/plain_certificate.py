@@ -109,4 +109,5 @@ def main():
         file.write("END\n")
 
 
-main()
+if __name__ == "__main__":
+    main()

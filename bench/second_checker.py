@@ -1,9 +1,9 @@
 #!/usr/bin/env python3
-"""A second checker of certificates, for drawings of straights: plain and slow.
+"""A second checker of certificates, plain and slow.
 
 Written from docs/certificate-format.md alone, and not from the code of the crates, so that two
 readings of that page can be held against each other. Lists are walked from end to end, numbers are
-Python's. Half arcs are not read.
+Python's. Tubes are those of tubes.py, by the words of that page.
 
 usage: second_checker.py DRAWING CERTIFICATES
 
@@ -11,12 +11,15 @@ DRAWING is a text with a line for each part, in the order of the model:
 
     AREA topic table attribute
     S x y x y                   a straight, from where to where, in units of the last decimal
+    H x y x y x y               a half arc, from where to where, and its third point
     P x y                       an object's point
 
 Prints PROVED, or NOTPROVED with the area, the rule and the place.
 """
 import re
 import sys
+
+from tubes import NoTube, by_words, circle
 
 LARGEST = 4294967295
 LEVELS = 5
@@ -144,17 +147,91 @@ def turn(a, b, c):
     return (b[0] - a[0]) * (c[1] - a[1]) - (b[1] - a[1]) * (c[0] - a[0])
 
 
-class Drawn:
-    """The edges of a drawing, each from its low end to its high end, and its events."""
+def is_in(place, triangle):
+    """In the closed triangle."""
+    a, b, c = triangle
+    turns = [turn(a, b, place), turn(b, c, place), turn(c, a, place)]
+    return min(turns) >= 0 or max(turns) <= 0
 
-    def __init__(self, straights):
-        self.edges = [(min(s), max(s)) for s in straights]
+
+class Tube:
+    """The tube of a half arc at a level."""
+
+    def __init__(self, half_arc, level):
+        a, b, third = self.half_arc = half_arc
+        made, outer = by_words(a, b, third, level)
+        inner, row = [a] + made, [a] + outer + [b]
+        self.inner_edges = list(zip(inner, inner[1:]))
+        self.outer_edges = list(zip(row, row[1:]))
+        self.corners = set(inner + row) - {a, b}
+        self.triangles = [*zip(inner, inner[1:], outer), *zip(outer, outer[1:], inner[1:])]
+        # seen along the arc, an inner edge has the tube on its left where the third point is right
+        self.is_left_of_inner = turn(a, b, third) < 0
+
+    def holds(self, place):
+        return any(is_in(place, triangle) for triangle in self.triangles)
+
+    def f(self, place):
+        """Below 0 inside the circle, 0 on it, above 0 outside."""
+        a, b, third = self.half_arc
+        d, along_x, along_y = circle(a, b, third)
+        x, y = place[0] - a[0], place[1] - a[1]
+        value = d * (x * x + y * y) - along_x * x - along_y * y
+        return value if d > 0 else -value
+
+
+class Drawn:
+    """The edges of a drawing, each from its low end to its high end, and its events.
+
+    A curve is the two ends of a straight, or the two ends of a half arc and its third point.
+    """
+
+    def __init__(self, curves, level):
+        self.edges, self.curves, self.tubes = [], [], {}
+        # the half-edges that face a tube from within; of each tube, those outside of its chains
+        self.within, self.inner, self.outer = set(), {}, {}
+        for curve, places in enumerate(curves):
+            if len(places) == 2:
+                self.add(curve, places)
+                continue
+            tube = self.tubes[curve] = Tube(places, level)
+            self.inner[curve], self.outer[curve] = [], []
+            for edge in tube.inner_edges:
+                self.add_side(curve, edge, tube.is_left_of_inner, self.inner[curve])
+            for edge in tube.outer_edges:
+                self.add_side(curve, edge, not tube.is_left_of_inner, self.outer[curve])
         self.events = sorted({end for edge in self.edges for end in edge})
+        self.starting, self.ending = {at: [] for at in self.events}, {at: [] for at in self.events}
+        for e, (low, high) in enumerate(self.edges):
+            self.starting[low].append(e)
+            self.ending[high].append(e)
+        self.nexts, self.prevs = {}, {}
+
+    def add(self, curve, edge):
+        self.edges.append((min(edge), max(edge)))
+        self.curves.append(curve)
+
+    def add_side(self, curve, edge, is_left, outside):
+        """An edge of a tube, which lies left or right of it as it is drawn along the arc."""
+        self.add(curve, edge)
+        above = 2 * len(self.edges) - 1
+        within = above if is_left == (edge[0] < edge[1]) else above - 1
+        self.within.add(within)
+        outside.append(within ^ 1)
+
+    def chain(self, curve, letter):
+        """The half-edges outside of the inner chain of the curve's tube, or of the outer one."""
+        return self.inner[curve] if letter == "I" else self.outer[curve]
+
+    def turn_round(self):
+        """Notes for each half-edge what follows its twin clockwise among those that start there."""
+        for half in range(2 * len(self.edges)):
+            self.nexts[half] = self.next(half)
+        self.prevs = {after: half for half, after in self.nexts.items()}
 
     def next(self, half):
-        """What follows the twin clockwise among the half-edges that start where this one ends."""
         start, end = self.ends(half)
-        around = [h for h in range(2 * len(self.edges)) if self.ends(h)[0] == end]
+        around = [2 * e + 1 for e in self.starting[end]] + [2 * e for e in self.ending[end]]
         back = (start[0] - end[0], start[1] - end[1])
         others = [h for h in around if h != half ^ 1]
         if not others:
@@ -211,12 +288,18 @@ class Checked:
     def counts(self):
         certificate = self.certificate
         if not (
-            certificate["level"] <= LEVELS
-            and len(self.notes) == 2 * len(self.edges)
+            len(self.notes) == 2 * len(self.edges)
             and len(certificate["positions"]) == len(self.drawn.events)
             and len(certificate["places"]) == len(self.points)
         ):
             raise Broken(2, 0)
+
+    def corners(self):
+        for event, at in enumerate(self.drawn.events):
+            curves = {self.drawn.curves[e] for e in self.drawn.starting[at] + self.drawn.ending[at]}
+            for curve, tube in self.drawn.tubes.items():
+                if at in tube.corners and curves != {curve}:
+                    raise Broken(3, event)
 
     def replay(self):
         """Rules 4 to 7, event by event. The list before the first event is empty."""
@@ -230,7 +313,7 @@ class Checked:
     def turned(self, live, event, at):
         """The live list after the event."""
         position = self.certificate["positions"][event]
-        ending = [e for e, (_, high) in enumerate(self.edges) if high == at]
+        ending = self.drawn.ending[at]
         block = live[position : position + len(ending)]
         if position > len(live) or sorted(block) != sorted(ending):
             raise Broken(4, event)
@@ -246,7 +329,7 @@ class Checked:
     def by_slope(self, at, event):
         """The edges that start at the event, in order of slope, an upright one last."""
         ordered = []
-        for e in (e for e, (low, _) in enumerate(self.edges) if low == at):
+        for e in self.drawn.starting[at]:
             high = self.edges[e][1]
             turns = [turn(at, self.edges[other][1], high) for other in ordered]
             if 0 in turns:
@@ -273,22 +356,34 @@ class Checked:
 
     def labels(self):
         for half in range(len(self.notes)):
-            if self.label(half) > len(self.points):
-                raise Broken(8, half // 2)
+            curve = self.drawn.curves[half // 2]
+            if half in self.drawn.within:
+                if self.label(half) != len(self.points) + 1 + curve:
+                    raise Broken(8, curve)
+            elif self.label(half) > len(self.points) or not self.is_as_its_chain(half, curve):
+                raise Broken(8, curve)
+
+    def is_as_its_chain(self, half, curve):
+        """All edges of one chain of a tube have one label on their outer side."""
+        for chain in (self.drawn.inner.get(curve, []), self.drawn.outer.get(curve, [])):
+            if half in chain and self.label(half) != self.label(chain[0]):
+                return False
+        return True
 
     def places(self):
         for point, at in enumerate(self.points):
-            if not self.is_placed(point, at):
+            place = self.certificate["places"][point]
+            placed = self.is_in_cell if place[0] == "P" else self.is_in_tube
+            if not placed(point, at, *place[1:]):
                 raise Broken(9, point)
 
-    def is_placed(self, point, at):
-        place = self.certificate["places"][point]
-        if place[0] != "P" or at in self.drawn.events:
+    def is_in_cell(self, point, at, position):
+        if at in self.drawn.events:
             return False
         live = self.lists[sum(1 for event in self.drawn.events if event < at)]
-        if not 1 <= place[1] < len(live):
+        if not 1 <= position < len(live):
             return False
-        lower, upper = live[place[1] - 1], live[place[1]]
+        lower, upper = live[position - 1], live[position]
         self.beside_point[point] = (2 * lower + 1, 2 * upper)
         return (
             turn(*self.edges[lower], at) > 0
@@ -297,7 +392,16 @@ class Checked:
             and self.label(2 * upper) == point + 1
         )
 
+    def is_in_tube(self, point, at, curve, side):
+        if curve not in self.drawn.tubes:
+            return False
+        tube, chain = self.drawn.tubes[curve], self.drawn.chain(curve, side)
+        self.beside_point[point] = chain
+        is_there = tube.f(at) < 0 if side == "I" else tube.f(at) > 0
+        return tube.holds(at) and is_there and self.label(chain[0]) == point + 1
+
     def links(self):
+        self.drawn.turn_round()
         for half in range(len(self.notes)):
             if not self.is_linked(half):
                 raise Broken(10, half)
@@ -307,9 +411,9 @@ class Checked:
         if letter == "R":
             return rank == 0 and self.is_root(half, label)
         if letter == "N":
-            other = self.drawn.next(half)
+            other = self.drawn.nexts[half]
         elif letter == "P":
-            (other,) = [h for h in range(len(self.notes)) if self.drawn.next(h) == half]
+            other = self.drawn.prevs[half]
         else:
             other = number
             if (half, other) not in self.across:
@@ -317,20 +421,28 @@ class Checked:
         return self.label(other) == label and self.notes[other][2] < rank
 
     def is_root(self, half, label):
+        if half in self.drawn.within:
+            return True
         if label == 0:
             return half in self.beside_border
         return half in self.beside_point[label - 1]
 
 
-def check(straights, points, certificate):
+def check(curves, points, certificate):
     """The first broken rule and its place, None where the certificate proves the partition."""
-    checked = Checked(Drawn(straights), points, certificate)
+    level = certificate["level"]
+    if level > LEVELS:
+        return (2, 0)
     try:
+        checked = Checked(Drawn(curves, level), points, certificate)
         checked.counts()
+        checked.corners()
         checked.replay()
         checked.labels()
         checked.places()
         checked.links()
+    except NoTube:
+        return (2, 0)
     except Broken as broken:
         return (broken.rule, broken.place)
     return None
@@ -339,7 +451,7 @@ def check(straights, points, certificate):
 def verify(areas, text):
     """The first broken rule of a file: the area, the rule and the place; None where all is proved.
 
-    An area is its names, its straights and its points.
+    An area is its names, its curves and its points.
     """
     try:
         certificates = read(text)
@@ -352,8 +464,8 @@ def verify(areas, text):
             or areas[number][0] != certificates[number]["names"]
         ):
             return (number, 1, number)
-    for number, (_, straights, points) in enumerate(areas):
-        broken = check(straights, points, certificates[number])
+    for number, (_, curves, points) in enumerate(areas):
+        broken = check(curves, points, certificates[number])
         if broken is not None:
             return (number, *broken)
     return None
@@ -365,11 +477,13 @@ def drawing(text):
         word, *rest = line.split()
         if word == b"AREA":
             areas.append((tuple(rest), [], []))
-        elif word == b"S":
-            x, y, u, v = map(int, rest)
-            areas[-1][1].append(((x, y), (u, v)))
-        elif word == b"P":
-            areas[-1][2].append(tuple(map(int, rest)))
+            continue
+        numbers = list(map(int, rest))
+        places = tuple(zip(numbers[::2], numbers[1::2]))
+        if word == b"P":
+            areas[-1][2].extend(places)
+        else:
+            areas[-1][1].append(places)
     return areas
 
 

@@ -1,12 +1,13 @@
 #!/usr/bin/env python3
 """Reads the rule of tubes of half arcs twice and compares the two readings on random half arcs.
 
-The first reading follows the words of the rule with fractions. The second one follows the
-definitions of crates/tubes/specs/HalfArcTubes.antt, with whole numbers alone. Both give the inner
-and the outer points of the tube at a level, or none.
+The first reading follows the words of the rule; plain_arcs.py and second_checker.py use it. The
+second one follows the definitions of crates/tubes/specs/HalfArcTubes.antt, with whole numbers
+alone. Both give the inner and the outer points of the tube at a level, or none.
 
     bench/tubes.py [COUNT] [SEED]
 """
+import functools
 import math
 import random
 import sys
@@ -30,6 +31,7 @@ def has_circle(s, m, e):
     return near and circle(s, m, e)[0] != 0
 
 
+@functools.lru_cache(maxsize=1024)
 def by_words(a, b, t, level):
     if not has_circle(a, b, t):
         raise NoTube("circle")
@@ -39,15 +41,16 @@ def by_words(a, b, t, level):
 
     def f(p):
         x, y = p[0] - a[0], p[1] - a[1]
-        return x * x + y * y - Fraction(ca * x + cb * y, d)
+        return Fraction(d * (x * x + y * y) - ca * x - cb * y, d)
 
     def point(p, q, n):
         dx, dy = q[0] - p[0], q[1] - p[1]
         length = math.isqrt(dx * dx + dy * dy)
         # the side away from the third point: on the right of the way where that is on the left
         w = (dy, -dx) if d > 0 else (-dy, dx)
+        # the whole part of (p + q) / 2 + n w / length
         return tuple(
-            math.floor(Fraction(p[i] + q[i], 2) + Fraction(n * w[i], length)) for i in (0, 1)
+            ((p[i] + q[i]) * length + 2 * n * w[i]) // (2 * length) for i in (0, 1)
         )
 
     def count(p, q):
@@ -232,4 +235,5 @@ def main():
     print(f"{count} half arcs, tubes by level {tubes}, none because of {reasons}")
 
 
-main()
+if __name__ == "__main__":
+    main()

@@ -453,7 +453,7 @@ def scaled(line, word, scale):
 # What the words behind an answer name, in their order.
 NAMED = {"MEETING": "cc", "UNDECIDED": "cc", "ON": "pc", "OUTSIDE": "p", "TWO": "pp", "EMPTY": "cs"}
 ANSWER = re.compile(r"|EMPTY [0-9]+ (LEFT|RIGHT)|(MEETING|UNDECIDED|ON|TWO) [0-9]+ [0-9]+"
-                    r"|OUTSIDE [0-9]+|PROVED( [0-9]+){3}|NOTPROVED( [0-9]+){2}|LATER")
+                    r"|OUTSIDE [0-9]+|PROVED( [0-9]+){3}|NOTPROVED( [0-9]+){2}")
 
 
 def answers_of(report, model):
