@@ -1,9 +1,7 @@
-// The edges of small drawings, the sides that face their tubes, and corners of tubes that are not
-// their own.
+// The edges of small drawings, and the sides that face their tubes.
 use plane::{Drawing, Edge, Point, Window2};
 use std::test::Fail;
-use straight_predicates::Timetable;
-use tubes::{EdgeList, Facing, Owner, Part, edge_list, facings, foreign_corner};
+use tubes::{EdgeList, Facing, Owner, Part, edge_list, facings};
 
 const WINDOW: Window2 = Window2 {
     low: Point { x: 0, y: 0 },
@@ -15,11 +13,6 @@ const A: Point = Point { x: 0, y: 0 };
 const B: Point = Point { x: 0, y: 50 };
 
 const C: Point = Point { x: 50, y: 50 };
-
-/// An inner corner of the tube of the half arc from B to C, and a point far from both tubes.
-const CORNER: Point = Point { x: 25, y: 60 };
-
-const FAR: Point = Point { x: 50, y: 100 };
 
 /// The ends of the edges of the straight from C to A and of the half arcs from A over B to C, at
 /// level 0, what each edge is of which curve, and the side that faces its tube.
@@ -91,24 +84,6 @@ fn half_arcs_have_the_chains_of_their_tubes(rt: HostRuntime) -> Result<(), Fail>
         assert_eq!(rt; *edge, want);
         assert_eq!(rt; *owner, Owner { curve, part });
         assert_eq!(rt; *side, facing);
-    }
-    Ok(())
-}
-
-/// The event at (25, 60) is the seventh: before it come the corners of the first tube, its half
-/// arc's ends and a corner of the second tube.
-#[test]
-fn a_corner_at_which_a_straight_ends_is_foreign(rt: HostRuntime) -> Result<(), Fail> {
-    let alloc = rt.alloc();
-    let mut drawing = Drawing::new(alloc, WINDOW);
-    drawing.add_arc(A, B, C, 2, 3)?;
-    for want in [None, Some(6)] {
-        let list = edge_list(alloc, &drawing, 0)?.expect(&rt, "edges");
-        let table = Timetable::new(alloc, &list.edges)?;
-        let of = table.edge_events(alloc, &list.edges)?;
-        let found = foreign_corner(alloc, &drawing, &list, &of.low, &of.high, table.events())?;
-        assert_eq!(rt; found, want);
-        drawing.add_straight(CORNER, FAR, 4)?;
     }
     Ok(())
 }
