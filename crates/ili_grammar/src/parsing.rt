@@ -10,7 +10,7 @@ ghost use Rattle.ili_grammar.specs.Values.{model_of};
 
 use super::source::{Source, Wanted};
 use super::syntax::{ModelSyntax, SyntaxFault};
-use ili_lexer::Token;
+use ili_lexer::{Token, text_by_table, tokens_in_order};
 use std::alloc::Global;
 
 /// Reads a model from the tokens of its text: the one syntax that they spell, or the first token
@@ -25,6 +25,8 @@ pub fn parse(alloc: Global, text: &[u8], tokens: &[Token]) -> Result<ModelSyntax
     ensures complete { (m : written.ModelSyntax) → Spells m (toks text.now tokens.now)
         → IfErr result (λ fault. fault ≡ SyntaxFault.Memory) }
 {
+    tokens_in_order();
+    text_by_table();
     let source = Source {
         alloc,
         text,

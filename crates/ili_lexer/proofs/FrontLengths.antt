@@ -24,7 +24,7 @@ IsPartOf text (Token k n) = IsPart text n
 IsPartOf text _ = Unit {0}
 
 -- a choice has what both sides have
-either : (P : Front → Type 0) (b : Bool) (x y : Front) → (b ≡ true → P x) → (b ≡ false → P y) → P (if b then x else y)
+pub either : (P : Front → Type 0) (b : Bool) (x y : Front) → (b ≡ true → P x) → (b ≡ false → P y) → P (if b then x else y)
 either P true x y f g = f refl
 either P false x y f g = g refl
 
@@ -44,7 +44,7 @@ run_fits p b bs h = record {
 inside_line : (b : ℕ) → is_blank b ≡ false → is_inside_line b ≡ true
 inside_line b h = rw (or_parts ((nat_eq b 32 || nat_eq b 9) || nat_eq b 13) (nat_eq b 10) h).1 refl
 
-name_byte : (b : ℕ) → is_ascii_alphabetic b ≡ true → is_name_byte b ≡ true
+pub name_byte : (b : ℕ) → is_ascii_alphabetic b ≡ true → is_name_byte b ≡ true
 name_byte b h = more (is_in_range 48 57 b) (is_in_range 65 90 b) (is_in_range 97 122 b) (nat_eq b 95) h
   where
     more : (d u l x : Bool) → (u || l) ≡ true → (((d || u) || l) || x) ≡ true
@@ -105,23 +105,39 @@ decimals_within text = go (begins text (codes ".")) refl
     go true e f = omega (arith, begins_length text (codes ".") e, prefix_len-le-length is_ascii_digit (drop 1 text), length-drop 1 text)
     go false e f = absurd (f refl)
 
+-- the bytes of a number at the front, be its digits few or not, behind a sign of so many bytes
+abbrev pub number_from : ℕ → List ℕ → ℕ
+number_from sign text =
+    let whole = prefix_len is_ascii_digit (drop sign text) in
+    let decimals = decimals_of (drop (sign + whole) text) in
+    sign + whole + (if nat_eq decimals 0 then 0 else 1) + decimals
+
+abbrev pub number_length : List ℕ → ℕ
+number_length text = number_from (sign_length text) text
+
+pub number_part : (text : List ℕ) → (prefix_len is_ascii_digit (drop (sign_length text) text) ≡ 0 → ⊥) → IsPart text (number_length text)
+number_part text z =
+    let s = sign_length text in
+    let w = prefix_len is_ascii_digit (drop s text) in
+    let d = decimals_of (drop (s + w) text) in
+    go s w d z (omega (arith, prefix_len-le-length is_ascii_digit (drop s text), length-drop s text))
+    (λ g. omega (arith, decimals_within (drop (s + w) text) g, length-drop (s + w) text))
+  where
+    go : (s w d : ℕ) → (w ≡ 0 → ⊥) → (0 < w → s + w ≤ length text) → ((d ≡ 0 → ⊥) → 1 + d + s + w ≤ length text)
+        → IsPart text (s + w + (if nat_eq d 0 then 0 else 1) + d)
+    go s w d e f g = stop (nat_eq d 0) refl
+      where
+        stop : (t : Bool) → nat_eq d 0 ≡ t → IsPart text (s + w + (if t then 0 else 1) + d)
+        stop true h = let z = eqb-true d 0 h in record { some = omega arith; within = omega (arith, f (omega arith)) }
+        stop false h = record { some = omega arith; within = omega (arith, g (eqb-false d 0 h)) }
+
 number_fits : (text : List ℕ) → IsPartOf text (number_front text)
 number_fits text =
     let s = sign_length text in
     let w = prefix_len is_ascii_digit (drop s text) in
     let d = decimals_of (drop (s + w) text) in
     either (IsPartOf text) (nat_eq w 0) _ _ (λ e. mark_fits text)
-    (λ e. either (IsPartOf text) (nat_lt 9 d || nat_lt 18 (w + d)) _ _ (λ f. tt)
-    (λ f. go s w d (eqb-false w 0 e) (omega (arith, prefix_len-le-length is_ascii_digit (drop s text), length-drop s text))
-    (λ g. omega (arith, decimals_within (drop (s + w) text) g, length-drop (s + w) text))))
-  where
-    go : (s w d : ℕ) → (w ≡ 0 → ⊥) → (0 < w → s + w ≤ length text) → ((d ≡ 0 → ⊥) → 1 + d + s + w ≤ length text)
-        → IsPartOf text (Token kind.Number (s + w + (if nat_eq d 0 then 0 else 1) + d))
-    go s w d e f g = stop (nat_eq d 0) refl
-      where
-        stop : (t : Bool) → nat_eq d 0 ≡ t → IsPartOf text (Token kind.Number (s + w + (if t then 0 else 1) + d))
-        stop true h = let z = eqb-true d 0 h in record { some = omega arith; within = omega (arith, f (omega arith)) }
-        stop false h = record { some = omega arith; within = omega (arith, g (eqb-false d 0 h)) }
+    (λ e. either (IsPartOf text) (nat_lt 9 d || nat_lt 18 (w + d)) _ _ (λ f. tt) (λ f. number_part text (eqb-false w 0 e)))
 
 pub front_fits : (text : List ℕ) → IsPartOf text (front_of text)
 front_fits [] = tt

@@ -3,3 +3,10 @@ pub mod FrontLengths
 pub mod Progress
 pub mod Orders
 pub mod Once
+pub mod Words
+pub mod Runs
+pub mod Sound
+pub mod Reach
+pub mod NumberReach
+pub mod ByTable
+pub mod Whole

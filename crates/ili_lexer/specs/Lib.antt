@@ -3,3 +3,5 @@ pub mod Keywords
 pub mod Fronts
 pub mod Places
 pub mod Tokens
+pub mod Forms
+pub mod Longest

@@ -1,12 +1,14 @@
 -- The tokens of a text, or its first fault.
-use Rattle.std.specs.Prelude.{◌≡◌, ℕ, ◌+◌, ◌≤◌, ◌<◌, List, [], ◌∷◌, take, drop, ⊤}
+use Rattle.std.specs.Prelude.{◌≡◌, ℕ, ◌+◌, ◌-◌, ◌≤◌, ◌<◌, List, [], ◌∷◌, take, drop, ⊤}
+use Rattle.std.specs.List.{All}
 use Rattle.ili_lexer.specs.declared.fronts.Front.TheVariants as front
 use Rattle.ili_lexer.specs.declared.tokens.Kind.{Kind}
 use Rattle.ili_lexer.specs.declared.tokens.Token.{Token}
 use Rattle.ili_lexer.specs.declared.tokens.LexFault.{LexFault}
 use Rattle.ili_lexer.specs.declared.tokens.LexFault.TheVariants.{BadByte, OpenExplanation, LongNumber, Memory}
 use Rattle.ili_lexer.specs.Fronts.{front_of}
-use Rattle.ili_lexer.specs.Places.{line_after, column_after}
+use Rattle.ili_lexer.specs.Places.{line_after, column_after, StandsAt}
+use Rattle.ili_lexer.specs.Longest.{IsTaken, IsBad, IsOpen, IsTooLong}
 
 pub data Answer : Type 0 where
   tokens : List Token → Answer
@@ -31,6 +33,25 @@ pub data Gives (text : List ℕ) : ℕ → Answer → Type 0 where
   at_open_explanation : (i : ℕ) → front_of (drop i text) ≡ front.OpenExplanation → Gives text i (fault (OpenExplanation (line_after (take i text)) (column_after (take i text))))
   at_long_number : (i : ℕ) → front_of (drop i text) ≡ front.LongNumber → Gives text i (fault (LongNumber (line_after (take i text)) (column_after (take i text))))
 
+-- ---- the same by the table of tokens
+-- each token is the longest at its place
+abbrev pub AreLongest : List ℕ → List Token → Type 0
+AreLongest text ts = All (λ (t : Token). IsTaken (drop t.from text) t.kind (t.upto - t.from)) ts
+
+-- at this line and column of the text stands what is so
+pub record IsAt (text : List ℕ) (line column : ℕ) (IsSo : List ℕ → Type 0) : Type 0 where
+  pub offset : ℕ
+  pub place : StandsAt text offset line column
+  pub so : IsSo (drop offset text)
+
+-- the fault by the table: what stands at its place
+abbrev pub IsFaultByTable : List ℕ → LexFault → Type 0
+IsFaultByTable text Memory = ⊤
+IsFaultByTable text (BadByte l c) = IsAt text l c IsBad
+IsFaultByTable text (OpenExplanation l c) = IsAt text l c IsOpen
+IsFaultByTable text (LongNumber l c) = IsAt text l c (λ rest. (n : ℕ) × IsTooLong rest n)
+
+-- ---- the tokens and the fault
 -- these are all tokens of the text
 abbrev pub AreTokens : List ℕ → List Token → Type 0
 AreTokens text ts = Gives text 0 (tokens ts)

@@ -10,10 +10,10 @@ use Rattle.ili_grammar.proofs.Lexed.{few_tokens, short_tokens}
 use Rattle.ili_grammar.proofs.parsing.parse.Goals as goal
 
 pub invariant_of-source-clause-few : goal.invariant_of-source-clause-few
-invariant_of-source-clause-few c = omega (arith, few_tokens c.args.text.now c.args.tokens.now c.requires.tokens, c.requires.short)
+invariant_of-source-clause-few c = omega (arith, few_tokens c.args.text.now c.args.tokens.now (c.tokens_in_order.ensures c.args.text.now c.args.tokens.now c.requires.tokens), c.requires.short)
 
 pub invariant_of-source-clause-short : goal.invariant_of-source-clause-short
-invariant_of-source-clause-short c = short_tokens c.args.text.now c.args.tokens.now c.requires.tokens
+invariant_of-source-clause-short c = short_tokens c.args.text.now c.args.tokens.now (c.text_by_table.ensures.tokens c.args.text.now c.args.tokens.now c.requires.tokens)
 
 pub returns-in_err-model-clause-fault : goal.returns-in_err-model-clause-fault
 returns-in_err-model-clause-fault c =
@@ -37,9 +37,9 @@ returns-then-next-tokens-clause-complete c m x =
 pub returns : goal.returns
 returns c =
     let x = spelt_read c.args.text.now c.args.tokens.now (model_of c.in_ok-model.model) c.in_ok-model.next c.in_ok-model.ensures.reads c.if-next-tokens.false in
-    let few : length c.args.tokens.now ≤ 4194304 = omega (arith, few_tokens c.args.text.now c.args.tokens.now c.requires.tokens, c.requires.short) in record {
+    let few : length c.args.tokens.now ≤ 4194304 = omega (arith, few_tokens c.args.text.now c.args.tokens.now (c.tokens_in_order.ensures c.args.text.now c.args.tokens.now c.requires.tokens), c.requires.short) in record {
       spelt = x;
-      within = limits_kept c.args.text.now c.args.tokens.now (model_of c.in_ok-model.model) few (short_tokens c.args.text.now c.args.tokens.now c.requires.tokens) x;
+      within = limits_kept c.args.text.now c.args.tokens.now (model_of c.in_ok-model.model) few (short_tokens c.args.text.now c.args.tokens.now (c.text_by_table.ensures.tokens c.args.text.now c.args.tokens.now c.requires.tokens)) x;
       fault = tt;
       complete = λ m y. tt;
     }
