@@ -7,7 +7,7 @@ use Rattle.std.proofs.Math.Bool.{or-false}
 use Rattle.std.specs.List.{list_any}
 use Rattle.std.specs.Option.{unwrap_or, option_map_or, is_some}
 use Rattle.resolver.specs.Scopes.{reached, comes_to, longest}
-use Rattle.resolver.specs.Ways.{step_in, StepsWithin, IsJump}
+use Rattle.resolver.specs.Aliases.{step_in, StepsWithin, IsJump}
 use Rattle.resolver.proofs.Reaching.{reached_add, step_within}
 
 -- a value is taken below m, or nowhere there

@@ -11,7 +11,7 @@ use Rattle.resolver.specs.Rules.{cycle_faults}
 use Rattle.resolver.specs.Scopes.{Scope, Meaning, is_among, is_visible, place, names_of, domain_names, declared_in, leads, reached, comes_to, longest, last_type, name_alone, outside, written, followed, meaning_outside, meaning, meant}
 use Rattle.resolver.specs.Standing.{StandsFor, as_written, as_outside, as_declared}
 use Rattle.resolver.specs.Steps.{step_of, steps_of}
-use Rattle.resolver.specs.Ways.{step_in, StepsWithin}
+use Rattle.resolver.specs.Aliases.{step_in, StepsWithin}
 use Rattle.resolver.proofs.Circles.{end_is_round, reached_within}
 use Rattle.resolver.proofs.Levels.{place_below, step_below}
 use Rattle.resolver.proofs.Meanings.{leads_is}

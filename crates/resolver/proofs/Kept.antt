@@ -3,7 +3,6 @@ use Rattle.std.proofs.Common.{◌≡◌, ℕ, suc, zero, Bool, true, false, cond
 use Rattle.std.specs.List.{All}
 use Rattle.std.specs.Option.{IfSome, option_map, option_map_or, option_and_then}
 use Rattle.ili_grammar.specs.Syntax.{Ident, TypeSyntax, DomainSyntax}
-use Rattle.ili_grammar.specs.Values.{type_of}
 use Rattle.resolver.specs.declared.scope.Meaning as meanings
 use Rattle.resolver.specs.Scopes.{Scope, Meaning, place, is_among, names_of, name_alone, last_type, outside, written, followed, meaning_outside, meaning, meant, reached, leads, longest}
 use Rattle.resolver.specs.ScopeViews.{meaning_of}
@@ -47,6 +46,39 @@ meaning_kept P s name a o = by_test (is_among name (names_of s.above))
 pub meant_kept : (P : TypeSyntax → Type 0) (s : Scope) (t : TypeSyntax) → All (λ d. P d.kind) s.above → All (λ d. P d.kind) s.own → P t → Kept P (meant s t)
 meant_kept P s t a o p = written_kept P (meaning s) s t (λ name. meaning_kept P s name a o) p
 
-pub found_kept : (P : TypeSyntax → Type 0) (s : Scope) (found : Option meanings.Meaning) (m : Option Meaning) → option_map (meaning_of s) found ≡ m → Kept P m → IfSome found (λ f. P (type_of f.kind.now))
-found_kept P s None m e k = tt
-found_kept P s (Some f) m e k = subst (Kept P) (sym e) k
+-- what holds of a scope and of the one outside it holds of the scope of each meaning
+
+abbrev Scoped : (Scope → Type 0) → Option Meaning → Type 0
+Scoped Q o = IfSome o (λ m. Q m.scope)
+
+written_scoped : (Q : Scope → Type 0) (look : List ℕ → Option Meaning) (s : Scope) (t : TypeSyntax) → ((name : List ℕ) → Scoped Q (look name)) → Q s → Scoped Q (written look s t)
+written_scoped Q look s t k q = by_name (name_alone t)
+  where
+    by_name : (o : Option Ident) → Scoped Q (option_map_or (λ n. look n.text) o (Some (record { scope = s; kind = t })))
+    by_name None = q
+    by_name (Some n) = k n.text
+
+followed_scoped : (Q : Scope → Type 0) (look : List ℕ → Option Meaning) (s : Scope) (name : List ℕ) → Q s → ((other : List ℕ) → Scoped Q (look other)) → Scoped Q (followed look s name)
+followed_scoped Q look s name q k = by_type (option_and_then (last_type s) (place name (names_of s.own)))
+  where
+    by_type : (o : Option TypeSyntax) → Scoped Q (option_and_then (written look s) o)
+    by_type None = tt
+    by_type (Some t) = written_scoped Q look s t k q
+
+outside_scoped : (Q : Scope → Type 0) (ds : List DomainSyntax) (name : List ℕ) → Q (outside ds) → Scoped Q (meaning_outside ds name)
+outside_scoped Q ds name q = followed_scoped Q (λ _. None) (outside ds) name q (λ _. tt)
+
+meaning_scoped : (Q : Scope → Type 0) (s : Scope) (name : List ℕ) → Q (outside s.above) → Q s → Scoped Q (meaning s name)
+meaning_scoped Q s name a q = by_test (is_among name (names_of s.above))
+  where
+    by_test : (b : Bool) → Scoped Q (cond b (meaning_outside s.above name) (followed (meaning_outside s.above) s name))
+    by_test true = outside_scoped Q s.above name a
+    by_test false = followed_scoped Q (meaning_outside s.above) s name q (λ other. outside_scoped Q s.above other a)
+
+pub meant_scoped : (Q : Scope → Type 0) (s : Scope) (t : TypeSyntax) → Q (outside s.above) → Q s → Scoped Q (meant s t)
+meant_scoped Q s t a q = written_scoped Q (meaning s) s t (λ name. meaning_scoped Q s name a q) q
+
+-- what holds of a meaning holds of the one that the code finds
+pub found_kept : (P : Meaning → Type 0) (found : Option meanings.Meaning) (m : Option Meaning) → option_map meaning_of found ≡ m → IfSome m P → IfSome found (λ f. P (meaning_of f))
+found_kept P None m e k = tt
+found_kept P (Some f) m e k = subst (λ (o : Option Meaning). IfSome o P) (sym e) k

@@ -9,18 +9,18 @@ use Rattle.ili_grammar.specs.declared.syntax.DomainSyntax as domain
 use Rattle.ili_grammar.specs.declared.syntax.Ident as ident
 use Rattle.ili_grammar.specs.Syntax.{Ident, TypeSyntax, DomainSyntax}
 use Rattle.ili_grammar.specs.Values.{ident_of, type_of, domain_of}
-use Rattle.resolver.specs.declared.level.Level.{Level}
+use Rattle.resolver.specs.declared.scope.domain_scope.DomainScope.{DomainScope}
 use Rattle.resolver.specs.Scopes.{texts, same, place, is_among, names_of, domain_names, declared_in, name_alone, reached, comes_to, longest}
 use Rattle.resolver.specs.declared.faults.ModelCode.TheVariants as code
 use Rattle.resolver.specs.Faults.{Fault, first_from, fault_if}
 use Rattle.resolver.specs.Rules.{cycle_faults}
 use Rattle.resolver.proofs.Folds.{first_append, list_from}
 use Rattle.resolver.specs.Indexed.{idents}
-use Rattle.resolver.specs.Ways.{step_in, StepsWithin, AreRounds}
+use Rattle.resolver.specs.Aliases.{step_in, StepsWithin, AreCyclic}
 use Rattle.resolver.specs.Steps.{domains_at, step_of, steps_of}
-use Rattle.resolver.specs.Directories.{names_in}
+use Rattle.resolver.specs.NameIndexes.{names_in}
 use Rattle.ili_grammar.specs.Limits.{IsSmallDomain, IsSmallType}
-use Rattle.resolver.specs.Levels.{domains_in, last_in}
+use Rattle.resolver.specs.DomainScopes.{domains_in, target_in}
 
 -- one more name is read
 pub names_step : (ds : List (Bor domain.DomainSyntax)) (i : ℕ) (ns more : List (Bor ident.Ident)) (d : Bor domain.DomainSyntax) (n : Bor ident.Ident)
@@ -90,20 +90,20 @@ steps_made above names read ds steps r e s =
     ∙ sym (steps_map above (texts names) ds) ∙ ap (λ (l : List Ident). map (step_of above (texts l)) (domains_at ds)) e
 
 -- a name's place has a step
-pub level_place : (l : Level) (name : List ℕ) (p : ℕ) → Some p ≡ place name (texts (names_in l.names)) → p < length l.steps.items
+pub level_place : (l : DomainScope) (name : List ℕ) (p : ℕ) → Some p ≡ place name (texts (names_in l.names)) → p < length l.steps.items
 level_place l name p e =
     let below : p < length (texts (names_in l.names)) = place_below name (texts (names_in l.names)) p e in
     omega (arith, below, names_long (names_in l.names) l.domains.items l.named, l.long)
 
-pub last_is : (l : Level) (name : List ℕ) (p : ℕ) (read : List (Bor domain.DomainSyntax)) (ends : List ℕ) (t : TypeSyntax) → read ≡ l.domains.items → ends ≡ l.ends.items
+pub last_is : (l : DomainScope) (name : List ℕ) (p : ℕ) (read : List (Bor domain.DomainSyntax)) (ends : List ℕ) (t : TypeSyntax) → read ≡ l.domains.items → ends ≡ l.targets.items
     → Some p ≡ place name (texts (names_in l.names)) → option_map (λ d. d.kind) (slice_get (domains_at read) (get_or ends p 0)) ≡ Some t
-    → Some t ≡ option_and_then (last_in l) (place name (names_of (domains_in l)))
+    → Some t ≡ option_and_then (target_in l) (place name (names_of (domains_in l)))
 last_is l name p read ends t r f e k =
     let found : Some p ≡ place name (names_of (domains_in l)) = e ∙ ap (λ (ns : List Ident). place name (texts ns)) l.named in
-    let far : get_or ends p 0 ≡ reached (step_in l.steps.items) longest p = ap (λ (es : List ℕ). get_or es p 0) f ∙ l.ended.lands p (level_place l name p e) in
+    let far : get_or ends p 0 ≡ reached (step_in l.steps.items) longest p = ap (λ (es : List ℕ). get_or es p 0) f ∙ l.landed.lands p (level_place l name p e) in
     sym k ∙ ap (λ (ds : List (Bor domain.DomainSyntax)). option_map (λ d. d.kind) (slice_get (domains_at ds) (get_or ends p 0))) r
     ∙ ap (λ (i : ℕ). option_map (λ d. d.kind) (slice_get (domains_in l) i)) far
-    ∙ ap (λ (o : Option ℕ). option_and_then (last_in l) o) found
+    ∙ ap (λ (o : Option ℕ). option_and_then (target_in l) o) found
 
 pub short_in : (ds : List DomainSyntax) (i : ℕ) (t : TypeSyntax) → All IsSmallDomain ds → option_map (λ d. d.kind) (slice_get ds i) ≡ Some t → IsSmallType t
 short_in [] i t h e = absurd (true≢false (ap (λ (o : Option TypeSyntax). is_some o) (sym e)))
@@ -140,7 +140,7 @@ cycles_step step i ds read d round best after r lt at m e =
     ∙ ap (λ (l : List (Bor domain.DomainSyntax)). first_from best (cycle_faults step i (domains_at l))) (sym (list_from i ds read d r lt at))
 
 -- what the marks say
-pub marked : (steps read : List (Option ℕ)) (marks : List Bool) (i : ℕ) (b : Bool) → read ≡ steps → AreRounds read marks → i < length steps → b ≡ get_or marks i b → b ≡ comes_to (step_in steps) i longest i
+pub marked : (steps read : List (Option ℕ)) (marks : List Bool) (i : ℕ) (b : Bool) → read ≡ steps → AreCyclic read marks → i < length steps → b ≡ get_or marks i b → b ≡ comes_to (step_in steps) i longest i
 marked steps read marks i b r a lt at =
     let here : i < length read = subst (λ (l : List (Option ℕ)). i < length l) (sym r) lt in
     at ∙ get_or_default marks i b false (omega (arith, here, a.long)) ∙ a.found i here ∙ ap (λ (l : List (Option ℕ)). comes_to (step_in l) i longest i) r

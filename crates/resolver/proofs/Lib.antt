@@ -11,6 +11,7 @@ pub mod DomainRules
 pub mod Keys
 pub mod Within
 pub mod Bounds
+pub mod Powers
 pub mod CountedLeaves
 pub mod Kept
 pub mod Modest
@@ -29,3 +30,13 @@ pub mod StandingAttributes
 pub mod StandingModels
 pub mod OneStanding
 pub mod OneModel
+pub mod Members
+pub mod Least
+pub mod EndedWays
+pub mod Meant
+pub mod FaultParts
+pub mod ListedRules
+pub mod BrokenRules
+pub mod RuleLaws
+pub mod BoundValues
+pub mod NumberTokens

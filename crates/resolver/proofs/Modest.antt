@@ -45,6 +45,3 @@ small_scope s m = (λ i d lt. (m.above i d lt).numbers, λ i d lt. (m.own i d lt
 
 pub modest_outside : (s : Scope) → IsModestScope s → IsModestScope (outside s.above)
 modest_outside s m = record { above = λ i d lt. absurd (omega (arith, lt)); own = m.above; tables = omega arith }
-
-pub modest_outer : (outer s : Scope) → outer ≡ outside s.above → IsModestScope s → IsModestScope outer
-modest_outer outer s e m = subst IsModestScope (sym e) (modest_outside s m)

@@ -3,7 +3,7 @@ use Rattle.std.proofs.Common.{◌≡◌, ℕ, suc, zero, ◌+◌, ◌*◌, ◌^�
 use Rattle.std.proofs.Math.Nat.{pow-suc}
 use Rattle.std.specs.Option.{unwrap_or, IfSome}
 use Rattle.resolver.specs.Scopes.{reached, longest}
-use Rattle.resolver.specs.Ways.{IsJump, step_in, StepsWithin}
+use Rattle.resolver.specs.Aliases.{IsJump, step_in, StepsWithin}
 
 pub reached_add : (step : ℕ → Option ℕ) (a b i : ℕ) → reached step (a + b) i ≡ reached step b (reached step a i)
 unfolding reached

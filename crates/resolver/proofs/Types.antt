@@ -24,7 +24,7 @@ element_out = fold_out-Element Element element_step
 pub line_out : (l : line.LineSyntax) → line_of l ≡ a_line (record { straights = (out-LineSyntax l).straights; arcs = (out-LineSyntax l).arcs; vertex = ident_of (out-LineSyntax l).vertex; overlap = option_map decimal_of (out-LineSyntax l).overlap }) (attributes_of (out-LineSyntax l).attributes.items) (lists_of (out-LineSyntax l).idents.items)
 line_out = fold_out-LineSyntax Content TypeSyntax AttributeSyntax LineSyntax content_step type_step attribute_step line_step
 
--- the elements of a list were told, and now the lists within them
+-- the elements of a list were fault_in, and now the lists within them
 pub parts_begin : (e : element.Element) (read : List element.Element) (before after : Option Fault) → read ≡ (out-Element e).parts.items
     → after ≡ first_from before (twice_in (element_names (elements_of read)))
     → first_from after (parts_faults (elements_of (out-Element e).parts.items)) ≡ first_from before (element_faults (element_of e))
@@ -34,7 +34,7 @@ parts_begin e read before after r t =
     ∙ sym (first_append before (twice_in (element_names (elements_of parts))) (parts_faults (elements_of parts)))
     ∙ ap (λ (x : Element). first_from before (element_faults x)) (sym (element_out e))
 
--- a line's vertices, names and own lines were told, and now its attributes
+-- a line's vertices, names and own lines were fault_in, and now its attributes
 pub line_begin : (s : Scope) (owner : Ident) (shape : Shape) (l : line.LineSyntax) (reads : List attribute.AttributeSyntax) (lists : List list.IdentList) (rest : List attribute.AttributeSyntax) (before vertex names lines : Option Fault)
     → reads ≡ (out-LineSyntax l).attributes.items → lists ≡ (out-LineSyntax l).idents.items → rest ≡ (out-LineSyntax l).attributes.items
     → vertex ≡ first_from before (vertex_faults s owner shape (ident_of (out-LineSyntax l).vertex) (option_map decimal_of (out-LineSyntax l).overlap))

@@ -1,12 +1,12 @@
 pub mod Faults
-pub mod Told
+pub mod FaultViews
 pub mod Indexed
-pub mod Directories
+pub mod NameIndexes
 pub mod Numbers
 pub mod Scopes
-pub mod Ways
+pub mod Aliases
 pub mod Steps
-pub mod Levels
+pub mod DomainScopes
 pub mod ScopeViews
 pub mod Lines
 pub mod Rules
@@ -16,3 +16,6 @@ pub mod Resolved
 pub mod Values
 pub mod Sound
 pub mod Standing
+pub mod Occurring
+pub mod Breaking
+pub mod First

@@ -1,4 +1,4 @@
-// The fault that counts among those told so far.
+// The fault that counts among those reported so far.
 ghost use Rattle.std.specs.Prelude.{◌≡◌};
 ghost use Rattle.resolver.specs.Faults.{rank};
 
@@ -7,15 +7,15 @@ use ili_grammar::Ident;
 
 /// A rule that is broken, and the name at which it is.
 #[derive(Clone, Copy)]
-pub struct Told<'a> {
+pub struct FaultAt<'a> {
     pub code: ModelCode,
     pub name: &'a Ident,
 }
 
-/// The fault that counts among those told so far, if any was.
+/// The fault that counts among those reported so far, if any was.
 #[derive(Drop)]
 pub struct Earliest<'a> {
-    best: Option<Told<'a>>,
+    best: Option<FaultAt<'a>>,
 }
 
 // Of two rules at one name the one with the lower rank counts.
@@ -36,13 +36,13 @@ fn rank(code: ModelCode) -> u8
     }
 }
 
-impl<'a> Told<'a> {
+impl<'a> FaultAt<'a> {
     ghost use Rattle.std.specs.Prelude.{◌≡◌};
     ghost use Rattle.resolver.specs.Faults.{is_before};
-    ghost use Rattle.resolver.specs.Told.{fault_of};
+    ghost use Rattle.resolver.specs.FaultViews.{fault_of};
 
     // Whether this one counts before another.
-    fn is_before(&self, other: &Told<'a>) -> bool
+    fn is_before(&self, other: &FaultAt<'a>) -> bool
         ensures { result ≡ is_before (fault_of self.now) (fault_of other.now) }
     {
         let (line, of_line) = (self.name.line, other.name.line);
@@ -57,25 +57,25 @@ impl<'a> Earliest<'a> {
     ghost use Rattle.std.specs.Prelude.{◌≡◌, None};
     ghost use Rattle.ili_grammar.specs.Values.{ident_of};
     ghost use Rattle.resolver.specs.Faults.{first_from, fault_if};
-    ghost use Rattle.resolver.specs.Told.{told, fault_of};
+    ghost use Rattle.resolver.specs.FaultViews.{fault_in, fault_of};
     ghost use Rattle.std.specs.Option.{option_map};
 
-    /// Nothing was told yet.
+    /// Nothing is reported yet.
     pub fn new() -> Earliest<'a>
-        ensures { told result ≡ None }
+        ensures { fault_in result ≡ None }
     {
         Earliest { best: None }
     }
 
-    /// Tells a fault at a name, if the rule is broken there.
-    pub fn tell(&mut self, broken: bool, code: ModelCode, name: &'a Ident)
-        ensures { told self.new ≡ first_from (told self.old)
+    /// Reports a fault at a name, if the rule is broken there.
+    pub fn report(&mut self, broken: bool, code: ModelCode, name: &'a Ident)
+        ensures { fault_in self.new ≡ first_from (fault_in self.old)
             (fault_if broken code (ident_of name.now)) }
     {
         if !broken {
             return;
         }
-        let fault = Told { code, name };
+        let fault = FaultAt { code, name };
         match &self.best {
             Some(best) if !fault.is_before(best) => {}
             _ => self.best = Some(fault),
@@ -83,8 +83,8 @@ impl<'a> Earliest<'a> {
     }
 
     /// The fault that counts.
-    pub fn fault(&self) -> Option<Told<'a>>
-        ensures { option_map fault_of result ≡ told self.now }
+    pub fn fault(&self) -> Option<FaultAt<'a>>
+        ensures { option_map fault_of result ≡ fault_in self.now }
     {
         self.best
     }

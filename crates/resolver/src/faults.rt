@@ -1,5 +1,9 @@
 // Why a model is refused.
+ghost use Rattle.std.specs.Prelude.{◌≡◌};
+ghost use Rattle.resolver.specs.declared.faults.ModelFault.TheVariants.{Memory as OutOfMemory};
+
 use ili_grammar::Ident;
+use ports::Memory;
 
 /// A rule on the names and types of a model.
 #[derive(Clone, Copy, Debug, PartialEq, Eq)]
@@ -26,9 +30,17 @@ pub enum ModelCode {
     IdentUnknown,
 }
 
-/// The rule that is broken first in the text, and the name at which it is; or want of memory.
+/// The rule that is broken first in the text, and the name at which it is; or out of memory.
 #[derive(Drop)]
 pub enum ModelFault {
     At { code: ModelCode, name: Ident },
     Memory,
+}
+
+impl From<Memory> for ModelFault {
+    ghost from_gives = { λ _ e. e ≡ OutOfMemory };
+
+    fn from(_: Memory) -> ModelFault {
+        ModelFault::Memory
+    }
 }

@@ -1,19 +1,14 @@
 // Bounds and overlaps at a scale.
-ghost use Rattle.std.specs.Prelude.{◌≡◌, ◌<◌, ◌≤◌, ◌^◌, ◌∷◌, [], max, pos, neg_ℤ, ◌<ℤ◌, ◌-ℤ◌};
+ghost use Rattle.std.specs.Prelude.{◌≡◌, ◌<◌, ◌≤◌, ◌^◌, max, pos, neg_ℤ, ◌<ℤ◌, ◌-ℤ◌};
 ghost use Rattle.ili_grammar.specs.Syntax.{Coord2, Coord3};
-ghost use Rattle.ili_grammar.specs.Values.{ident_of, decimal_of, span_of, corners2_of, corners3_of};
+ghost use Rattle.ili_grammar.specs.Values.{decimal_of, span_of, corners2_of, corners3_of};
 ghost use Rattle.ili_grammar.specs.Values.{type_of};
-ghost use Rattle.resolver.specs.Faults.{first_from};
-ghost use Rattle.resolver.specs.Told.{told};
-ghost use Rattle.resolver.specs.Numbers.{magnitude, in_units, most_decimals, scale_of, is_long};
+ghost use Rattle.resolver.specs.Numbers.{magnitude, in_units, scale_of, is_long};
 ghost use Rattle.resolver.specs.Numbers.{is_reversed, has_long_bound, is_wide_span, is_wide};
 ghost use Rattle.resolver.specs.Numbers.{is_text_length};
-ghost use Rattle.resolver.specs.Rules.{spans_faults, numbers_faults};
 ghost use Rattle.ili_grammar.specs.Limits.{IsSmall, IsSmallSpan, IsSmallType};
 
-use super::earliest::Earliest;
-use super::faults::ModelCode;
-use ili_grammar::{Corners2, Corners3, Decimal, Ident, Span, TypeSyntax};
+use ili_grammar::{Corners2, Corners3, Decimal, Span, TypeSyntax};
 
 // An area's window is less than 2^40 units wide.
 const WIDE: i128 = 1_099_511_627_776;
@@ -28,18 +23,7 @@ fn power(exponent: u8) -> u128
     ensures most { result ≤ 10 ^ 9 }
     ensures least { 0 < result }
 {
-    match exponent {
-        0 => 1,
-        1 => 10,
-        2 => 100,
-        3 => 1_000,
-        4 => 10_000,
-        5 => 100_000,
-        6 => 1_000_000,
-        7 => 10_000_000,
-        8 => 100_000_000,
-        _ => 1_000_000_000,
-    }
+    10u128.pow(u32::from(exponent))
 }
 
 // The number without its sign in units of a scale, further decimals dropped.
@@ -139,71 +123,6 @@ pub fn scale3(corners: Corners3) -> u8
     ensures most { result ≤ 9 }
 {
     span_scale(corners.x).max(span_scale(corners.y).max(span_scale(corners.z)))
-}
-
-// Tells the rules on numbers that one span breaks.
-#[tactic(auto, using(crate::proofs::Folds::first_append))]
-fn tell_span<'a>(owner: &'a Ident, span: Span, earliest: &mut Earliest<'a>)
-    requires { IsSmallSpan (span_of span) }
-    ensures { told earliest.new ≡ first_from (told earliest.old)
-        (spans_faults (ident_of owner.now) (most_decimals (span_of span ∷ []))
-        (span_of span ∷ [])) }
-{
-    let scale = span_scale(span);
-    earliest.tell(is_reversed(span, scale), ModelCode::Bounds, owner);
-    earliest.tell(has_long_bound(span, scale), ModelCode::Decimals, owner);
-}
-
-// Tells the rules on numbers that coordinates of two axes break.
-#[tactic(auto, using(crate::proofs::Folds::first_append))]
-fn tell_corners2<'a>(owner: &'a Ident, corners: Corners2, earliest: &mut Earliest<'a>)
-    requires { IsSmallSpan (corners2_of corners).x × IsSmallSpan (corners2_of corners).y }
-    ensures { told earliest.new ≡ first_from (told earliest.old)
-        (numbers_faults (ident_of owner.now) (Coord2 (corners2_of corners))) }
-{
-    let scale = scale2(corners);
-    let reversed = is_reversed(corners.x, scale) || is_reversed(corners.y, scale);
-    earliest.tell(reversed, ModelCode::Bounds, owner);
-    let long = has_long_bound(corners.x, scale) || has_long_bound(corners.y, scale);
-    earliest.tell(long, ModelCode::Decimals, owner);
-}
-
-// Tells the rules on numbers that coordinates of three axes break.
-#[tactic(auto, using(crate::proofs::Folds::first_append))]
-fn tell_corners3<'a>(owner: &'a Ident, corners: Corners3, earliest: &mut Earliest<'a>)
-    requires { IsSmallSpan (corners3_of corners).x × IsSmallSpan (corners3_of corners).y
-        × IsSmallSpan (corners3_of corners).z }
-    ensures { told earliest.new ≡ first_from (told earliest.old)
-        (numbers_faults (ident_of owner.now) (Coord3 (corners3_of corners))) }
-{
-    let scale = scale3(corners);
-    let reversed = is_reversed(corners.x, scale)
-        || is_reversed(corners.y, scale)
-        || is_reversed(corners.z, scale);
-    earliest.tell(reversed, ModelCode::Bounds, owner);
-    let long = has_long_bound(corners.x, scale)
-        || has_long_bound(corners.y, scale)
-        || has_long_bound(corners.z, scale);
-    earliest.tell(long, ModelCode::Decimals, owner);
-}
-
-/// Tells the rules on numbers that the bounds of a type break.
-pub fn tell_numbers<'a>(owner: &'a Ident, kind: &TypeSyntax, earliest: &mut Earliest<'a>)
-    requires { IsSmallType (type_of kind.now) }
-    ensures { told earliest.new ≡ first_from (told earliest.old)
-        (numbers_faults (ident_of owner.now) (type_of kind.now)) }
-{
-    match kind {
-        TypeSyntax::Coord2(corners) => tell_corners2(owner, *corners, earliest),
-        TypeSyntax::Coord3(corners) => tell_corners3(owner, *corners, earliest),
-        TypeSyntax::Dim1(span) => tell_span(owner, *span, earliest),
-        TypeSyntax::Dim2(span) => tell_span(owner, *span, earliest),
-        TypeSyntax::Radians(span) => tell_span(owner, *span, earliest),
-        TypeSyntax::Grads(span) => tell_span(owner, *span, earliest),
-        TypeSyntax::Degrees(span) => tell_span(owner, *span, earliest),
-        TypeSyntax::Range(span) => tell_span(owner, *span, earliest),
-        _ => {}
-    }
 }
 
 /// Whether a text length is whole, from 1 to 65,535.

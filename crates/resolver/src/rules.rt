@@ -1,222 +1,45 @@
-// The rules on types: of a domain, of an attribute, and of the attributes of a line.
-ghost use Rattle.std.specs.Prelude.{◌≡◌, ◌++◌, OnOk};
+// The rules on names and types, and the fault of a model that counts.
+ghost use Rattle.std.specs.Prelude.{◌≡◌, [], IfOk};
 ghost use Rattle.std.specs.Option.{option_map};
-ghost use Rattle.ili_grammar.specs.Values.{ident_of, decimal_of, element_of, elements_of, type_of};
-ghost use Rattle.ili_grammar.specs.Values.{line_of, attribute_of, attributes_of};
-ghost use Rattle.resolver.specs.Faults.{first_from};
-ghost use Rattle.resolver.specs.Told.{told};
-ghost use Rattle.resolver.specs.ScopeViews.{scope_of};
-ghost use Rattle.ili_grammar.specs.Limits.{IsSmallType, IsSmallLine, IsSmallAttribute};
-ghost use Rattle.ili_grammar.specs.Limits.{AreSmallAttributes};
-ghost use Rattle.resolver.specs.Limits.{IsSmallOverlap, IsSmallScope};
-ghost use Rattle.resolver.specs.Rules.{kind_faults, vertex_faults, element_names, twice_in};
-ghost use Rattle.resolver.specs.Rules.{element_faults, parts_faults, line_attribute_fault};
-ghost use Rattle.resolver.specs.Rules.{line_attribute_faults, type_faults, line_faults};
-ghost use Rattle.resolver.specs.Rules.{attribute_faults};
+ghost use Rattle.ili_grammar.specs.Limits.{IsWithinLimits};
+ghost use Rattle.ili_grammar.specs.Values.{model_of};
+ghost use Rattle.resolver.specs.FaultViews.{fault_of};
+ghost use Rattle.resolver.specs.Scopes.{everywhere};
+ghost use Rattle.resolver.specs.DomainScopes.{domains_in, StepsFrom};
+ghost use Rattle.resolver.specs.Rules.{first_fault};
 
-use super::earliest::Earliest;
-use super::faults::ModelCode;
-use super::lines::{is_long_overlap, stands_for_line, suits};
-use super::names::{tell_elements, tell_names, tell_reference, tell_type_name};
-use super::numbers::{is_text_length, is_wide, tell_numbers};
-use super::scope::Scope;
-use super::shape::Shape;
-use ili_grammar::{AttributeSyntax, Content, Decimal, Element, Ident, LineSyntax, TypeSyntax};
+mod domains;
+mod helpers;
+mod lines;
+mod names;
+mod numbers;
+mod tables;
+mod topics;
+mod types;
+
+use crate::earliest::{Earliest, FaultAt};
+use crate::scope::Scope;
+use crate::scope::domain_scope::DomainScope;
+use domains::check_domains;
+pub use helpers::helper_name;
+use ili_grammar::ModelSyntax;
 use ports::Memory;
 use std::alloc::Global;
+use topics::check_topics;
 
-// Tells what is wrong with vertices of a type.
-#[tactic(auto, using(crate::proofs::Folds::first_append))]
-fn tell_kind<'a>(
-    kind: &'a TypeSyntax,
-    owner: &'a Ident,
-    shape: Shape,
-    vertex: &'a Ident,
-    overlap: Option<Decimal>,
-    earliest: &mut Earliest<'a>,
-)
-    requires kind { IsSmallType (type_of kind.now) }
-    requires overlap { IsSmallOverlap (option_map decimal_of overlap) }
-    ensures { told earliest.new ≡ first_from (told earliest.old)
-        (kind_faults (ident_of owner.now) shape (ident_of vertex.now)
-        (option_map decimal_of overlap) (type_of kind.now)) }
-{
-    earliest.tell(is_long_overlap(overlap, kind), ModelCode::Decimals, owner);
-    earliest.tell(!suits(shape, kind), ModelCode::NotCoord, vertex);
-    let wide = matches!(shape, Shape::Area) && is_wide(kind);
-    earliest.tell(wide, ModelCode::Wide, vertex);
-}
-
-// Tells what is wrong with the vertices of a line.
-#[tactic(auto, using(crate::proofs::Folds::first_append))]
-fn tell_vertex<'a>(
-    scope: &Scope<'_, 'a>,
-    owner: &'a Ident,
-    shape: Shape,
-    vertex: &'a Ident,
-    overlap: Option<Decimal>,
-    earliest: &mut Earliest<'a>,
-)
-    requires scope { IsSmallScope (scope_of scope.now) }
-    requires overlap { IsSmallOverlap (option_map decimal_of overlap) }
-    ensures { told earliest.new ≡ first_from (told earliest.old)
-        (vertex_faults (scope_of scope.now) (ident_of owner.now) shape (ident_of vertex.now)
-        (option_map decimal_of overlap)) }
-{
-    tell_type_name(scope, vertex, earliest);
-    match scope.meaning(vertex.text.bytes()) {
-        Some(meaning) => tell_kind(meaning.kind, owner, shape, vertex, overlap, earliest),
-        None => {}
-    }
-}
-
-// Tells an attribute of a line that is a line.
-#[tactic(auto, using(crate::proofs::Collecting::attribute_out))]
-fn tell_line_attribute<'a>(
-    scope: &Scope<'_, 'a>,
-    attribute: &'a AttributeSyntax,
-    earliest: &mut Earliest<'a>,
-)
-    ensures { told earliest.new ≡ first_from (told earliest.old)
-        (line_attribute_fault (scope_of scope.now) (attribute_of attribute.now)) }
-{
-    let line = stands_for_line(scope, &attribute.content);
-    earliest.tell(line, ModelCode::LineAttr, &attribute.name);
-}
-
-// Tells each attribute of a line that is a line.
-fn tell_line_attributes<'a>(
-    scope: &Scope<'_, 'a>,
-    attributes: &'a [AttributeSyntax],
-    earliest: &mut Earliest<'a>,
-)
-    ensures { told earliest.new ≡ first_from (told earliest.old)
-        (line_attribute_faults (scope_of scope.now) (attributes_of attributes.now)) }
-{
-    for attribute in attributes {
-        tell_line_attribute(scope, attribute, earliest);
-    }
-}
-
-// Tells each element that has the name of an earlier one of its list, in the parts of an element.
-fn tell_parts<'a>(
-    element: &'a Element,
+/// The fault of a model that counts, where the domains of `above` are those outside its topics.
+pub fn first_fault<'a>(
     alloc: Global,
-    earliest: &mut Earliest<'a>,
-) -> Result<(), Memory>
-    ensures { OnOk result (told earliest.new
-        ≡ first_from (told earliest.old) (element_faults (element_of element.now))) }
+    above: &DomainScope<'a>,
+    syntax: &'a ModelSyntax,
+) -> Result<Option<FaultAt<'a>>, Memory>
+    requires within { IsWithinLimits (model_of syntax.now) }
+    requires steps { StepsFrom [] above.now }
+    requires domains { domains_in above.now ≡ everywhere (model_of syntax.now) }
+    ensures { IfOk result (λ first. option_map fault_of first ≡ first_fault (model_of syntax.now)) }
 {
-    tell_elements(alloc, &element.parts, earliest)?;
-    for part in &element.parts {
-        tell_parts(part, alloc, earliest)?;
-    }
-    Ok(())
-}
-
-// Tells what is wrong with an enumeration.
-#[tactic(auto, using(crate::proofs::Folds::first_append))]
-fn tell_enumeration<'a>(
-    elements: &'a [Element],
-    alloc: Global,
-    earliest: &mut Earliest<'a>,
-) -> Result<(), Memory>
-    ensures { OnOk result (told earliest.new
-        ≡ first_from (told earliest.old)
-        (twice_in (element_names (elements_of elements.now))
-        ++ parts_faults (elements_of elements.now))) }
-{
-    tell_elements(alloc, elements, earliest)?;
-    for element in elements {
-        tell_parts(element, alloc, earliest)?;
-    }
-    Ok(())
-}
-
-/// Tells what is wrong with a type that is written at the attribute or domain `owner`.
-#[cycle(rules)]
-pub fn tell_type<'a>(
-    kind: &'a TypeSyntax,
-    owner: &'a Ident,
-    alloc: Global,
-    scope: &Scope<'_, 'a>,
-    earliest: &mut Earliest<'a>,
-) -> Result<(), Memory>
-    requires kind { IsSmallType (type_of kind.now) }
-    requires scope { IsSmallScope (scope_of scope.now) }
-    ensures { OnOk result (told earliest.new
-        ≡ first_from (told earliest.old)
-        (type_faults (scope_of scope.now) (ident_of owner.now) (type_of kind.now))) }
-{
-    match kind {
-        TypeSyntax::Polyline(line) => {
-            tell_line(line, owner, Shape::Polyline, alloc, scope, earliest)
-        }
-        TypeSyntax::Surface(line) => {
-            tell_line(line, owner, Shape::Surface, alloc, scope, earliest)
-        }
-        TypeSyntax::Area(line) => tell_line(line, owner, Shape::Area, alloc, scope, earliest),
-        TypeSyntax::Enumeration(elements) => tell_enumeration(elements, alloc, earliest),
-        TypeSyntax::Named(name) => {
-            tell_type_name(scope, name, earliest);
-            Ok(())
-        }
-        TypeSyntax::Text(length) => {
-            earliest.tell(!is_text_length(*length), ModelCode::Bounds, owner);
-            Ok(())
-        }
-        _ => {
-            tell_numbers(owner, kind, earliest);
-            Ok(())
-        }
-    }
-}
-
-// Tells what is wrong with a line that is written at `owner`.
-#[tactic(auto, using(crate::proofs::Types::short_first))]
-#[cycle(rules)]
-fn tell_line<'a>(
-    line: &'a LineSyntax,
-    owner: &'a Ident,
-    shape: Shape,
-    alloc: Global,
-    scope: &Scope<'_, 'a>,
-    earliest: &mut Earliest<'a>,
-) -> Result<(), Memory>
-    requires line { IsSmallLine (line_of line.now) }
-    requires scope { IsSmallScope (scope_of scope.now) }
-    ensures { OnOk result (told earliest.new
-        ≡ first_from (told earliest.old)
-        (line_faults (scope_of scope.now) (ident_of owner.now) shape (line_of line.now))) }
-{
-    tell_vertex(scope, owner, shape, &line.vertex, line.overlap, earliest);
-    tell_names(alloc, &line.attributes, &line.idents, earliest)?;
-    tell_line_attributes(scope, &line.attributes, earliest);
-    for attribute in &line.attributes {
-        tell_attribute(attribute, alloc, scope, earliest)?;
-    }
-    Ok(())
-}
-
-/// Tells what is wrong with an attribute.
-#[cycle(rules)]
-pub fn tell_attribute<'a>(
-    attribute: &'a AttributeSyntax,
-    alloc: Global,
-    scope: &Scope<'_, 'a>,
-    earliest: &mut Earliest<'a>,
-) -> Result<(), Memory>
-    requires attribute { IsSmallAttribute (attribute_of attribute.now) }
-    requires scope { IsSmallScope (scope_of scope.now) }
-    ensures { OnOk result (told earliest.new
-        ≡ first_from (told earliest.old)
-        (attribute_faults (scope_of scope.now) (attribute_of attribute.now))) }
-{
-    match &attribute.content {
-        Content::Value(kind) => tell_type(kind, &attribute.name, alloc, scope, earliest),
-        Content::Reference(name) => {
-            tell_reference(scope, name, earliest);
-            Ok(())
-        }
-    }
+    let mut earliest = Earliest::new();
+    check_domains(alloc, &Scope::outside(above), &mut earliest)?;
+    check_topics(alloc, above, &syntax.topics, &mut earliest)?;
+    Ok(earliest.fault())
 }

@@ -1,114 +1,172 @@
 // Where a name is looked up, and what it stands for.
-ghost use Rattle.std.specs.Prelude.{[]};
+ghost use Rattle.std.specs.Prelude.{◌≡◌, []};
 ghost use Rattle.resolver.specs.Scopes.{names_of};
-ghost use Rattle.resolver.specs.Levels.{domains_in, StepsFrom};
+ghost use Rattle.resolver.specs.Steps.{steps_of};
+ghost use Rattle.resolver.specs.DomainScopes.{domains_above, steps_above, StepsFrom};
 
-use super::directory::Directory;
-use super::kinds::name_alone;
-use super::level::Level;
+pub mod aliases;
+pub mod declared;
+pub mod domain_scope;
+pub mod name_index;
+
+use aliases::alias_of;
+use domain_scope::DomainScope;
 use ili_grammar::TypeSyntax;
+use name_index::NameIndex;
 
-/// The domains that are declared further out, those that are declared here, and the tables that
-/// a reference may name.
+/// The domains that are declared further out, if any are, those that are declared here, and the
+/// tables that a reference may name, in a topic.
 #[derive(Clone, Copy)]
 pub struct Scope<'s, 'a> {
-    pub above: &'s Level<'a>,
-    pub own: &'s Level<'a>,
-    pub tables: &'s Directory<'a>,
-    ghost outer: { StepsFrom [] above.now },
-    ghost inner: { StepsFrom (names_of (domains_in above.now)) own.now },
+    pub above: Option<&'s DomainScope<'a>>,
+    pub own: &'s DomainScope<'a>,
+    pub tables: Option<&'s NameIndex<'a>>,
+    ghost outer: { steps_above above ≡ steps_of [] (domains_above above) },
+    ghost inner: { StepsFrom (names_of (domains_above above)) own.now },
 }
 
-/// What a name stands for: a type that is no name alone, and whether it is written here or
-/// further out.
+/// What a name stands for: a type that is no name alone, and the scope of the names in it.
 #[derive(Clone, Copy)]
-pub struct Meaning<'a> {
-    pub here: bool,
+pub struct Meaning<'s, 'a> {
+    pub scope: Scope<'s, 'a>,
     pub kind: &'a TypeSyntax,
 }
 
 impl<'s, 'a> Scope<'s, 'a> {
-    ghost use Rattle.std.specs.Prelude.{◌≡◌, None, All, IfSome};
+    ghost use Rattle.std.specs.Prelude.{◌≡◌, [], None, All, IfSome};
     ghost use Rattle.ili_grammar.specs.Limits.{IsSmallDomain, IsSmallType};
     ghost use Rattle.resolver.specs.Limits.{IsSmallScope};
     ghost use Rattle.std.specs.Option.{option_map};
     ghost use Rattle.ili_grammar.specs.Values.{type_of};
-    ghost use Rattle.resolver.specs.Scopes.{is_visible, outside, written, meaning_outside, meaning};
-    ghost use Rattle.resolver.specs.Scopes.{meant};
+    ghost use Rattle.resolver.specs.DomainScopes.{domains_in, StepsFrom};
+    ghost use Rattle.resolver.specs.NameIndexes.{names_if};
+    ghost use Rattle.resolver.specs.Scopes.{domain_names, is_among, is_visible, names_of};
+    ghost use Rattle.resolver.specs.Scopes.{outside, written, meaning_outside, meaning, meant};
     ghost use Rattle.resolver.specs.ScopeViews.{scope_of, meaning_of};
+
+    /// The scope outside the topics.
+    pub fn outside(own: &'s DomainScope<'a>) -> Scope<'s, 'a>
+        requires { StepsFrom [] own.now }
+        ensures { scope_of result ≡ outside (domains_in own.now) }
+    {
+        Scope {
+            above: None,
+            own,
+            tables: None,
+        }
+    }
+
+    /// The names of the domains further out.
+    pub fn names_above(&self) -> Option<&'s NameIndex<'a>>
+        ensures { names_if result ≡ domain_names (scope_of self.now).above }
+    {
+        match self.above {
+            Some(above) => Some(above.names()),
+            None => None,
+        }
+    }
+
+    // Whether a domain of that name is declared further out.
+    fn is_above(&self, name: &[u8]) -> bool
+        ensures { result ≡ is_among name.now (names_of (scope_of self.now).above) }
+    {
+        match self.above {
+            Some(above) => above.names().has(name),
+            None => false,
+        }
+    }
 
     /// Whether a domain of that name is visible.
     pub fn is_visible(&self, name: &[u8]) -> bool
         ensures { result ≡ is_visible (scope_of self.now) name.now }
     {
-        self.above.names().has(name) || self.own.names().has(name)
+        self.is_above(name) || self.own.names().has(name)
     }
 
-    // What a name stands for further out.
-    fn further(&self, name: &[u8]) -> Option<Meaning<'a>>
-        ensures found { option_map (meaning_of (scope_of self.now)) result
-            ≡ meaning_outside (domains_in self.now.above.now) name.now }
-        ensures short { All IsSmallDomain (domains_in self.now.above.now)
+    // What a type outside the topics stands for, where it is no name alone.
+    fn resolve_type_outside(
+        domains: &'s DomainScope<'a>,
+        kind: &'a TypeSyntax,
+    ) -> Option<Meaning<'s, 'a>>
+        requires { StepsFrom [] domains.now }
+        ensures found { option_map meaning_of result
+            ≡ written (λ _. None) (outside (domains_in domains.now)) (type_of kind.now) }
+        ensures short { IsSmallType (type_of kind.now)
             → IfSome result (λ m. IsSmallType (type_of m.kind.now)) }
     {
-        match self.above.last(name) {
-            Some(kind) => self.unnamed(kind),
+        match alias_of(kind) {
+            Some(_) => None,
+            None => Some(Meaning {
+                scope: Scope::outside(domains),
+                kind,
+            }),
+        }
+    }
+
+    // What a name stands for outside the topics.
+    fn resolve_outside(domains: &'s DomainScope<'a>, name: &[u8]) -> Option<Meaning<'s, 'a>>
+        requires { StepsFrom [] domains.now }
+        ensures found { option_map meaning_of result
+            ≡ meaning_outside (domains_in domains.now) name.now }
+        ensures short { All IsSmallDomain (domains_in domains.now)
+            → IfSome result (λ m. IsSmallType (type_of m.kind.now)) }
+    {
+        match domains.target(name) {
+            Some(kind) => Scope::resolve_type_outside(domains, kind),
             None => None,
         }
     }
 
-    // What a type further out stands for, where it is no name alone.
-    fn unnamed(&self, kind: &'a TypeSyntax) -> Option<Meaning<'a>>
-        ensures found { option_map (meaning_of (scope_of self.now)) result
-            ≡ written (λ _. None) (outside (domains_in self.now.above.now)) (type_of kind.now) }
-        ensures short { IsSmallType (type_of kind.now)
+    // What a name that is declared further out stands for.
+    fn resolve_above(&self, name: &[u8]) -> Option<Meaning<'s, 'a>>
+        ensures found { option_map meaning_of result
+            ≡ meaning_outside (scope_of self.now).above name.now }
+        ensures short { All IsSmallDomain (scope_of self.now).above
             → IfSome result (λ m. IsSmallType (type_of m.kind.now)) }
     {
-        match name_alone(kind) {
-            Some(_) => None,
-            None => Some(Meaning { here: false, kind }),
-        }
-    }
-
-    /// What a name stands for.
-    pub fn meaning(&self, name: &[u8]) -> Option<Meaning<'a>>
-        ensures found { option_map (meaning_of (scope_of self.now)) result
-            ≡ meaning (scope_of self.now) name.now }
-        ensures short { IsSmallScope (scope_of self.now)
-            → IfSome result (λ m. IsSmallType (type_of m.kind.now)) }
-    {
-        if self.above.names().has(name) {
-            return self.further(name);
-        }
-        match self.own.last(name) {
-            Some(kind) => self.continued(kind),
+        match self.above {
+            Some(above) => Scope::resolve_outside(above, name),
             None => None,
         }
     }
 
     // What a type here stands for, where its name, if it is one alone, is declared further out.
-    fn continued(&self, kind: &'a TypeSyntax) -> Option<Meaning<'a>>
-        ensures found { option_map (meaning_of (scope_of self.now)) result
-            ≡ written (meaning_outside (domains_in self.now.above.now)) (scope_of self.now)
+    fn resolve_end(&self, kind: &'a TypeSyntax) -> Option<Meaning<'s, 'a>>
+        ensures found { option_map meaning_of result
+            ≡ written (meaning_outside (scope_of self.now).above) (scope_of self.now)
             (type_of kind.now) }
-        ensures short { All IsSmallDomain (domains_in self.now.above.now)
+        ensures short { All IsSmallDomain (scope_of self.now).above
             → IsSmallType (type_of kind.now)
             → IfSome result (λ m. IsSmallType (type_of m.kind.now)) }
     {
-        match name_alone(kind) {
-            Some(name) => self.further(name.text.bytes()),
-            None => Some(Meaning { here: true, kind }),
+        match alias_of(kind) {
+            Some(name) => self.resolve_above(name.text.bytes()),
+            None => Some(Meaning { scope: *self, kind }),
+        }
+    }
+
+    /// What a name stands for.
+    pub fn resolve_name(&self, name: &[u8]) -> Option<Meaning<'s, 'a>>
+        ensures found { option_map meaning_of result ≡ meaning (scope_of self.now) name.now }
+        ensures short { IsSmallScope (scope_of self.now)
+            → IfSome result (λ m. IsSmallType (type_of m.kind.now)) }
+    {
+        if self.is_above(name) {
+            return self.resolve_above(name);
+        }
+        match self.own.target(name) {
+            Some(kind) => self.resolve_end(kind),
+            None => None,
         }
     }
 
     /// What a type stands for.
-    pub fn meant(&self, kind: &'a TypeSyntax) -> Option<Meaning<'a>>
-        ensures { option_map (meaning_of (scope_of self.now)) result
-            ≡ meant (scope_of self.now) (type_of kind.now) }
+    pub fn resolve_type(&self, kind: &'a TypeSyntax) -> Option<Meaning<'s, 'a>>
+        ensures { option_map meaning_of result ≡ meant (scope_of self.now) (type_of kind.now) }
     {
-        match name_alone(kind) {
-            Some(name) => self.meaning(name.text.bytes()),
-            None => Some(Meaning { here: true, kind }),
+        match alias_of(kind) {
+            Some(name) => self.resolve_name(name.text.bytes()),
+            None => Some(Meaning { scope: *self, kind }),
         }
     }
 }

@@ -1,0 +1,100 @@
+// What values and references stand for, and the numbers of names.
+ghost use Rattle.std.specs.Prelude.{◌≡◌, ◌≤◌, length, map, IfOk, IfSome};
+ghost use Rattle.std.specs.Option.{option_map, unwrap_or};
+ghost use Rattle.ili_grammar.specs.Values.{content_of, lists_of, names_of, type_of};
+ghost use Rattle.resolver.specs.NameIndexes.{names_in};
+ghost use Rattle.resolver.specs.Limits.{IsModest, IsModestContent, IsModestScope};
+ghost use Rattle.resolver.specs.Scopes.{meant, place, texts};
+ghost use Rattle.resolver.specs.ScopeViews.{meaning_of, scope_of};
+ghost use Rattle.resolver.specs.Models.{numbers, value};
+ghost use Rattle.resolver.specs.Values.{form_of, places_of};
+
+use super::forms::form;
+use crate::models::{Form, Places};
+use crate::scope::name_index::NameIndex;
+use crate::scope::{Meaning, Scope};
+use ili_grammar::{Content, IdentList, TypeSyntax};
+use ports::Memory;
+use std::alloc::Global;
+
+/// What a type stands for in a scope.
+pub fn resolve_type<'s, 'a>(scope: &Scope<'s, 'a>, kind: &'a TypeSyntax) -> Option<Meaning<'s, 'a>>
+    requires scope { IsModestScope (scope_of scope.now) }
+    requires kind { IsModest (type_of kind.now) }
+    ensures found { option_map meaning_of result ≡ meant (scope_of scope.now) (type_of kind.now) }
+    ensures scope { IfSome result (λ m. IsModestScope (scope_of m.scope)) }
+    ensures modest { IfSome result (λ m. IsModest (type_of m.kind.now)) }
+{
+    scope.resolve_type(kind)
+}
+
+/// The number of a name among few, from 0; 0 where it is none of them.
+pub fn number(names: &NameIndex<'_>, name: &[u8]) -> u32
+    requires { length (names_in names.now) ≤ 4194304 }
+    ensures { result ≡ unwrap_or (place name.now (texts (names_in names.now))) 0 }
+{
+    match names.place(name) {
+        Some(place) => place as u32,
+        None => 0,
+    }
+}
+
+/// The number of the table of that name, from 0; 0 where there is none.
+pub fn table_number(scope: &Scope<'_, '_>, name: &[u8]) -> u32
+    requires { IsModestScope (scope_of scope.now) }
+    ensures { result ≡ unwrap_or (place name.now (scope_of scope.now).tables) 0 }
+{
+    match scope.tables {
+        Some(tables) => number(tables, name),
+        None => 0,
+    }
+}
+
+/// What a value or a reference stands for.
+pub fn value<'a>(scope: &Scope<'_, 'a>, content: &'a Content) -> Form
+    requires scope { IsModestScope (scope_of scope.now) }
+    requires content { IsModestContent (content_of content.now) }
+    ensures { form_of result ≡ value (scope_of scope.now) (content_of content.now) }
+{
+    match content {
+        Content::Value(kind) => match resolve_type(scope, kind) {
+            Some(meaning) => form(meaning.kind),
+            None => Form::Date,
+        },
+        Content::Reference(name) => Form::Reference(table_number(scope, name.text.bytes())),
+    }
+}
+
+// The numbers of the attributes in an IDENT list.
+fn list_places(
+    alloc: Global,
+    attributes: &NameIndex<'_>,
+    list: &IdentList,
+) -> Result<Places, Memory>
+    requires { length (names_in attributes.now) ≤ 4194304 }
+    ensures { IfOk result (λ p. p.places.items
+        ≡ numbers (texts (names_in attributes.now)) (names_of list.now)) }
+{
+    let mut places = Vec::new(alloc);
+    for name in &list.names {
+        places.push(number(attributes, name.text.bytes()))?;
+    }
+    Ok(Places { places })
+}
+
+/// The numbers of the attributes in IDENT lists.
+pub fn places(
+    alloc: Global,
+    attributes: &NameIndex<'_>,
+    lists: &[IdentList],
+) -> Result<Vec<Places>, Memory>
+    requires { length (names_in attributes.now) ≤ 4194304 }
+    ensures { IfOk result (λ ps. places_of ps.items
+        ≡ map (numbers (texts (names_in attributes.now))) (lists_of lists.now)) }
+{
+    let mut places = Vec::new(alloc);
+    for list in lists {
+        places.push(list_places(alloc, attributes, list)?)?;
+    }
+    Ok(places)
+}

@@ -1,0 +1,72 @@
+// The rules on the domains of a scope.
+ghost use Rattle.std.specs.Prelude.{◌≡◌, All, flat_map, OnOk};
+ghost use Rattle.ili_grammar.specs.Values.{domain_of};
+ghost use Rattle.resolver.specs.Faults.{first_from};
+ghost use Rattle.resolver.specs.FaultViews.{fault_in};
+ghost use Rattle.resolver.specs.ScopeViews.{scope_of};
+ghost use Rattle.resolver.specs.Steps.{domains_at};
+ghost use Rattle.ili_grammar.specs.Limits.{IsSmallDomain};
+ghost use Rattle.resolver.specs.Limits.{AreFew, IsSmallScope};
+ghost use Rattle.resolver.specs.Rules.{domain_faults, domains_faults};
+
+use super::types::check_type;
+use crate::earliest::Earliest;
+use crate::scope::Scope;
+use ili_grammar::DomainSyntax;
+use ports::Memory;
+use std::alloc::Global;
+
+// Checks the type of a domain.
+fn check_domain<'a>(
+    alloc: Global,
+    scope: &Scope<'_, 'a>,
+    domain: &'a DomainSyntax,
+    earliest: &mut Earliest<'a>,
+) -> Result<(), Memory>
+    requires scope { IsSmallScope (scope_of scope.now) }
+    requires domain { IsSmallDomain (domain_of domain.now) }
+    ensures { OnOk result (fault_in earliest.new
+        ≡ first_from (fault_in earliest.old)
+        (domain_faults (scope_of scope.now) (domain_of domain.now))) }
+{
+    check_type(&domain.kind, &domain.name, alloc, scope, earliest)
+}
+
+// Checks the types of some domains.
+fn check_types<'a>(
+    alloc: Global,
+    scope: &Scope<'_, 'a>,
+    domains: &[&'a DomainSyntax],
+    earliest: &mut Earliest<'a>,
+) -> Result<(), Memory>
+    requires scope { IsSmallScope (scope_of scope.now) }
+    requires domains { All IsSmallDomain (domains_at domains.now) }
+    ensures { OnOk result (fault_in earliest.new
+        ≡ first_from (fault_in earliest.old)
+        (flat_map (domain_faults (scope_of scope.now)) (domains_at domains.now))) }
+{
+    for domain in domains {
+        check_domain(alloc, scope, domain, earliest)?;
+    }
+    Ok(())
+}
+
+/// Checks the domains that are declared in a scope.
+pub fn check_domains<'a>(
+    alloc: Global,
+    scope: &Scope<'_, 'a>,
+    earliest: &mut Earliest<'a>,
+) -> Result<(), Memory>
+    requires scope { IsSmallScope (scope_of scope.now) }
+    requires few { AreFew (scope_of scope.now).own }
+    ensures { OnOk result (fault_in earliest.new
+        ≡ first_from (fault_in earliest.old) (domains_faults (scope_of scope.now))) }
+{
+    scope
+        .own
+        .names()
+        .check_unique(scope.names_above(), earliest);
+    scope.own.check_cycles(alloc, earliest)?;
+    check_types(alloc, scope, scope.own.domains(), earliest)?;
+    Ok(())
+}

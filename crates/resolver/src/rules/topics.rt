@@ -1,0 +1,122 @@
+// The rules on the topics of a model.
+ghost use Rattle.std.specs.Prelude.{◌≡◌, ◌++◌, [], All, map, flat_map, IfOk, OnOk};
+ghost use Rattle.ili_grammar.specs.Values.{tables_of, topic_of, topics_of};
+ghost use Rattle.resolver.specs.Faults.{first_from};
+ghost use Rattle.resolver.specs.FaultViews.{fault_in};
+ghost use Rattle.resolver.specs.ScopeViews.{scope_of};
+ghost use Rattle.resolver.specs.Indexed.{idents};
+ghost use Rattle.resolver.specs.DomainScopes.{domains_in, StepsFrom};
+ghost use Rattle.ili_grammar.specs.Limits.{IsSmallDomain, IsSmallTable, IsSmallTopic};
+ghost use Rattle.resolver.specs.Limits.{AreFew, IsSmallScope, HasFewDomains};
+ghost use Rattle.resolver.specs.Rules.{domains_faults, tables_faults, topic_faults, twice_in};
+
+use super::domains::check_domains;
+use super::names::check_unique;
+use super::tables::check_tables;
+use crate::earliest::Earliest;
+use crate::scope::Scope;
+use crate::scope::declared::{table_index, topic_domains};
+use crate::scope::domain_scope::DomainScope;
+use ili_grammar::{Ident, TableSyntax, TopicSyntax};
+use ports::Memory;
+use std::alloc::Global;
+
+// Checks the domains of a scope, and then its tables.
+#[tactic(auto, using(crate::proofs::Folds::first_append))]
+fn check_parts<'a>(
+    alloc: Global,
+    scope: &Scope<'_, 'a>,
+    tables: &'a [TableSyntax],
+    earliest: &mut Earliest<'a>,
+) -> Result<(), Memory>
+    requires scope { IsSmallScope (scope_of scope.now) }
+    requires few { AreFew (scope_of scope.now).own }
+    requires tables { All IsSmallTable (tables_of tables.now) }
+    ensures { OnOk result (fault_in earliest.new
+        ≡ first_from (fault_in earliest.old)
+        (domains_faults (scope_of scope.now)
+        ++ tables_faults (scope_of scope.now) (tables_of tables.now))) }
+{
+    check_domains(alloc, scope, earliest)?;
+    check_tables(alloc, scope, tables, earliest)
+}
+
+// Checks a topic, where the domains of `above` are declared outside.
+fn check_topic<'a>(
+    alloc: Global,
+    above: &DomainScope<'a>,
+    topic: &'a TopicSyntax,
+    earliest: &mut Earliest<'a>,
+) -> Result<(), Memory>
+    requires steps { StepsFrom [] above.now }
+    requires above { All IsSmallDomain (domains_in above.now) }
+    requires topic { IsSmallTopic (topic_of topic.now) }
+    requires few { HasFewDomains (topic_of topic.now) }
+    ensures { OnOk result (fault_in earliest.new
+        ≡ first_from (fault_in earliest.old)
+        (topic_faults (domains_in above.now) (topic_of topic.now))) }
+{
+    let own = topic_domains(alloc, above, &topic.domains)?;
+    let tables = table_index(alloc, &topic.tables)?;
+    let scope = Scope {
+        above: Some(above),
+        own: &own,
+        tables: Some(&tables),
+    };
+    check_parts(alloc, &scope, &topic.tables, earliest)
+}
+
+// The names of some topics.
+fn topic_names<'a>(alloc: Global, topics: &'a [TopicSyntax]) -> Result<Vec<&'a Ident>, Memory>
+    ensures { IfOk result (λ names. idents names.items ≡ map (λ t. t.name) (topics_of topics.now)) }
+{
+    let mut names = Vec::new(alloc);
+    for topic in topics {
+        names.push(&topic.name)?;
+    }
+    Ok(names)
+}
+
+// Checks each of some topics.
+fn check_each<'a>(
+    alloc: Global,
+    above: &DomainScope<'a>,
+    topics: &'a [TopicSyntax],
+    earliest: &mut Earliest<'a>,
+) -> Result<(), Memory>
+    requires steps { StepsFrom [] above.now }
+    requires above { All IsSmallDomain (domains_in above.now) }
+    requires topics { All IsSmallTopic (topics_of topics.now) }
+    requires few { All HasFewDomains (topics_of topics.now) }
+    ensures { OnOk result (fault_in earliest.new
+        ≡ first_from (fault_in earliest.old)
+        (flat_map (topic_faults (domains_in above.now)) (topics_of topics.now))) }
+{
+    for topic in topics {
+        check_topic(alloc, above, topic, earliest)?;
+    }
+    Ok(())
+}
+
+/// Checks the topics of a model, where the domains of `above` are declared
+/// outside.
+#[tactic(auto, using(crate::proofs::Folds::first_append))]
+pub fn check_topics<'a>(
+    alloc: Global,
+    above: &DomainScope<'a>,
+    topics: &'a [TopicSyntax],
+    earliest: &mut Earliest<'a>,
+) -> Result<(), Memory>
+    requires steps { StepsFrom [] above.now }
+    requires above { All IsSmallDomain (domains_in above.now) }
+    requires topics { All IsSmallTopic (topics_of topics.now) }
+    requires few { All HasFewDomains (topics_of topics.now) }
+    ensures { OnOk result (fault_in earliest.new
+        ≡ first_from (fault_in earliest.old)
+        (twice_in (map (λ t. t.name) (topics_of topics.now))
+        ++ flat_map (topic_faults (domains_in above.now)) (topics_of topics.now))) }
+{
+    let names = topic_names(alloc, topics)?;
+    check_unique(alloc, names, earliest)?;
+    check_each(alloc, above, topics, earliest)
+}

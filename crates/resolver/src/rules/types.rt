@@ -1,0 +1,223 @@
+// The rules on types: of a domain, of an attribute, and of the attributes of a line.
+ghost use Rattle.std.specs.Prelude.{◌≡◌, ◌++◌, OnOk};
+ghost use Rattle.std.specs.Option.{option_map};
+ghost use Rattle.ili_grammar.specs.Values.{ident_of, decimal_of, element_of, elements_of, type_of};
+ghost use Rattle.ili_grammar.specs.Values.{line_of, attribute_of, attributes_of};
+ghost use Rattle.resolver.specs.Faults.{first_from};
+ghost use Rattle.resolver.specs.FaultViews.{fault_in};
+ghost use Rattle.resolver.specs.ScopeViews.{scope_of};
+ghost use Rattle.ili_grammar.specs.Limits.{IsSmallType, IsSmallLine, IsSmallAttribute};
+ghost use Rattle.ili_grammar.specs.Limits.{AreSmallAttributes};
+ghost use Rattle.resolver.specs.Limits.{IsSmallOverlap, IsSmallScope};
+ghost use Rattle.resolver.specs.Rules.{kind_faults, vertex_faults, element_names, twice_in};
+ghost use Rattle.resolver.specs.Rules.{element_faults, parts_faults, line_attribute_fault};
+ghost use Rattle.resolver.specs.Rules.{line_attribute_faults, type_faults, line_faults};
+ghost use Rattle.resolver.specs.Rules.{attribute_faults};
+
+use super::lines::{is_long_overlap, stands_for_line, suits};
+use super::names::{check_elements, check_names, check_reference, check_type_name};
+use super::numbers::check_numbers;
+use crate::earliest::Earliest;
+use crate::faults::ModelCode;
+use crate::numbers::{is_text_length, is_wide};
+use crate::scope::Scope;
+use crate::shape::Shape;
+use ili_grammar::{AttributeSyntax, Content, Decimal, Element, Ident, LineSyntax, TypeSyntax};
+use ports::Memory;
+use std::alloc::Global;
+
+// Checks vertices of a type.
+#[tactic(auto, using(crate::proofs::Folds::first_append))]
+fn check_vertex_type<'a>(
+    kind: &'a TypeSyntax,
+    owner: &'a Ident,
+    shape: Shape,
+    vertex: &'a Ident,
+    overlap: Option<Decimal>,
+    earliest: &mut Earliest<'a>,
+)
+    requires kind { IsSmallType (type_of kind.now) }
+    requires overlap { IsSmallOverlap (option_map decimal_of overlap) }
+    ensures { fault_in earliest.new ≡ first_from (fault_in earliest.old)
+        (kind_faults (ident_of owner.now) shape (ident_of vertex.now)
+        (option_map decimal_of overlap) (type_of kind.now)) }
+{
+    earliest.report(is_long_overlap(overlap, kind), ModelCode::Decimals, owner);
+    earliest.report(!suits(shape, kind), ModelCode::NotCoord, vertex);
+    let wide = matches!(shape, Shape::Area) && is_wide(kind);
+    earliest.report(wide, ModelCode::Wide, vertex);
+}
+
+// Checks the vertices of a line.
+#[tactic(auto, using(crate::proofs::Folds::first_append))]
+fn check_vertex<'a>(
+    scope: &Scope<'_, 'a>,
+    owner: &'a Ident,
+    shape: Shape,
+    vertex: &'a Ident,
+    overlap: Option<Decimal>,
+    earliest: &mut Earliest<'a>,
+)
+    requires scope { IsSmallScope (scope_of scope.now) }
+    requires overlap { IsSmallOverlap (option_map decimal_of overlap) }
+    ensures { fault_in earliest.new ≡ first_from (fault_in earliest.old)
+        (vertex_faults (scope_of scope.now) (ident_of owner.now) shape (ident_of vertex.now)
+        (option_map decimal_of overlap)) }
+{
+    check_type_name(scope, vertex, earliest);
+    match scope.resolve_name(vertex.text.bytes()) {
+        Some(meaning) => check_vertex_type(meaning.kind, owner, shape, vertex, overlap, earliest),
+        None => {}
+    }
+}
+
+// Reports an attribute of a line that is a line.
+#[tactic(auto, using(crate::proofs::Collecting::attribute_out))]
+fn check_line_attribute<'a>(
+    scope: &Scope<'_, 'a>,
+    attribute: &'a AttributeSyntax,
+    earliest: &mut Earliest<'a>,
+)
+    ensures { fault_in earliest.new ≡ first_from (fault_in earliest.old)
+        (line_attribute_fault (scope_of scope.now) (attribute_of attribute.now)) }
+{
+    let line = stands_for_line(scope, &attribute.content);
+    earliest.report(line, ModelCode::LineAttr, &attribute.name);
+}
+
+// Reports each attribute of a line that is a line.
+fn check_line_attributes<'a>(
+    scope: &Scope<'_, 'a>,
+    attributes: &'a [AttributeSyntax],
+    earliest: &mut Earliest<'a>,
+)
+    ensures { fault_in earliest.new ≡ first_from (fault_in earliest.old)
+        (line_attribute_faults (scope_of scope.now) (attributes_of attributes.now)) }
+{
+    for attribute in attributes {
+        check_line_attribute(scope, attribute, earliest);
+    }
+}
+
+// Reports each element that has the name of an earlier one of its list, in the parts of an element.
+fn check_parts<'a>(
+    element: &'a Element,
+    alloc: Global,
+    earliest: &mut Earliest<'a>,
+) -> Result<(), Memory>
+    ensures { OnOk result (fault_in earliest.new
+        ≡ first_from (fault_in earliest.old) (element_faults (element_of element.now))) }
+{
+    check_elements(alloc, &element.parts, earliest)?;
+    for part in &element.parts {
+        check_parts(part, alloc, earliest)?;
+    }
+    Ok(())
+}
+
+// Checks an enumeration.
+#[tactic(auto, using(crate::proofs::Folds::first_append))]
+fn check_enumeration<'a>(
+    elements: &'a [Element],
+    alloc: Global,
+    earliest: &mut Earliest<'a>,
+) -> Result<(), Memory>
+    ensures { OnOk result (fault_in earliest.new
+        ≡ first_from (fault_in earliest.old)
+        (twice_in (element_names (elements_of elements.now))
+        ++ parts_faults (elements_of elements.now))) }
+{
+    check_elements(alloc, elements, earliest)?;
+    for element in elements {
+        check_parts(element, alloc, earliest)?;
+    }
+    Ok(())
+}
+
+/// Checks a type that is written at the attribute or domain `owner`.
+#[cycle(rules)]
+pub fn check_type<'a>(
+    kind: &'a TypeSyntax,
+    owner: &'a Ident,
+    alloc: Global,
+    scope: &Scope<'_, 'a>,
+    earliest: &mut Earliest<'a>,
+) -> Result<(), Memory>
+    requires kind { IsSmallType (type_of kind.now) }
+    requires scope { IsSmallScope (scope_of scope.now) }
+    ensures { OnOk result (fault_in earliest.new
+        ≡ first_from (fault_in earliest.old)
+        (type_faults (scope_of scope.now) (ident_of owner.now) (type_of kind.now))) }
+{
+    match kind {
+        TypeSyntax::Polyline(line) => {
+            check_line(line, owner, Shape::Polyline, alloc, scope, earliest)
+        }
+        TypeSyntax::Surface(line) => {
+            check_line(line, owner, Shape::Surface, alloc, scope, earliest)
+        }
+        TypeSyntax::Area(line) => check_line(line, owner, Shape::Area, alloc, scope, earliest),
+        TypeSyntax::Enumeration(elements) => check_enumeration(elements, alloc, earliest),
+        TypeSyntax::Named(name) => {
+            check_type_name(scope, name, earliest);
+            Ok(())
+        }
+        TypeSyntax::Text(length) => {
+            earliest.report(!is_text_length(*length), ModelCode::Bounds, owner);
+            Ok(())
+        }
+        _ => {
+            check_numbers(owner, kind, earliest);
+            Ok(())
+        }
+    }
+}
+
+// Checks a line that is written at `owner`.
+#[tactic(auto, using(crate::proofs::Types::short_first))]
+#[cycle(rules)]
+fn check_line<'a>(
+    line: &'a LineSyntax,
+    owner: &'a Ident,
+    shape: Shape,
+    alloc: Global,
+    scope: &Scope<'_, 'a>,
+    earliest: &mut Earliest<'a>,
+) -> Result<(), Memory>
+    requires line { IsSmallLine (line_of line.now) }
+    requires scope { IsSmallScope (scope_of scope.now) }
+    ensures { OnOk result (fault_in earliest.new
+        ≡ first_from (fault_in earliest.old)
+        (line_faults (scope_of scope.now) (ident_of owner.now) shape (line_of line.now))) }
+{
+    check_vertex(scope, owner, shape, &line.vertex, line.overlap, earliest);
+    check_names(alloc, &line.attributes, &line.idents, earliest)?;
+    check_line_attributes(scope, &line.attributes, earliest);
+    for attribute in &line.attributes {
+        check_attribute(attribute, alloc, scope, earliest)?;
+    }
+    Ok(())
+}
+
+/// Checks an attribute.
+#[cycle(rules)]
+pub fn check_attribute<'a>(
+    attribute: &'a AttributeSyntax,
+    alloc: Global,
+    scope: &Scope<'_, 'a>,
+    earliest: &mut Earliest<'a>,
+) -> Result<(), Memory>
+    requires attribute { IsSmallAttribute (attribute_of attribute.now) }
+    requires scope { IsSmallScope (scope_of scope.now) }
+    ensures { OnOk result (fault_in earliest.new
+        ≡ first_from (fault_in earliest.old)
+        (attribute_faults (scope_of scope.now) (attribute_of attribute.now))) }
+{
+    match &attribute.content {
+        Content::Value(kind) => check_type(kind, &attribute.name, alloc, scope, earliest),
+        Content::Reference(name) => {
+            check_reference(scope, name, earliest);
+            Ok(())
+        }
+    }
+}
