@@ -28,7 +28,7 @@ const PERIOD: Kind = Kind::Mark(Mark::Period);
 
 const TWO_PERIODS: Kind = Kind::Mark(Mark::TwoPeriods);
 
-const KINDS: [(&[u8], &[Kind]); 20] = [
+const KINDS: [(&[u8], &[Kind]); 23] = [
     (b"", &[]),
     (b"+0x1", &[NUMBER, NAME]),
     (b"10x1", &[NUMBER, NAME]),
@@ -58,6 +58,9 @@ const KINDS: [(&[u8], &[Kind]); 20] = [
         ],
     ),
     (b"////", &[Kind::Explanation]),
+    (b"//a/b//0x1", &[Kind::Explanation, Kind::Hex]),
+    (b"-0.5.", &[NUMBER, PERIOD]),
+    (b">-1", &[Kind::Mark(Mark::Greater), NUMBER]),
     (b"//a\n!!\xff//b", &[Kind::Explanation, NAME]),
     (b"!!x\rN", &[]),
     (b"!!\xff\x0c//\nN!!", &[NAME]),
@@ -130,7 +133,7 @@ fn tokens_know_their_places(rt: HostRuntime) {
     are_at_places(&rt, &tokens);
 }
 
-const FAULTS: [(&[u8], LexFault); 20] = [
+const FAULTS: [(&[u8], LexFault); 22] = [
     (
         b"TRANSFER One;\n#MODEL M\n",
         LexFault::BadByte { line: 2, column: 1 },
@@ -153,6 +156,8 @@ const FAULTS: [(&[u8], LexFault); 20] = [
     (b"- 5", LexFault::BadByte { line: 1, column: 1 }),
     (b"+a", LexFault::BadByte { line: 1, column: 1 }),
     (b"a /", LexFault::BadByte { line: 1, column: 3 }),
+    (b"/////", LexFault::BadByte { line: 1, column: 5 }),
+    (b"+.5", LexFault::BadByte { line: 1, column: 1 }),
     (b"!", LexFault::BadByte { line: 1, column: 1 }),
     (b"\n ///", LexFault::OpenExplanation { line: 2, column: 2 }),
     (

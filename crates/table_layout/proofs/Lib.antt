@@ -7,3 +7,5 @@ pub mod Located
 pub mod HelpersValid
 pub mod Validity
 pub mod Rows
+pub mod Named
+pub mod OwnNames

@@ -3,10 +3,11 @@ use Rattle.std.proofs.Common.{◌≡◌, ◌≤◌, ℕ, Bool, List, [], ◌∷�
 use Rattle.std.specs.List.{flat_map}
 use Rattle.resolver.specs.Resolved.{LineForm, Attribute, an_attribute, Value, Polyline, Area, Surface, LinePart, a_part}
 use Rattle.resolver.specs.Values.{attributes_in}
+use Rattle.resolver.specs.Rules.{helper_name}
 use Rattle.resolver.specs.Sound.{listed}
 use Rattle.table_layout.specs.Layouts.{AreaLines, SurfaceLines, Table}
 use Rattle.table_layout.specs.Attributes.{columns_of, idents_of}
-use Rattle.table_layout.specs.Tables.{Owner, helper_name, boundary, owner_column, area_count, surface_count, area_table, surface_table}
+use Rattle.table_layout.specs.Tables.{Owner, boundary, owner_column, area_count, surface_count, area_table, surface_table}
 use Rattle.table_layout.specs.Few.{HasFew}
 use Rattle.table_layout.proofs.Listed.{listed_in}
 

@@ -5,3 +5,4 @@ pub mod Attributes
 pub mod Tables
 pub mod Valid
 pub mod Few
+pub mod Names

@@ -3,6 +3,7 @@ use Rattle.std.specs.Prelude.{ℕ, ◌+◌, List, [], ◌∷◌, ◌++◌, lengt
 use Rattle.std.specs.Option.{option_map}
 use Rattle.std.specs.List.{flat_map}
 use Rattle.resolver.specs.Resolved.{Reference, LineForm, Attribute, an_attribute, Value, Polyline, Surface, Area, a_part, ModelTable, Topic, ResolvedModel}
+use Rattle.resolver.specs.Rules.{helper_name}
 use Rattle.resolver.specs.Sound.{listed}
 use Rattle.table_layout.specs.Layouts.{Role, Main, AreaLines, SurfaceLines, Column, Table, AreaOf, Layout}
 use Rattle.table_layout.specs.Attributes.{columns_of, lines_of, idents_of}
@@ -29,10 +30,6 @@ surface_count (an_attribute n o (Polyline l)) = 0
 surface_count (an_attribute n o (Area l p)) = 0
 
 -- ---- helper tables
--- the table's name, `_` and the attribute's name
-abbrev pub helper_name : List ℕ → List ℕ → List ℕ
-helper_name table attribute = table ++ 95 ∷ attribute
-
 -- the one line of a helper table, which may not be missing
 abbrev pub boundary : LineForm → List LineForm
 boundary l = record l { optional = false } ∷ []

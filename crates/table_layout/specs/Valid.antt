@@ -1,13 +1,24 @@
 -- What every layout keeps, so that no later layer has to test it.
-use Rattle.std.specs.Prelude.{ℕ, ◌+◌, ◌<◌, ◌≤◌, ◌≡◌, List, [], ◌∷◌, length, Some, slice_get}
+use Rattle.std.specs.Prelude.{ℕ, ◌+◌, ◌<◌, ◌≤◌, ◌≡◌, false, List, [], ◌∷◌, length, Some, slice_get}
 use Rattle.std.specs.List.{All}
-use Rattle.resolver.specs.Resolved.{AreaPoint, Reference, LineForm}
-use Rattle.resolver.specs.Sound.{IsNarrow, IsWithin}
+use Rattle.resolver.specs.Resolved.{Form, AreaPoint, Reference, LineForm}
+use Rattle.resolver.specs.Sound.{IsNarrow}
 use Rattle.table_layout.specs.Layouts.{Role, Main, AreaLines, SurfaceLines, Column, Table, AreaOf, Layout}
 use Rattle.table_layout.specs.Tables.{column_name}
 
+-- the table with this number is a declared one
+pub record IsMain (tables : List Table) (number : ℕ) : Type 0 where
+  pub table : Table
+  pub at : slice_get tables number ≡ Some table
+  pub role : table.role ≡ Main
+
+-- a reference names a declared table
+abbrev pub NamesMain : List Table → Form → Type 0
+NamesMain tables (Reference k) = IsMain tables k
+NamesMain tables f = Unit {0}
+
 -- the helper table of an AREA attribute: its main table, its column there, which is the point of
--- an object, and the one window of that point and of the lines
+-- an object, and its one line, which is mandatory and has the window of that point
 pub record IsAreaTable (tables : List Table) (kept : List LineForm) (number place : ℕ) : Type 0 where
   pub owner : Table
   pub point : Column
@@ -17,9 +28,11 @@ pub record IsAreaTable (tables : List Table) (kept : List LineForm) (number plac
   pub column : slice_get owner.columns place ≡ Some point
   pub form : point.form ≡ AreaPoint line.window
   pub lines : kept ≡ line ∷ []
+  pub mandatory : line.optional ≡ false
   pub narrow : IsNarrow line.window
 
--- the helper table of a SURFACE attribute: column 0 is a mandatory reference to its main table
+-- the helper table of a SURFACE attribute: its main table, its column 0, which is a mandatory
+-- reference to that table and has its name, and its one line, which is mandatory
 pub record IsSurfaceTable (tables : List Table) (columns : List Column) (kept : List LineForm) (number : ℕ) : Type 0 where
   pub owner : Table
   pub reference : Column
@@ -28,19 +41,22 @@ pub record IsSurfaceTable (tables : List Table) (columns : List Column) (kept : 
   pub is_main : owner.role ≡ Main
   pub column : slice_get columns 0 ≡ Some reference
   pub form : reference.form ≡ Reference number
+  pub named : reference.name ≡ owner.name
+  pub needed : reference.optional ≡ false
   pub lines : kept ≡ line ∷ []
+  pub mandatory : line.optional ≡ false
 
 abbrev pub IsRole : List Table → Table → Role → Type 0
 IsRole tables t Main = Unit {0}
 IsRole tables t (AreaLines main column) = IsAreaTable tables t.lines main column
 IsRole tables t (SurfaceLines main) = IsSurfaceTable tables t.columns t.lines main
 
--- a table: its topic is there, its columns and lines are few, its references name tables, and its
--- IDENT lists columns or lines
+-- a table: its topic is there, its columns and lines are few, its references name declared
+-- tables, and its IDENT lists columns or lines
 pub record IsTable (topics : ℕ) (tables : List Table) (t : Table) : Type 0 where
   pub topic : t.topic < topics
   pub few : length t.columns + length t.lines ≤ 4194306
-  pub references : All (λ (c : Column). IsWithin (length tables) c.form) t.columns
+  pub references : All (λ (c : Column). NamesMain tables c.form) t.columns
   pub idents : All (All (λ p. p < length t.columns + length t.lines)) t.idents
   pub role : IsRole tables t t.role
 
@@ -51,7 +67,25 @@ pub record IsArea (tables : List Table) (a : AreaOf) : Type 0 where
   pub role : helper.role ≡ AreaLines a.main a.column
   pub name : a.name ≡ column_name tables a.main a.column
 
+-- the areas stand in the order of their helper tables, none twice, from this number on
+abbrev pub Rise : ℕ → List AreaOf → Type 0
+Rise from [] = Unit {0}
+Rise from (a ∷ as_) = (from ≤ a.lines) × Rise (a.lines + 1) as_
+
+-- one of the areas has the helper table with this number
+pub record HasArea (areas : List AreaOf) (number : ℕ) : Type 0 where
+  pub area : AreaOf
+  pub place : ℕ
+  pub at : slice_get areas place ≡ Some area
+  pub lines : area.lines ≡ number
+
+-- each AREA is there: whatever table holds the lines of one
+abbrev pub HasAll : List Table → List AreaOf → Type 0
+HasAll tables areas = (number main column : ℕ) (t : Table) → slice_get tables number ≡ Some t → t.role ≡ AreaLines main column → HasArea areas number
+
 pub record IsValid (l : Layout) : Type 0 where
   pub few : length l.tables ≤ 4194304
   pub tables : All (IsTable (length l.topics) l.tables) l.tables
   pub areas : All (IsArea l.tables) l.areas
+  pub in_order : Rise 0 l.areas
+  pub complete : HasAll l.tables l.areas

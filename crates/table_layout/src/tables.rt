@@ -6,7 +6,7 @@ ghost use Rattle.resolver.specs.Values.{attribute_of, attributes_of, line_of, pl
 ghost use Rattle.resolver.specs.Sound.{listed};
 ghost use Rattle.table_layout.specs.Few.{HasFew, AreFew};
 ghost use Rattle.table_layout.specs.Tables.{area_count, areas_in, surface_count, surfaces_in};
-ghost use Rattle.table_layout.specs.Tables.{helper_name, boundary, area_table, area_tables};
+ghost use Rattle.table_layout.specs.Tables.{boundary, area_table, area_tables};
 ghost use Rattle.table_layout.specs.Tables.{owner_column, surface_table, main_table, with_helpers};
 ghost use Rattle.table_layout.specs.Values.{column_view, lines_view, table_view, tables_view};
 ghost use Rattle.table_layout.specs.Values.{owner_view};
@@ -17,7 +17,7 @@ use super::attributes::{
 use super::idents::idents;
 use super::layouts::{Column, Role, Table, TableId};
 use ports::{Memory, Name};
-use resolver::{Attribute, Form, LineForm, ModelTable};
+use resolver::{Attribute, Form, LineForm, ModelTable, helper_name};
 use std::alloc::Global;
 
 /// A declared table: the number of its topic, the numbers of the topic's main tables in the whole
@@ -69,16 +69,6 @@ fn main_table(alloc: Global, owner: Owner<'_>, table: &ModelTable) -> Result<Tab
 
 // ---- helper tables
 
-// The table's name, `_` and the attribute's name.
-fn helper_name(alloc: Global, table: &Name, attribute: &Name) -> Result<Name, Memory>
-    ensures { IfOk result (λ name. name ≡ helper_name table.now attribute.now) }
-{
-    let mut bytes = table.bytes().to_vec(alloc)?;
-    bytes.push(b'_')?;
-    bytes.extend_from_slice(attribute.bytes())?;
-    Name::new(alloc, &bytes)
-}
-
 // The one line of a helper table, which may not be missing.
 fn boundary(alloc: Global, line: &LineForm) -> Result<Vec<LineForm>, Memory>
     ensures { IfOk result (λ lines. lines_view lines.items ≡ boundary (line_of line.now)) }
@@ -125,7 +115,7 @@ fn add_area_table(
         let main = TableId(owner.main);
         tables.push(Table {
             topic: owner.topic,
-            name: helper_name(alloc, owner.name, &attribute.name)?,
+            name: helper_name(alloc, owner.name.bytes(), attribute.name.bytes())?,
             role: Role::AreaLines { main, column },
             columns,
             lines: boundary(alloc, line)?,
@@ -170,7 +160,7 @@ fn add_surface_table(
         let main = TableId(owner.main);
         tables.push(Table {
             topic: owner.topic,
-            name: helper_name(alloc, owner.name, &attribute.name)?,
+            name: helper_name(alloc, owner.name.bytes(), attribute.name.bytes())?,
             role: Role::SurfaceLines { main },
             columns,
             lines: boundary(alloc, line)?,
