@@ -12,13 +12,13 @@ use Rattle.itf_reader.specs.declared.findings.Code.{Code}
 use Rattle.itf_reader.specs.RowFindings.{field_code}
 use Rattle.itf_reader.specs.StrokeFindings.{code_of}
 
-pub none_told : (o : Option ValueFault) (a v : Value) → Ok v ≡ reading o a → None ≡ option_map code_of o
-none_told None a v h = refl
-none_told (Some f) a v h = cc
+pub none_found : (o : Option ValueFault) (a v : Value) → Ok v ≡ reading o a → None ≡ option_map code_of o
+none_found None a v h = refl
+none_found (Some f) a v h = cc
 
-pub one_told : (o : Option ValueFault) (a : Value) (f : ValueFault) → Err f ≡ reading o a → Some (code_of f) ≡ option_map code_of o
-one_told None a f h = cc
-one_told (Some g) a f h = cc
+pub one_found : (o : Option ValueFault) (a : Value) (f : ValueFault) → Err f ≡ reading o a → Some (code_of f) ≡ option_map code_of o
+one_found None a f h = cc
+one_found (Some g) a f h = cc
 
 none_both : (o : Option ValueFault) → (option_map code_of o ≡ None) ↔ (o ≡ None)
 none_both None = (λ h. refl, λ h. refl)

@@ -192,7 +192,7 @@ arcs_in column (s ∷ m ∷ e ∷ vs) h =
     let b = unless_told (is_bad_arc s m e) _ (told_none e.line column (code_if (is_bad_arc s m e) _) p.0) in
     (λ k. an_arc s.at m.at e.at _ _ _ refl refl refl (no_bad (is_on_arc m.kind) (is_no_arc s.at m.at e.at) b k), arcs_in column (m ∷ e ∷ vs) p.1)
 
--- where no vertex is told, all are clean
+-- where no vertex is reported, all are clean
 silent : (l : LineForm) (column : ℕ) (vs : List Vertex) → flat_map (vertex_finding l column) vs ≡ [] → are_clean l vs ≡ true
 silent l column [] h = refl
 silent l column (v ∷ vs) h =

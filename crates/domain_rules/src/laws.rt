@@ -22,9 +22,10 @@ pub fn clean_places()
         → value_findings l transfer ≡ [] → HavePlaces l.codes l.tables transfer }
 {}
 
-/// Who judges each row when it is closed, and adds what is wrong with it to the findings of its
-/// table, has those of the whole transfer: none before the first row, those of one more row behind
-/// those of its table, and in the end, table by table, those that `check_values` puts in order.
+/// A caller that judges each row when it is closed, and adds what is wrong with it to the findings
+/// of its table, has those of the whole transfer: none before the first row, those of one more row
+/// after those of its table, and in the end, table by table, those that `check_values` puts in
+/// order.
 pub fn fed_values()
     ensures none { (l : Layout) → fed_findings l [] ≡ map no_findings l.tables }
     ensures more { (l : Layout) (rows : List (ℕ × Row)) (n : ℕ) (t : Table) (r : Row)

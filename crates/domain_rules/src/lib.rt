@@ -7,17 +7,17 @@
 //! of `itf_reader`.
 //!
 //! - **Rows.** A row has one word for its identification and those of its columns, else `Count` is
-//!   told at column 0 and nothing else. Its columns have the numbers from 1 on, its lines those
-//!   behind them, and each column has at most one finding, by the first test that fails. An
+//!   reported at column 0 and nothing else. Its columns have the numbers from 1 on, its lines those
+//!   after them, and each column has at most one finding, by the first test that fails. An
 //!   optional column may have undefined words alone.
 //! - **Vertices** have at most one finding each: a field that has an axis is no number within its
 //!   bounds, then there is not one field for each axis (`Coord`), then it lies on an arc and its
 //!   line has none (`Arcs`).
 //! - **Lines** without vertices are undefined, which only an optional one may be. Where all
-//!   vertices are clean, a line of an AREA has more than one point (`Short`, told where it begins),
-//!   and each arc is one (`Arc`, told where it ends): its ends are two places, and where the three
-//!   places lie on one straight, the middle one lies between the ends or on one of them. Places
-//!   are told by their numbers, `1.0` as `1.00`, and by x and y alone.
+//!   vertices are clean, a line of an AREA has more than one point (`Short`, reported where it
+//!   begins), and each arc is one (`Arc`, reported where it ends): its ends are two places, and
+//!   where the three places lie on one straight, the middle one lies between the ends or on one of
+//!   them. Places are compared by their numbers, `1.0` as `1.00`, and by x and y alone.
 //! - **What is proved.** The answer of `check_values` is `value_findings`, which goes over tables
 //!   and rows (`row_findings` of `itf_reader`). `field_ok` answers none exactly where no word is
 //!   undefined and the words are a value of the form (`Meets`). Where nothing is found, each vertex
@@ -25,8 +25,8 @@
 //!   are judged one after another have the findings of the whole transfer (`fed_values`).
 //! - **What it asks.** `check_values` takes a valid layout, as `layout` gives it, and a transfer
 //!   that was read for it. Rows of tables that the layout lacks are not looked at.
-//! - **Not here:** whether identifications and IDENT lists tell rows apart, and whether a reference
-//!   names a row. As far as its form goes each word is an identification.
+//! - **Not here:** whether identifications and IDENT values repeat, and whether a reference names a
+//!   row. By its form each word is an identification.
 //! - **Degenerate cases:** a row may have no word and a vertex no field. A line of one vertex has
 //!   one point and no arc.
 //!

@@ -1,12 +1,12 @@
 // The values of a transfer.
-ghost use Rattle.std.specs.Prelude.{◌≡◌, ◌++◌, IfOk, OnOk};
+ghost use Rattle.std.specs.Prelude.{◌≡◌, IfOk, OnOk};
 ghost use Rattle.std.specs.List.{All};
 ghost use Rattle.ili_grammar.specs.Values.{codes_of};
 ghost use Rattle.table_layout.specs.Values.{layout_view, table_view, tables_view};
 ghost use Rattle.table_layout.specs.Valid.{IsValid};
 ghost use Rattle.itf_reader.specs.Few.{HasFew};
-ghost use Rattle.itf_reader.specs.Findings.{findings_of};
-ghost use Rattle.itf_reader.specs.RowViews.{rows_of, tables_seen, transfer_of};
+ghost use Rattle.itf_reader.specs.Findings.{AddsFindings, findings_of};
+ghost use Rattle.itf_reader.specs.Views.{rows_of, tables_rows_of, transfer_of};
 ghost use Rattle.domain_rules.specs.ValueFindings.{table_findings, tables_findings, value_findings};
 
 use ili_grammar::Codes;
@@ -23,54 +23,55 @@ pub fn check_values(
     transfer: &Transfer,
 ) -> Result<Vec<Finding>, Memory>
     requires { IsValid (layout_view layout.now) }
-    ensures { IfOk result (λ found. findings_of found.items ≡ value_findings
+    ensures { IfOk result (λ findings. findings_of findings.items ≡ value_findings
         (layout_view layout.now) (transfer_of transfer.now)) }
 {
     let mut values = RowValues::new(alloc);
-    let mut found = Vec::new(alloc);
+    let mut findings = Vec::new(alloc);
     add_tables(
         &layout.codes,
         &layout.tables,
         &transfer.tables,
         &mut values,
-        &mut found,
+        &mut findings,
     )?;
-    sort_findings(&mut found)?;
-    Ok(found)
+    sort_findings(&mut findings)?;
+    Ok(findings)
 }
 
 // Adds what is wrong with the rows of each table.
 fn add_tables(
     codes: &Codes,
     tables: &[Table],
-    came: &[TableRows],
+    transfer: &[TableRows],
     values: &mut RowValues,
-    found: &mut Vec<Finding>,
+    findings: &mut Vec<Finding>,
 ) -> Result<(), Memory>
     requires { All HasFew (tables_view tables.now) }
-    ensures { OnOk result (findings_of found.new.items ≡ findings_of found.old.items ++
-        tables_findings (codes_of codes.now) (tables_view tables.now) (tables_seen came.now)) }
+    ensures { OnOk result (AddsFindings findings.old.items findings.new.items
+        (tables_findings (codes_of codes.now) (tables_view tables.now)
+        (tables_rows_of transfer.now))) }
 {
-    for (table, objects) in tables.iter().zip(came) {
-        add_rows(codes, table, &objects.rows, values, found)?;
+    for (table, objects) in tables.iter().zip(transfer) {
+        add_rows(codes, table, &objects.rows, values, findings)?;
     }
     Ok(())
 }
 
-// The values of a row are let go with the next one.
+// The values of a row are kept up to the next one.
 fn add_rows(
     codes: &Codes,
     table: &Table,
     rows: &[Row],
     values: &mut RowValues,
-    found: &mut Vec<Finding>,
+    findings: &mut Vec<Finding>,
 ) -> Result<(), Memory>
     requires { HasFew (table_view table.now) }
-    ensures { OnOk result (findings_of found.new.items ≡ findings_of found.old.items ++
-        table_findings (codes_of codes.now) (table_view table.now) (rows_of rows.now)) }
+    ensures { OnOk result (AddsFindings findings.old.items findings.new.items
+        (table_findings (codes_of codes.now) (table_view table.now) (rows_of rows.now))) }
 {
     for row in rows {
-        read_row(codes, table, row, values, found)?;
+        read_row(codes, table, row, values, findings)?;
     }
     Ok(())
 }

@@ -1,5 +1,5 @@
 -- Words that were read axis by axis.
-use Rattle.std.proofs.Common.{◌≡◌, List, [], ◌∷◌, ℕ, ℤ, Option, Some, None, Result, Ok, Err, refl, sym}
+use Rattle.std.proofs.Common.{◌≡◌, List, [], ◌∷◌, ℕ, ℤ, Option, Some, None, Ok, Err, refl}
 use Rattle.resolver.specs.Resolved.{Limits}
 use Rattle.field_values.specs.declared.value.ValueFault.{ValueFault}
 use Rattle.field_values.specs.Fields.{first_fault, number_fault, numbers_fault, count_fault, axes_fault}
@@ -27,7 +27,7 @@ numbers_three lx ly lz x y z = by (number_fault lx x) (number_fault ly y) (numbe
     by None None (Some f) = refl
     by None None None = refl
 
--- two fields and those behind them
+-- two fields and those after them
 axes_two : (lx ly : Limits) (ls : List Limits) (x y : List ℕ) (ws : List (List ℕ)) → axes_fault (lx ∷ ly ∷ ls) (x ∷ y ∷ ws) ≡ first_fault (place_fault lx ly x y) (axes_fault ls ws)
 axes_two lx ly ls x y ws = by (number_fault lx x) (number_fault ly y) (numbers_fault ls ws) (count_fault ls ws)
   where

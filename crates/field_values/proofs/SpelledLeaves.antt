@@ -12,7 +12,7 @@ use Rattle.std.proofs.lemmas.Fmt.{digits_decimal, digits_value-decimal, decimal-
 use borrow.Author.Tests.{ltb-true, lt-ltb}
 use Rattle.decimals.specs.Numerals.{is_digits, number}
 use Rattle.decimals.proofs.Digits.{both_left, both_right}
-use Rattle.field_values.specs.Fields.{has_zero_in_front, is_leaf}
+use Rattle.field_values.specs.Fields.{has_leading_zero, is_leaf}
 use Rattle.field_values.specs.Leaves.{IsLeaf}
 
 own : IsNumeralModel (λ ds. all_ascii_digits ds ≡ true) (digits_value 10)
@@ -35,7 +35,7 @@ number_is : (ds : List ℕ) → all_ascii_digits ds ≡ true → digits_value 10
 number_is ds h = number_after 0 ds h ∙ omega arith
 
 -- ---- from a leaf to its spelling
-one_by : (ds : List ℕ) (b : Bool) → nat_lt 1 (length ds) ≡ b → has_zero_in_front ds ≡ false → 0 < length ds → get_or ds 0 0 ≡ 48 → length ds ≡ 1
+one_by : (ds : List ℕ) (b : Bool) → nat_lt 1 (length ds) ≡ b → has_leading_zero ds ≡ false → 0 < length ds → get_or ds 0 0 ≡ 48 → length ds ≡ 1
 one_by ds true t h l e = absurd (let z : nat_eq (get_or ds 0 0) 48 ≡ true = rw e refl in cc)
 one_by ds false t h l e = grind (arith, nat_tests)
 
@@ -46,17 +46,17 @@ untrue false h = refl
 to_spelling : (leaves : ℕ) (word : List ℕ) → leaves ≤ 2 ^ 32 → is_leaf leaves word ≡ true → IsLeaf leaves word
 to_spelling leaves word f h =
     let digits : is_digits word ≡ true = both_left _ _ h in
-    let rest : (not (has_zero_in_front word) && nat_lt (number word) leaves) ≡ true = both_right _ _ h in
+    let rest : (not (has_leading_zero word) && nat_lt (number word) leaves) ≡ true = both_right _ _ h in
     let d : all_ascii_digits word ≡ true = both_right _ _ digits in
     let l : 0 < length word = ltb-true 0 (length word) (both_left _ _ digits) in
-    let z : has_zero_in_front word ≡ false = untrue _ (both_left _ _ rest) in
+    let z : has_leading_zero word ≡ false = untrue _ (both_left _ _ rest) in
     let lt : number word < leaves = ltb-true (number word) leaves (both_right _ _ rest) in
     let e : digits_value 10 word ≡ number word = number_is word d in
     let s : decimal (digits_value 10 word) ≡ word = decimal-digits_value own word d l (one_by word _ refl z l) (omega (arith, e, lt, f)) in
     record { leaf = number word; below = lt; spelled = sym (subst (λ (v : ℕ). decimal v ≡ word) e s) }
 
 -- ---- and back
-no_zero : (n : ℕ) → n < 2 ^ 32 → has_zero_in_front (decimal n) ≡ false
+no_zero : (n : ℕ) → n < 2 ^ 32 → has_leading_zero (decimal n) ≡ false
 no_zero zero h = rw (decimal_digit 0 (omega arith)) refl
 no_zero (suc n) h =
     let f : 48 < get_or (decimal (suc n)) 0 0 = first_decimal (suc n) (omega arith) (omega arith) in

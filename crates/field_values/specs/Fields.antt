@@ -35,14 +35,14 @@ abbrev pub first_fault : Option ValueFault → Option ValueFault → Option Valu
 first_fault (Some fault) other = Some fault
 first_fault None other = other
 
--- numbers on several axes, a word for each, told word by word
+-- numbers on several axes, a word for each, word by word
 abbrev pub numbers_fault : List Limits → List (List ℕ) → Option ValueFault
 numbers_fault [] words = None
 numbers_fault (l ∷ ls) [] = None
 numbers_fault (l ∷ ls) (w ∷ ws) = first_fault (number_fault l w) (numbers_fault ls ws)
 
 -- ---- words that are no number
--- at most so many bytes
+-- at most that many bytes
 abbrev pub is_text : ℕ → List ℕ → Bool
 is_text most word = nat_le (length word) most
 
@@ -53,12 +53,12 @@ is_within low high n = nat_le low n && nat_le n high
 abbrev pub is_date : List ℕ → Bool
 is_date word = (length word == 8) && (all_ascii_digits word && (is_within 1 12 (number (take 2 (drop 4 word))) && is_within 1 31 (number (drop 6 word))))
 
--- digits alone, with no zero in front, and less than the number of leaves
-abbrev pub has_zero_in_front : List ℕ → Bool
-has_zero_in_front word = (slice_index_or word 0 0 == 48) && nat_lt 1 (length word)
+-- digits alone, with no leading zero, and less than the number of leaves
+abbrev pub has_leading_zero : List ℕ → Bool
+has_leading_zero word = (slice_index_or word 0 0 == 48) && nat_lt 1 (length word)
 
 abbrev pub is_leaf : ℕ → List ℕ → Bool
-is_leaf leaves word = is_digits word && (not (has_zero_in_front word) && nat_lt (number word) leaves)
+is_leaf leaves word = is_digits word && (not (has_leading_zero word) && nat_lt (number word) leaves)
 
 -- each word passes a test, or the fault
 abbrev pub word_fault : (List ℕ → Bool) → ValueFault → List (List ℕ) → Option ValueFault
@@ -104,7 +104,7 @@ value_fault model.HAlignment words = word_fault (is_leaf 3) Enum words
 value_fault model.VAlignment words = word_fault (is_leaf 5) Enum words
 value_fault form words = numbers_fault (axes form) words
 
--- an undefined word is told before all else
+-- an undefined word comes before all else
 abbrev pub field_fault : Form → Codes → List (List ℕ) → Option ValueFault
 field_fault form codes words = if list_any (is_undefined codes) words then Some Undefined else value_fault form words
 

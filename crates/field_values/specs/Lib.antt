@@ -4,4 +4,4 @@ pub mod Meeting
 pub mod Places
 pub mod Readings
 pub mod Sizes
-pub mod Values
+pub mod Views

@@ -23,8 +23,8 @@ abbrev pub units : Limits → List ℕ → ℤ
 units limits word = value_or_zero (scaled_of word limits.scale)
 
 -- a number within bounds
-abbrev pub bounded : Limits → ℤ → Result ℤ ValueFault
-bounded limits v = reading (bounds_fault limits (Ok v)) v
+abbrev pub bounded_reading : Limits → ℤ → Result ℤ ValueFault
+bounded_reading limits v = reading (bounds_fault limits (Ok v)) v
 
 -- words as numbers on some axes, a word for each
 abbrev pub numbers_on : List Limits → List (List ℕ) → List ℤ

@@ -3,9 +3,10 @@ ghost use Rattle.std.specs.Prelude.{◌≡◌, length};
 ghost use Rattle.std.specs.List.{list_any, list_all};
 ghost use Rattle.ili_grammar.specs.Values.{codes_of};
 ghost use Rattle.resolver.specs.Values.{form_of};
-ghost use Rattle.field_values.specs.Fields.{is_date, is_leaf, is_text, is_undefined, value_fault, width};
+ghost use Rattle.field_values.specs.Fields.{is_date, is_leaf, is_text, is_undefined, value_fault};
+ghost use Rattle.field_values.specs.Fields.{width};
 ghost use Rattle.field_values.specs.Readings.{column_reading, reading, value_of};
-ghost use Rattle.field_values.specs.Values.{column_view, word_reading};
+ghost use Rattle.field_values.specs.Views.{column_view, word_reading};
 
 use super::leaves::is_leaf;
 use super::numbers::{read_plane, read_single, read_space};

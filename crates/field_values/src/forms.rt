@@ -1,4 +1,4 @@
-// What the form of a column says of its words.
+// The form of a column: how many words it has, and the bounds of its numbers.
 ghost use Rattle.std.specs.Prelude.{◌≡◌};
 ghost use Rattle.std.specs.Option.{option_map};
 ghost use Rattle.resolver.specs.Values.{form_of, limits_of};
@@ -19,7 +19,8 @@ pub fn width(form: &Form) -> usize
 
 /// The bounds of a column whose one word is a number.
 pub fn number_limits(form: &Form) -> Option<&Limits>
-    ensures { option_map (λ limits. limits_of limits.now) result ≡ number_limits (form_of form.now) }
+    ensures { option_map (λ limits. limits_of limits.now) result
+        ≡ number_limits (form_of form.now) }
 {
     match form {
         Form::Range(limits) => Some(limits),

@@ -1,23 +1,23 @@
 // Leaves of an enumeration.
 ghost use Rattle.std.specs.Prelude.{◌≡◌, true, nat_lt, int_lt, pos};
 ghost use Rattle.decimals.specs.Numerals.{is_digits, number};
-ghost use Rattle.field_values.specs.Fields.{is_leaf, has_zero_in_front};
+ghost use Rattle.field_values.specs.Fields.{is_leaf, has_leading_zero};
 
 use super::words::all_digits;
 use decimals::read_scaled;
 
-/// Digits alone, with no zero in front, and less than the number of leaves.
+/// Digits alone, with no leading zero, and less than the number of leaves.
 pub fn is_leaf(leaves: u32, word: &[u8]) -> bool
     ensures { result ≡ is_leaf leaves word.now }
 {
     if word.is_empty() || !all_digits(word) {
         return false;
     }
-    !has_zero_in_front(word) && is_below(leaves, word)
+    !has_leading_zero(word) && is_below(leaves, word)
 }
 
-fn has_zero_in_front(word: &[u8]) -> bool
-    ensures { result ≡ has_zero_in_front word.now }
+fn has_leading_zero(word: &[u8]) -> bool
+    ensures { result ≡ has_leading_zero word.now }
 {
     match word {
         [b'0', _, ..] => true,

@@ -4,7 +4,7 @@
 //! `read_column` reads the words of a column, `read_vertex` those of a vertex. Each word is read
 //! once: the answer is the value, or the first rule that the words break.
 //!
-//! - **The undefined word** is the one byte of the model's code. It is told before all else, also
+//! - **The undefined word** is the one byte of the model's code. It comes before all else, also
 //!   where it would be a good value: where the code is `5`, the word `5` is undefined, and `05` is
 //!   a number. One undefined word makes a whole coordinate undefined. A vertex has no undefined
 //!   word.
@@ -27,7 +27,7 @@
 //!   As far as its form goes each word is an identification.
 //! - **Degenerate cases:** a word may have no byte: it is then a text or an identification, and no
 //!   other value. It may have thousands of digits: they are no leaf, and too long a number if
-//!   zeros in front are not counted. `-0` is the number 0, and no leaf. A vertex may have no field.
+//!   leading zeros are not counted. `-0` is the number 0, and no leaf. A vertex may have no field.
 //!
 //! Cost: time linear in the words, and no memory.
 #![tactic(auto)]

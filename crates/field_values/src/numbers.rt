@@ -2,10 +2,10 @@
 ghost use Rattle.std.specs.Prelude.{◌≡◌, ℕ, List, [], ◌∷◌, IfOk, length};
 ghost use Rattle.resolver.specs.Values.{limits_of, window_of, block_of};
 ghost use Rattle.field_values.specs.Fields.{number_fault};
-ghost use Rattle.field_values.specs.Readings.{axes_reading, bounded, reading, units};
+ghost use Rattle.field_values.specs.Readings.{axes_reading, bounded_reading, reading, units};
 ghost use Rattle.field_values.specs.Places.{place_at, place_fault, place_reading};
 ghost use Rattle.field_values.specs.Sizes.{IsShort};
-ghost use Rattle.field_values.specs.Values.{column_view};
+ghost use Rattle.field_values.specs.Views.{column_view};
 
 use super::place::Place;
 use super::value::{ColumnValue, ValueFault};
@@ -28,7 +28,7 @@ pub fn read_number(limits: &Limits, word: &[u8]) -> Result<i64, ValueFault>
 
 fn within(limits: &Limits, value: i64) -> Result<i64, ValueFault>
     requires { IsShort value }
-    ensures read { result ≡ bounded (limits_of limits.now) value }
+    ensures read { result ≡ bounded_reading (limits_of limits.now) value }
     ensures short { IfOk result IsShort }
 {
     if value < limits.low {

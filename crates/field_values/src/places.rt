@@ -1,6 +1,7 @@
 // Places of the plane, and when three of them lie on no arc.
 ghost use Rattle.std.specs.Prelude.{◌≡◌, ◌&&◌, ◌^◌, ◌*◌, ◌-ℤ◌, ◌*ℤ◌};
-ghost use Rattle.field_values.specs.Places.{are_collinear, is_between, is_no_arc, is_same, is_same_place, place_view};
+ghost use Rattle.field_values.specs.Places.{are_collinear, is_between, is_no_arc, is_same};
+ghost use Rattle.field_values.specs.Places.{is_same_place, place_view};
 ghost use Rattle.field_values.specs.Sizes.{IsWithin, IsShort};
 
 use super::place::Place;
@@ -13,7 +14,7 @@ pub fn is_same_place(p: Place, q: Place) -> bool
 }
 
 /// No arc leads from `s` over `m` to `e`: the ends are one place, or the three lie on one straight
-/// and `m` not between the ends.
+/// and `m` is not between the ends.
 pub fn is_no_arc(s: Place, m: Place, e: Place) -> bool
     ensures { result ≡ is_no_arc (place_view s) (place_view m) (place_view e) }
 {
@@ -34,7 +35,7 @@ fn are_collinear(s: Place, m: Place, e: Place) -> bool
     are_equal(product(mx, ey), product(my, ex))
 }
 
-// a - b
+// a - b, which fits: both have at most 18 digits.
 fn difference(a: i64, b: i64) -> i64
     requires a { IsShort a }
     requires b { IsShort b }
@@ -44,6 +45,7 @@ fn difference(a: i64, b: i64) -> i64
     a - b
 }
 
+// a * b, which fits: both are differences of numbers of at most 18 digits.
 fn product(a: i64, b: i64) -> i128
     requires a { IsWithin (2 * 10 ^ 18) a }
     requires b { IsWithin (2 * 10 ^ 18) b }
@@ -52,6 +54,7 @@ fn product(a: i64, b: i64) -> i128
     i128::from(a) * i128::from(b)
 }
 
+// Equality as the definition has it, by two comparisons.
 fn are_equal(a: i128, b: i128) -> bool
     ensures { result ≡ is_same a b }
 {

@@ -1,4 +1,4 @@
-// What words stand for, and why they stand for nothing.
+// What words stand for, and the rules that they may break.
 use super::place::Place;
 
 /// What the words of a column stand for. A word that is no number stands for itself.

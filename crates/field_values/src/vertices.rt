@@ -5,7 +5,7 @@ ghost use Rattle.resolver.specs.Values.{limits_of, line_of};
 ghost use Rattle.field_values.specs.Fields.{vertex_fault, axes_fault, line_axes};
 ghost use Rattle.field_values.specs.Places.{place_named, place_view};
 ghost use Rattle.field_values.specs.Readings.{reading, numbers_on};
-ghost use Rattle.field_values.specs.Values.{vertex_view, height_view};
+ghost use Rattle.field_values.specs.Views.{vertex_view, height_view};
 
 use super::numbers::{read_number, read_place};
 use super::value::{ValueFault, VertexValue};
@@ -30,7 +30,7 @@ pub fn read_vertex(form: &LineForm, words: &[Field]) -> Result<VertexValue, Valu
     }
 }
 
-// The fields of a place, and those behind them.
+// The fields of a place, and those after them.
 fn read_fields(
     form: &LineForm,
     x: &[u8],
@@ -48,9 +48,10 @@ fn read_fields(
     Ok(VertexValue { at, height })
 }
 
-// The fields behind the two of a place: one for the height, where the line has heights.
+// The fields after the two of a place: one for the height, where the line has heights.
 fn read_height(height: Option<Limits>, words: &[Field]) -> Result<Option<i64>, ValueFault>
-    ensures { height_view result ≡ reading (axes_fault (option_to_list (option_map limits_of height))
+    ensures { height_view result
+        ≡ reading (axes_fault (option_to_list (option_map limits_of height))
         words.now) (numbers_on (option_to_list (option_map limits_of height)) words.now) }
 {
     match (height, words) {

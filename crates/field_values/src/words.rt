@@ -14,7 +14,7 @@ pub fn is_undefined(codes: &Codes, word: &[u8]) -> bool
     word == [codes.undefined].as_slice()
 }
 
-/// At most so many bytes.
+/// At most that many bytes.
 pub fn is_text(most: u32, word: &[u8]) -> bool
     ensures { result ≡ is_text most word.now }
 {

@@ -2,20 +2,22 @@
 use Rattle.std.proofs.Common.{◌≡◌, ℕ, zero, suc, ◌+◌, ◌<◌, Bool, true, false, cond, nat_eq, List, [], ◌∷◌, ◌++◌, length, map, take, drop, slice_index_or, if◌then◌else◌, refl, sym, ap, ◌∙◌, arith, append-nil, add-one, ◌⊎◌, inl, inr}
 use Rattle.std.specs.List.{flat_map, All}
 use Rattle.std.proofs.lemmas.Bool.{eqb-true}
+use Rattle.std.proofs.lemmas.List.Elements.{All-weaker}
+use Rattle.std.proofs.lemmas.Option.{slice_get_within}
 use Rattle.ili_grammar.specs.Syntax.{Codes}
 use Rattle.resolver.specs.Resolved as model
 use Rattle.resolver.specs.Resolved.{Form}
 use Rattle.resolver.specs.Sound.{IsWithin}
 use Rattle.table_layout.specs.Layouts.{Column, Table, Layout}
-use Rattle.table_layout.specs.Valid.{IsValid, IsTable}
+use Rattle.table_layout.specs.Valid.{NamesMain, IsValid, IsTable}
 use Rattle.field_values.specs.Fields.{width}
 use Rattle.itf_reader.specs.Findings.{Finding}
 use Rattle.itf_reader.specs.Forms.{Row}
 use Rattle.itf_reader.specs.RowFindings.{is_counted}
 use Rattle.itf_reader.specs.ClosedRows.{of_table, by_table_from}
 use Rattle.itf_reader.specs.Layouts.{wanted_of}
-use Rattle.ident_refs.specs.FedRows.{numbered, all_rows, fed_keys}
-use Rattle.ident_refs.specs.KeyFindings.{referred, word_findings, reference_finding, columns_references, row_references, tid_findings, ident_findings, table_keys, tables_keys}
+use Rattle.ident_refs.specs.FedRows.{with_number, all_rows, fed_keys}
+use Rattle.ident_refs.specs.KeyFindings.{referred_table, word_findings, reference_finding, columns_references, row_references, tid_findings, ident_findings, table_keys, tables_keys}
 
 -- ---- the rows of one table
 of_more : (n : ℕ) (rows more : List (ℕ × Row)) → of_table n (rows ++ more) ≡ of_table n rows ++ of_table n more
@@ -30,30 +32,30 @@ apart : (q n : ℕ) → (q ≡ n → ⊥) → (b : Bool) → nat_eq q n ≡ b �
 apart q n h true e = absurd (h (eqb-true q n e))
 apart q n h false e = refl
 
-own_numbered : (n : ℕ) (rows : List Row) → of_table n (numbered n rows) ≡ rows
+own_numbered : (n : ℕ) (rows : List Row) → of_table n (with_number n rows) ≡ rows
 own_numbered n [] = refl
-own_numbered n (r ∷ rows) = ap (λ (b : Bool). cond b (r ∷ of_table n (numbered n rows)) (of_table n (numbered n rows))) (same n) ∙ ap (λ (l : List Row). r ∷ l) (own_numbered n rows)
+own_numbered n (r ∷ rows) = ap (λ (b : Bool). cond b (r ∷ of_table n (with_number n rows)) (of_table n (with_number n rows))) (same n) ∙ ap (λ (l : List Row). r ∷ l) (own_numbered n rows)
 
-other_numbered : (n q : ℕ) (rows : List Row) → (q ≡ n → ⊥) → of_table n (numbered q rows) ≡ []
+other_numbered : (n q : ℕ) (rows : List Row) → (q ≡ n → ⊥) → of_table n (with_number q rows) ≡ []
 other_numbered n q [] h = refl
-other_numbered n q (r ∷ rows) h = ap (λ (b : Bool). cond b (r ∷ of_table n (numbered q rows)) (of_table n (numbered q rows))) (apart q n h (nat_eq q n) refl) ∙ other_numbered n q rows h
+other_numbered n q (r ∷ rows) h = ap (λ (b : Bool). cond b (r ∷ of_table n (with_number q rows)) (of_table n (with_number q rows))) (apart q n h (nat_eq q n) refl) ∙ other_numbered n q rows h
 
 before : (n q : ℕ) (transfer : List (List Row)) → n < q → of_table n (all_rows q transfer) ≡ []
 before n q [] lt = refl
 before n q (rows ∷ transfer) lt =
-    of_more n (numbered q rows) (all_rows (q + 1) transfer)
+    of_more n (with_number q rows) (all_rows (q + 1) transfer)
     ∙ ap (λ (l : List Row). l ++ of_table n (all_rows (q + 1) transfer)) (other_numbered n q rows (λ e. absurd (omega (arith, e, lt))))
     ∙ before n (q + 1) transfer (omega (arith, lt))
 
 at_place : (k n q : ℕ) (transfer : List (List Row)) → n ≡ q + k → of_table n (all_rows q transfer) ≡ slice_index_or transfer k []
 at_place k n q [] e = refl
 at_place zero n q (rows ∷ transfer) e =
-    of_more n (numbered q rows) (all_rows (q + 1) transfer)
-    ∙ ap (λ (l : List Row). l ++ of_table n (all_rows (q + 1) transfer)) (ap (λ (m : ℕ). of_table n (numbered m rows)) (let f : q ≡ n = omega (arith, e) in f) ∙ own_numbered n rows)
+    of_more n (with_number q rows) (all_rows (q + 1) transfer)
+    ∙ ap (λ (l : List Row). l ++ of_table n (all_rows (q + 1) transfer)) (ap (λ (m : ℕ). of_table n (with_number m rows)) (let f : q ≡ n = omega (arith, e) in f) ∙ own_numbered n rows)
     ∙ ap (λ (l : List Row). rows ++ l) (before n (q + 1) transfer (omega (arith, e)))
     ∙ append-nil rows
 at_place (suc k) n q (rows ∷ transfer) e =
-    of_more n (numbered q rows) (all_rows (q + 1) transfer)
+    of_more n (with_number q rows) (all_rows (q + 1) transfer)
     ∙ ap (λ (l : List Row). l ++ of_table n (all_rows (q + 1) transfer)) (other_numbered n q rows (λ h. absurd (omega (arith, e, h))))
     ∙ at_place k n (q + 1) transfer (omega (arith, e))
 
@@ -62,7 +64,7 @@ abbrev SameAt : ℕ → List (List Row) → List (List Row) → Type 0
 SameAt count a b = (k : ℕ) → k < count → slice_index_or a k [] ≡ slice_index_or b k []
 
 reference_same : (codes : Codes) (count : ℕ) (a b : List (List Row)) (line number : ℕ) (form : Form) (words : List (List ℕ)) → SameAt count a b → IsWithin count form
-    → reference_finding codes a line number (referred form) words ≡ reference_finding codes b line number (referred form) words
+    → reference_finding codes a line number (referred_table form) words ≡ reference_finding codes b line number (referred_table form) words
 reference_same codes count a b line number (model.Reference k) words s w = ap (λ (rows : List Row). word_findings codes line number rows words) (s k w)
 reference_same codes count a b line number (model.Text n) words s w = refl
 reference_same codes count a b line number model.Date words s w = refl
@@ -94,7 +96,7 @@ columns_same codes count a b line number [] words s w = refl
 columns_same codes count a b line number (c ∷ cs) words s w =
     ap (λ (fs : List Finding). fs ++ columns_references codes a line (number + 1) cs (drop (width c.form) words))
     (reference_same codes count a b line number c.form (take (width c.form) words) s (head_of (Within count) c cs w))
-    ∙ ap (λ (fs : List Finding). reference_finding codes b line number (referred c.form) (take (width c.form) words) ++ fs)
+    ∙ ap (λ (fs : List Finding). reference_finding codes b line number (referred_table c.form) (take (width c.form) words) ++ fs)
     (columns_same codes count a b line (number + 1) cs (drop (width c.form) words) s (tail_of (Within count) c cs w))
 
 row_same : (codes : Codes) (count : ℕ) (a b : List (List Row)) (t : Table) (r : Row) → SameAt count a b → All (Within count) t.columns → row_references codes a t r ≡ row_references codes b t r
@@ -140,7 +142,7 @@ dropped n [] = inl (nothing n, refl)
 dropped zero (rows ∷ transfer) = inr refl
 dropped (suc n) (rows ∷ transfer) = dropped n transfer
 
--- the tables of a layout take the rows of a transfer, as far as they go
+-- the tables of a layout take the rows of a transfer, one after another
 tables_from : (codes : Codes) (count : ℕ) (a transfer : List (List Row)) (n : ℕ) (ts : List Table) → SameAt count a transfer → All (AreWithin count) ts
     → tables_keys codes a ts (by_table_from n (map wanted_of ts) (all_rows 0 transfer)) ≡ tables_keys codes transfer ts (drop n transfer)
 tables_from codes count a transfer n [] s w = refl
@@ -175,8 +177,12 @@ by_place (suc k) n count (t ∷ ts) transfer lt = by_place k (n + 1) count ts tr
     plus_one : (n k : ℕ) → (n + 1) + k ≡ n + suc k
     plus_one n k = omega arith
 
+names_within : (all : List Table) (f : Form) → NamesMain all f → IsWithin (length all) f
+names_within all (model.Reference k) h = slice_get_within all k h.table h.at
+names_within all f h = tt
+
 all_within : (topics : ℕ) (all : List Table) (ts : List Table) → All (IsTable topics all) ts → All (AreWithin (length all)) ts
-all_within topics all ts h = λ i d lt. (h i d lt).references
+all_within topics all ts h = λ i d lt. All-weaker (λ (c : Column). NamesMain all c.form) (λ (c : Column). IsWithin (length all) c.form) (λ c n. names_within all c.form n) (slice_index_or ts i d).columns (h i d lt).references
 
 pub transfer_keys : (l : Layout) (transfer : List (List Row)) → IsValid l → fed_keys l (all_rows 0 transfer) ≡ tables_keys l.codes transfer l.tables transfer
 transfer_keys l transfer v =

@@ -4,12 +4,12 @@ use Rattle.std.proofs.lemmas.List.{length-map}
 use Rattle.itf_reader.specs.declared.transfer.Row.{Row as CodeRow}
 use Rattle.itf_reader.specs.declared.transfer.TableRows.{TableRows as CodeTableRows}
 use Rattle.itf_reader.specs.Forms.{Row}
-use Rattle.itf_reader.specs.Views.{row_of, rows_of, table_seen, tables_seen}
+use Rattle.itf_reader.specs.Views.{row_of, rows_of, table_rows_of, tables_rows_of}
 use Rattle.ident_refs.specs.declared.table_keys.KeptList.{KeptList as CodeList}
 use Rattle.ident_refs.specs.declared.table_keys.TableKeys.{TableKeys}
 use Rattle.ident_refs.specs.FedRows.{row_at, fed_rows, fed_tables}
 use Rattle.ident_refs.specs.KeptRows.{KeptList, Kept, with_row}
-use Rattle.ident_refs.specs.KeptViews.{kept_of, kept_in, list_view, lists_view}
+use Rattle.ident_refs.specs.KeptViews.{kept_view, all_kept_view, list_view, lists_view}
 use Rattle.ident_refs.proofs.Splits.{split}
 
 -- ---- the keys of a row
@@ -61,16 +61,16 @@ pub keys_step : (g : KeptList → KeptList) (i : ℕ) (now old : List CodeList) 
 keys_step g i now old d new lt n inv = keys_suc g i now old d new lt n inv ∙ ap (λ (m : ℕ). Partly g m old) (sym (add-one i))
 
 -- ---- rows of tables
-pub row_set : (tables : List TableKeys) (place : ℕ) (d new : TableKeys) (r : Row) → place < length tables → kept_of new ≡ with_row r (kept_of (get_or tables place d))
-    → kept_in (set tables place new) ≡ row_at place r (kept_in tables)
+pub row_set : (tables : List TableKeys) (place : ℕ) (d new : TableKeys) (r : Row) → place < length tables → kept_view new ≡ with_row r (kept_view (get_or tables place d))
+    → all_kept_view (set tables place new) ≡ row_at place r (all_kept_view tables)
 row_set [] place d new r lt n = absurd (omega (arith, lt))
-row_set (y ∷ tables) zero d new r lt n = ap (λ (k : Kept). k ∷ kept_in tables) n
-row_set (y ∷ tables) (suc place) d new r lt n = ap (λ (ks : List Kept). kept_of y ∷ ks) (row_set tables place d new r (omega (arith, lt)) n)
+row_set (y ∷ tables) zero d new r lt n = ap (λ (k : Kept). k ∷ all_kept_view tables) n
+row_set (y ∷ tables) (suc place) d new r lt n = ap (λ (ks : List Kept). kept_view y ∷ ks) (row_set tables place d new r (omega (arith, lt)) n)
 
-pub row_beyond : (tables : List TableKeys) (place : ℕ) (r : Row) → length tables ≤ place → kept_in tables ≡ row_at place r (kept_in tables)
+pub row_beyond : (tables : List TableKeys) (place : ℕ) (r : Row) → length tables ≤ place → all_kept_view tables ≡ row_at place r (all_kept_view tables)
 row_beyond [] place r le = refl
 row_beyond (y ∷ tables) zero r le = absurd (omega (arith, le))
-row_beyond (y ∷ tables) (suc place) r le = ap (λ (ks : List Kept). kept_of y ∷ ks) (row_beyond tables place r (omega (arith, le)))
+row_beyond (y ∷ tables) (suc place) r le = ap (λ (ks : List Kept). kept_view y ∷ ks) (row_beyond tables place r (omega (arith, le)))
 
 pub rows_step : (place i : ℕ) (rows : List CodeRow) (r : CodeRow) (ks new start : List Kept) → i < length rows → r ≡ get_or rows i r → new ≡ row_at place (row_of r) ks
     → fed_rows place (drop i (rows_of rows)) ks ≡ start → fed_rows place (drop (i + 1) (rows_of rows)) new ≡ start
@@ -78,11 +78,11 @@ rows_step place i rows r ks new start lt at n inv =
     ap (fed_rows place (drop (i + 1) (rows_of rows))) n
     ∙ ap (λ (l : List Row). fed_rows place l ks) (sym (split row_of i rows r lt at).0) ∙ inv
 
-pub tables_step : (i : ℕ) (tables : List CodeTableRows) (t : CodeTableRows) (ks new start : List Kept) → i < length tables → t ≡ get_or tables i t → new ≡ fed_rows i (table_seen t) ks
-    → fed_tables i (drop i (tables_seen tables)) ks ≡ start → fed_tables (i + 1) (drop (i + 1) (tables_seen tables)) new ≡ start
+pub tables_step : (i : ℕ) (tables : List CodeTableRows) (t : CodeTableRows) (ks new start : List Kept) → i < length tables → t ≡ get_or tables i t → new ≡ fed_rows i (table_rows_of t) ks
+    → fed_tables i (drop i (tables_rows_of tables)) ks ≡ start → fed_tables (i + 1) (drop (i + 1) (tables_rows_of tables)) new ≡ start
 tables_step i tables t ks new start lt at n inv =
-    ap (fed_tables (i + 1) (drop (i + 1) (tables_seen tables))) n
-    ∙ ap (λ (l : List (List Row)). fed_tables i l ks) (sym (split table_seen i tables t lt at).0) ∙ inv
+    ap (fed_tables (i + 1) (drop (i + 1) (tables_rows_of tables))) n
+    ∙ ap (λ (l : List (List Row)). fed_tables i l ks) (sym (split table_rows_of i tables t lt at).0) ∙ inv
 
 -- ---- what two lists have at one place
 pub same_at : {X Y W Z : Type 0} (f : X → Z) (h : Y → W) (g : W → Z) (xs : List X) (ys : List Y) (i : ℕ) (x : X) (y : Y) → i < length ys → x ≡ get_or xs i x → y ≡ get_or ys i y

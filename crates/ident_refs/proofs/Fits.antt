@@ -18,7 +18,7 @@ use Rattle.field_values.specs.Readings.{units, value_or_zero, numbers_on, value_
 use Rattle.itf_reader.specs.Forms.{Vertex, Row}
 use Rattle.itf_reader.specs.RowFindings.{is_counted}
 use Rattle.itf_reader.specs.StrokeFindings.{is_sound_stroke}
-use Rattle.ident_refs.specs.ListValues.{Value, Corners, compared, form_value, columns_values, corner_of, line_value, lines_values, row_values, and_value, values_at, demand}
+use Rattle.ident_refs.specs.ListValues.{Value, Vertices, key_value, form_value, columns_values, key_vertex_of, line_value, lines_values, row_values, and_value, values_at, ident_values}
 use Rattle.ident_refs.proofs.Injective.{AreFit, AreFitCorners, IsFit, AllFit}
 
 fit_read : (bytes : List ℕ) (scale : ℕ) (r : Result ℤ DecimalFault) → Reads bytes scale r → FitsSigned w64 (value_or_zero r)
@@ -35,7 +35,7 @@ numbers_fit [] ws = tt
 numbers_fit (l ∷ ls) [] = tt
 numbers_fit (l ∷ ls) (w ∷ ws) = (units_fit l w, numbers_fit ls ws)
 
-value_fit : (form : Form) (words : List (List ℕ)) → IsFit (compared (value_of form words))
+value_fit : (form : Form) (words : List (List ℕ)) → IsFit (key_value (value_of form words))
 value_fit (model.Text n) words = tt
 value_fit model.Date words = tt
 value_fit (model.Enumeration n) words = tt
@@ -66,19 +66,19 @@ FitsList None = ⊤
 FitsList (Some vs) = AllFit vs
 
 form_fit : (codes : Codes) (form : Form) (words : List (List ℕ)) → FitsIfAny (form_value codes form words)
-form_fit codes form words = elim (is_none (field_fault form codes words)) as (λ b. FitsIfAny (cond b (Some (compared (value_of form words))) None)) [ true ↦ value_fit form words | false ↦ tt ]
+form_fit codes form words = elim (is_none (field_fault form codes words)) as (λ b. FitsIfAny (cond b (Some (key_value (value_of form words))) None)) [ true ↦ value_fit form words | false ↦ tt ]
 
 columns_fit : (codes : Codes) (cs : List Column) (words : List (List ℕ)) → FitIfAny (columns_values codes cs words)
 columns_fit codes [] words = tt
 columns_fit codes (c ∷ cs) words = (form_fit codes c.form (take (width c.form) words), columns_fit codes cs (drop (width c.form) words))
 
-corners_fit : (l : LineForm) (vs : List Vertex) → AreFitCorners (map (corner_of l) vs)
+corners_fit : (l : LineForm) (vs : List Vertex) → AreFitCorners (map (key_vertex_of l) vs)
 corners_fit l [] = tt
 corners_fit l (v ∷ vs) = (numbers_fit (line_axes l) v.fields, corners_fit l vs)
 
 line_fit : (role : Role) (l : LineForm) (vs : List Vertex) → FitsIfAny (line_value role l vs)
 line_fit role l [] = tt
-line_fit role l (v ∷ vs) = elim (is_sound_stroke role l (v ∷ vs)) as (λ b. FitsIfAny (cond b (Some (Corners (map (corner_of l) (v ∷ vs)))) None)) [ true ↦ corners_fit l (v ∷ vs) | false ↦ tt ]
+line_fit role l (v ∷ vs) = elim (is_sound_stroke role l (v ∷ vs)) as (λ b. FitsIfAny (cond b (Some (Vertices (map (key_vertex_of l) (v ∷ vs)))) None)) [ true ↦ corners_fit l (v ∷ vs) | false ↦ tt ]
 
 lines_fit : (role : Role) (ls : List LineForm) (ss : List (List Vertex)) → FitIfAny (lines_values role ls ss)
 lines_fit role [] ss = tt
@@ -103,7 +103,7 @@ values_fit : (os : List (Option Value)) (ps : List ℕ) → FitIfAny os → Fits
 values_fit os [] f = tt
 values_fit os (p ∷ ps) f = and_fit (slice_index_or os p None) (values_at os ps) (fit_at os p f) (values_fit os ps f)
 
-pub demand_fit : (codes : Codes) (t : Table) (list : List ℕ) (r : Row) → FitsList (demand codes t list r)
+pub demand_fit : (codes : Codes) (t : Table) (list : List ℕ) (r : Row) → FitsList (ident_values codes t list r)
 demand_fit codes t list r = elim (is_counted t r) as (λ b. FitsList (cond b (values_at (row_values codes t r) list) None)) [
   | true ↦ values_fit (row_values codes t r) list (both_fit _ _ (columns_fit codes t.columns (drop 1 r.fields)) (lines_fit t.role t.lines r.strokes))
   | false ↦ tt

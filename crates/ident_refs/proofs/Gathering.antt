@@ -3,11 +3,11 @@ use Rattle.std.proofs.Common.{List, [], ◌∷◌, ◌++◌, Option, Some, None,
 use Rattle.std.proofs.lemmas.List.{map-append}
 use Rattle.std.specs.Prelude.{slice_index_or, if◌then◌else◌}
 use Rattle.std.specs.Option.{option_map}
-use Rattle.ident_refs.specs.declared.compared.Value.{Value as CodeValue}
-use Rattle.ident_refs.specs.Compared.{value_view, values_view}
+use Rattle.ident_refs.specs.declared.key_values.Value.{Value as CodeValue}
+use Rattle.ident_refs.specs.ValueViews.{value_view, values_view}
 use Rattle.ident_refs.specs.ListValues.{Value, and_value, values_at}
 
--- the values behind some others
+-- the values after some others
 abbrev pub joined : List Value → Option (List Value) → Option (List Value)
 joined vs o = option_map (λ (ws : List Value). vs ++ ws) o
 

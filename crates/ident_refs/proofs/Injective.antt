@@ -12,8 +12,8 @@ use Rattle.std.proofs.lemmas.Bool.Decides.{Decides-int_eq}
 use Rattle.std.proofs.lemmas.Slice.Eq.{bytes_eq-Decides, slice_eq-Decides}
 use Rattle.itf_reader.specs.Forms.{Kind, Start, Straight, OnArc}
 use Rattle.field_values.specs.Places.{is_same}
-use Rattle.ident_refs.specs.ListValues.{Corner, Value, Numbers, Bytes, Corners, is_same_kind, is_same_corner, is_same_value}
-use Rattle.ident_refs.specs.KeyBytes.{number_code, numbers_code, kind_code, corners_code, value_code, byte_code, ended, part_code, list_code}
+use Rattle.ident_refs.specs.ListValues.{KeyVertex, Value, Numbers, Bytes, Vertices, is_same_kind, is_same_vertex, is_same_value}
+use Rattle.ident_refs.specs.KeyBytes.{number_code, numbers_code, kind_code, key_vertices_code, value_code, byte_code, with_end, part_code, list_code}
 
 heads : (x y : ℕ) (xs ys : List ℕ) → x ∷ xs ≡ y ∷ ys → (x ≡ y) × (xs ≡ ys)
 heads x y xs ys e = (cc, cc)
@@ -82,7 +82,7 @@ numbers_apart (m ∷ ms) (n ∷ ns) a b f g l e =
     (ap (λ (x : ℤ). x ∷ ms) r.0 ∙ ap (λ (xs : List ℤ). n ∷ xs) s.0, s.1)
 
 -- ---- vertices
-abbrev pub AreFitCorners : List Corner → Type 0
+abbrev pub AreFitCorners : List KeyVertex → Type 0
 AreFitCorners [] = ⊤
 AreFitCorners (c ∷ cs) = AreFit c.numbers × AreFitCorners cs
 
@@ -97,27 +97,27 @@ kind_back OnArc Start e = absurd cc
 kind_back OnArc Straight e = absurd cc
 kind_back OnArc OnArc e = refl
 
-corners_back : (cs ds : List Corner) → AreFitCorners cs → AreFitCorners ds → corners_code cs ≡ corners_code ds → cs ≡ ds
+corners_back : (cs ds : List KeyVertex) → AreFitCorners cs → AreFitCorners ds → key_vertices_code cs ≡ key_vertices_code ds → cs ≡ ds
 corners_back [] [] f g e = refl
 corners_back [] (d ∷ ds) f g e = absurd cc
 corners_back (c ∷ cs) [] f g e = absurd cc
 corners_back (c ∷ cs) (d ∷ ds) f g e =
     let k = heads (kind_code c.kind) (kind_code d.kind) _ _ e in
     let l = heads (length c.numbers) (length d.numbers) _ _ k.1 in
-    let n = numbers_apart c.numbers d.numbers (corners_code cs) (corners_code ds) f.0 g.0 l.0 l.1 in
+    let n = numbers_apart c.numbers d.numbers (key_vertices_code cs) (key_vertices_code ds) f.0 g.0 l.0 l.1 in
     let s = corners_back cs ds f.1 g.1 n.1 in
-    ap (λ (x : Kind). corner x c.numbers ∷ cs) (kind_back c.kind d.kind k.0)
-    ∙ ap (λ (x : List ℤ). corner d.kind x ∷ cs) n.0
-    ∙ ap (λ (xs : List Corner). d ∷ xs) s
+    ap (λ (x : Kind). key_vertex x c.numbers ∷ cs) (kind_back c.kind d.kind k.0)
+    ∙ ap (λ (x : List ℤ). key_vertex d.kind x ∷ cs) n.0
+    ∙ ap (λ (xs : List KeyVertex). d ∷ xs) s
   where
-    corner : Kind → List ℤ → Corner
-    corner k n = record { kind = k; numbers = n }
+    key_vertex : Kind → List ℤ → KeyVertex
+    key_vertex k n = record { kind = k; numbers = n }
 
 -- ---- values
 abbrev pub IsFit : Value → Type 0
 IsFit (Numbers ns) = AreFit ns
 IsFit (Bytes word) = ⊤
-IsFit (Corners cs) = AreFitCorners cs
+IsFit (Vertices cs) = AreFitCorners cs
 
 abbrev pub AllFit : List Value → Type 0
 AllFit [] = ⊤
@@ -126,13 +126,13 @@ AllFit (v ∷ vs) = IsFit v × AllFit vs
 value_back : (v w : Value) → IsFit v → IsFit w → value_code v ≡ value_code w → v ≡ w
 value_back (Numbers ms) (Numbers ns) f g e = ap Numbers (numbers_back ms ns f g (heads 0 0 _ _ e).1)
 value_back (Numbers ms) (Bytes b) f g e = absurd cc
-value_back (Numbers ms) (Corners ds) f g e = absurd cc
+value_back (Numbers ms) (Vertices ds) f g e = absurd cc
 value_back (Bytes a) (Numbers ns) f g e = absurd cc
 value_back (Bytes a) (Bytes b) f g e = ap Bytes (heads 1 1 _ _ e).1
-value_back (Bytes a) (Corners ds) f g e = absurd cc
-value_back (Corners cs) (Numbers ns) f g e = absurd cc
-value_back (Corners cs) (Bytes b) f g e = absurd cc
-value_back (Corners cs) (Corners ds) f g e = ap Corners (corners_back cs ds f g (heads 2 2 _ _ e).1)
+value_back (Bytes a) (Vertices ds) f g e = absurd cc
+value_back (Vertices cs) (Numbers ns) f g e = absurd cc
+value_back (Vertices cs) (Bytes b) f g e = absurd cc
+value_back (Vertices cs) (Vertices ds) f g e = ap Vertices (corners_back cs ds f g (heads 2 2 _ _ e).1)
 
 -- ---- lists of values
 part_apart : (v w : Value) (a b : List ℕ) → IsFit v → IsFit w → part_code v ++ a ≡ part_code w ++ b → (v ≡ w) × (a ≡ b)
@@ -140,7 +140,7 @@ part_apart v w a b f g e =
     let r = ended_apart (value_code v) (value_code w) a b (sym (append_assoc (flat_map byte_code (value_code v)) _ a) ∙ (e ∙ append_assoc (flat_map byte_code (value_code w)) _ b)) in
     (value_back v w f g r.0, r.1)
 
-not_ended : (w a : List ℕ) → [] ≡ ended w ++ a → ⊥
+not_ended : (w a : List ℕ) → [] ≡ with_end w ++ a → ⊥
 not_ended [] a e = no_head 0 _ e
 not_ended (zero ∷ w) a e = no_head 0 _ e
 not_ended (suc n ∷ w) a e = no_head (suc n) _ e
@@ -157,7 +157,7 @@ parts_back (v ∷ vs) (w ∷ ws) f g e =
 not_three : (v : Value) (a : List ℕ) → value_code v ≡ 3 ∷ a → ⊥
 not_three (Numbers ns) a e = cc
 not_three (Bytes b) a e = cc
-not_three (Corners cs) a e = cc
+not_three (Vertices cs) a e = cc
 
 pub list_back : (vs ws : List Value) → AllFit vs → AllFit ws → list_code vs ≡ list_code ws → vs ≡ ws
 list_back [] [] f g e = refl
@@ -195,31 +195,31 @@ kind_tells OnArc OnArc = (λ e. refl, λ e. refl)
 numbers_tell : (ms ns : List ℤ) → Decides (pointwise is_same ms ns) (ms ≡ ns)
 numbers_tell ms ns = slice_eq-Decides is_same_tells ms ns (pointwise is_same ms ns) refl
 
-corner_tells : (c d : Corner) → Decides (is_same_corner c d) (c ≡ d)
+corner_tells : (c d : KeyVertex) → Decides (is_same_vertex c d) (c ≡ d)
 corner_tells c d = (
   λ e.
       let b = both_true (is_same_kind c.kind d.kind) (pointwise is_same c.numbers d.numbers) e in
       let k : c.kind ≡ d.kind = (kind_tells c.kind d.kind).0 b.0 in
       let n : c.numbers ≡ d.numbers = (numbers_tell c.numbers d.numbers).0 b.1 in
-      ap (λ (x : Kind). corner x c.numbers) k ∙ ap (λ (x : List ℤ). corner d.kind x) n,
-  λ e. ap (λ (x : Corner). is_same_corner c x) (sym e) ∙ (ap (λ (b : Bool). b && pointwise is_same c.numbers c.numbers) ((kind_tells c.kind c.kind).1 refl) ∙ (numbers_tell c.numbers c.numbers).1 refl),
+      ap (λ (x : Kind). key_vertex x c.numbers) k ∙ ap (λ (x : List ℤ). key_vertex d.kind x) n,
+  λ e. ap (λ (x : KeyVertex). is_same_vertex c x) (sym e) ∙ (ap (λ (b : Bool). b && pointwise is_same c.numbers c.numbers) ((kind_tells c.kind c.kind).1 refl) ∙ (numbers_tell c.numbers c.numbers).1 refl),
 )
   where
-    corner : Kind → List ℤ → Corner
-    corner k n = record { kind = k; numbers = n }
+    key_vertex : Kind → List ℤ → KeyVertex
+    key_vertex k n = record { kind = k; numbers = n }
 
 value_tells : (v w : Value) → Decides (is_same_value v w) (v ≡ w)
 value_tells (Numbers ms) (Numbers ns) = (λ e. ap Numbers ((numbers_tell ms ns).0 e), λ e. (numbers_tell ms ns).1 cc)
 value_tells (Numbers ms) (Bytes b) = (λ e. absurd cc, λ e. absurd cc)
-value_tells (Numbers ms) (Corners ds) = (λ e. absurd cc, λ e. absurd cc)
+value_tells (Numbers ms) (Vertices ds) = (λ e. absurd cc, λ e. absurd cc)
 value_tells (Bytes a) (Numbers ns) = (λ e. absurd cc, λ e. absurd cc)
 value_tells (Bytes a) (Bytes b) = (λ e. ap Bytes ((bytes_eq-Decides a b).0 e), λ e. (bytes_eq-Decides a b).1 cc)
-value_tells (Bytes a) (Corners ds) = (λ e. absurd cc, λ e. absurd cc)
-value_tells (Corners cs) (Numbers ns) = (λ e. absurd cc, λ e. absurd cc)
-value_tells (Corners cs) (Bytes b) = (λ e. absurd cc, λ e. absurd cc)
-value_tells (Corners cs) (Corners ds) =
-    let t : Decides (pointwise is_same_corner cs ds) (cs ≡ ds) = slice_eq-Decides corner_tells cs ds (pointwise is_same_corner cs ds) refl in
-    (λ e. ap Corners (t.0 e), λ e. t.1 cc)
+value_tells (Bytes a) (Vertices ds) = (λ e. absurd cc, λ e. absurd cc)
+value_tells (Vertices cs) (Numbers ns) = (λ e. absurd cc, λ e. absurd cc)
+value_tells (Vertices cs) (Bytes b) = (λ e. absurd cc, λ e. absurd cc)
+value_tells (Vertices cs) (Vertices ds) =
+    let t : Decides (pointwise is_same_vertex cs ds) (cs ≡ ds) = slice_eq-Decides corner_tells cs ds (pointwise is_same_vertex cs ds) refl in
+    (λ e. ap Vertices (t.0 e), λ e. t.1 cc)
 
 values_tell : (vs ws : List Value) → Decides (pointwise is_same_value vs ws) (vs ≡ ws)
 values_tell vs ws = slice_eq-Decides value_tells vs ws (pointwise is_same_value vs ws) refl

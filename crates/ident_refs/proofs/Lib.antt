@@ -7,13 +7,13 @@ pub mod KeptKeys
 pub mod KeptRefs
 pub mod KeptTables
 pub mod FedTransfer
-pub mod Corners
+pub mod KeyVertices
 pub mod FeedSteps
 pub mod SoundVertices
 pub mod SpanLaws
 pub mod RowValues
 pub mod LineLaws
 pub mod Gathering
-pub mod Told
+pub mod SameAnswers
 pub mod FlatSteps
 pub mod AllMapped

@@ -8,7 +8,7 @@ use Rattle.table_layout.specs.Layouts.{Table}
 use Rattle.itf_reader.specs.Forms.{Vertex, Row}
 use Rattle.field_values.specs.Fields.{width}
 use Rattle.itf_reader.specs.RowFindings.{widths, is_counted}
-use Rattle.ident_refs.specs.declared.sheet.Span.{Span as CodeSpan}
+use Rattle.ident_refs.specs.declared.key_reader.Span.{Span as CodeSpan}
 use Rattle.ident_refs.specs.ListValues.{form_value, columns_values, lines_values, row_values}
 use Rattle.ident_refs.specs.Spans.{span_view, spans_from}
 use Rattle.ident_refs.proofs.SpanLaws.{IsSpan, spans_count, columns_values_length}

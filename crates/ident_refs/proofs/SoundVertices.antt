@@ -11,7 +11,7 @@ use Rattle.itf_reader.specs.declared.transfer.Vertex.{Vertex as CodeVertex}
 use Rattle.itf_reader.specs.Forms.{Kind, Vertex}
 use Rattle.itf_reader.specs.Views.{vertex_of, vertices_of}
 use Rattle.itf_reader.specs.StrokeFindings.{code_of, first_code, is_clean, are_clean, is_whole, all_seen, is_sound_stroke}
-use Rattle.ident_refs.specs.ListValues.{Corner, Value, compared, corner_of}
+use Rattle.ident_refs.specs.ListValues.{KeyVertex, Value, key_value, key_vertex_of}
 
 unbroken : (o : Option ValueFault) (rest : Option Code) → is_none (first_code (option_map code_of o) rest) ≡ true → o ≡ None
 unbroken None rest h = refl
@@ -37,12 +37,12 @@ same_value None a v h = cc
 same_value (Some f) a v h = cc
 
 pub corner_read : (l : LineForm) (v : Vertex) (lent : List (List ℕ)) (ns : List ℤ) → lent ≡ v.fields → Ok ns ≡ reading (vertex_fault l lent) (numbers_on (line_axes l) lent)
-    → ◌≡◌ {A = Corner} (record { kind = v.kind; numbers = ns }) (corner_of l v)
+    → ◌≡◌ {A = KeyVertex} (record { kind = v.kind; numbers = ns }) (key_vertex_of l v)
 corner_read l v lent ns e r =
     let n = same_value (vertex_fault l lent) (numbers_on (line_axes l) lent) ns r in
     ap (λ (m : List ℤ). the_corner v.kind m) (n ∙ ap (λ (fs : List (List ℕ)). numbers_on (line_axes l) fs) e)
   where
-    the_corner : Kind → List ℤ → Corner
+    the_corner : Kind → List ℤ → KeyVertex
     the_corner k m = record { kind = k; numbers = m }
 
 pub never : (o : Option ValueFault) (f : ValueFault) (a : List ℤ) → o ≡ None → Err f ≡ reading o a → ⊥
@@ -53,14 +53,14 @@ pub never_at : (l : LineForm) (fields lent : List (List ℕ)) (f : ValueFault) �
 never_at l fields lent f e s h = never (vertex_fault l lent) f (numbers_on (line_axes l) lent) (ap (λ (fs : List (List ℕ)). vertex_fault l fs) s ∙ e) h
 
 -- ---- columns
-pub value_ok : (o : Option ValueFault) (a v : FieldValue) → Ok v ≡ reading o a → Some (compared v) ≡ cond (is_none o) (Some (compared a)) None
+pub value_ok : (o : Option ValueFault) (a v : FieldValue) → Ok v ≡ reading o a → Some (key_value v) ≡ cond (is_none o) (Some (key_value a)) None
 value_ok None a v h = ap (λ (r : Result FieldValue ValueFault). compared_in a r) h
   where
     compared_in : FieldValue → Result FieldValue ValueFault → Option Value
-    compared_in d (Ok v) = Some (compared v)
-    compared_in d (Err f) = Some (compared d)
+    compared_in d (Ok v) = Some (key_value v)
+    compared_in d (Err f) = Some (key_value d)
 value_ok (Some f) a v h = cc
 
-pub value_err : (o : Option ValueFault) (a : FieldValue) (f : ValueFault) → Err f ≡ reading o a → None ≡ cond (is_none o) (Some (compared a)) None
+pub value_err : (o : Option ValueFault) (a : FieldValue) (f : ValueFault) → Err f ≡ reading o a → None ≡ cond (is_none o) (Some (key_value a)) None
 value_err None a f h = cc
 value_err (Some g) a f h = refl

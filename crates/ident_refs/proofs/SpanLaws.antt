@@ -1,4 +1,4 @@
--- What stands at the spans of columns.
+-- The words at the spans of columns.
 use Rattle.std.proofs.Common.{◌≡◌, ℕ, zero, suc, ◌+◌, ◌-◌, ◌<◌, ◌≤◌, List, [], ◌∷◌, ◌++◌, length, take, drop, map, get_or, slice_get, slice_index_or, Option, Some, None, refl, sym, ap, subst, ◌∙◌, arith, append_assoc}
 use Rattle.std.specs.Bool.{⊤}
 use Rattle.std.proofs.lemmas.List.{drop-drop, length-map}
@@ -12,7 +12,7 @@ use Rattle.table_layout.specs.Values.{column_view, columns_view}
 use Rattle.field_values.specs.Fields.{width}
 use Rattle.itf_reader.specs.RowFindings.{widths}
 use Rattle.ident_refs.specs.ListValues.{form_value, columns_values}
-use Rattle.ident_refs.specs.declared.sheet.Span.{Span as CodeSpan}
+use Rattle.ident_refs.specs.declared.key_reader.Span.{Span as CodeSpan}
 use Rattle.ident_refs.specs.Spans.{Span, span_view, spans_from}
 use Rattle.ident_refs.proofs.Splits.{split}
 

@@ -23,19 +23,19 @@ abbrev pub fed_rows : ℕ → List Row → List Kept → List Kept
 fed_rows place [] ks = ks
 fed_rows place (r ∷ rows) ks = fed_rows place rows (row_at place r ks)
 
--- the rows of some tables, the first of which stands at a place
+-- the rows of some tables, the first of which has that place
 abbrev pub fed_tables : ℕ → List (List Row) → List Kept → List Kept
 fed_tables place [] ks = ks
 fed_tables place (rows ∷ tables) ks = fed_tables (place + 1) tables (fed_rows place rows ks)
 
 -- the same rows, each with the number of its table
-abbrev pub numbered : ℕ → List Row → List (ℕ × Row)
-numbered n rows = map (λ r. (n, r)) rows
+abbrev pub with_number : ℕ → List Row → List (ℕ × Row)
+with_number n rows = map (λ r. (n, r)) rows
 
 abbrev pub all_rows : ℕ → List (List Row) → List (ℕ × Row)
 all_rows n [] = []
-all_rows n (rows ∷ tables) = numbered n rows ++ all_rows (n + 1) tables
+all_rows n (rows ∷ tables) = with_number n rows ++ all_rows (n + 1) tables
 
--- what is wrong with the keys and references of rows that came one after another, each with the number of its table
+-- what is wrong with the keys and references of rows that are fed one after another, each with the number of its table
 abbrev pub fed_keys : Layout → List (ℕ × Row) → List Finding
 fed_keys l rows = tables_keys l.codes (by_table (form_of l) rows) l.tables (by_table (form_of l) rows)

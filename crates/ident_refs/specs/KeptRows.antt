@@ -1,4 +1,4 @@
--- What is kept of the rows of a table: their lines, the keys that tell them apart, and the words that name other rows.
+-- What is kept of the rows of a table: their lines, their keys, and the words that name other rows.
 use Rattle.std.specs.Prelude.{ℕ, ◌+◌, List, [], ◌∷◌, ◌++◌, map, take, drop, slice_index_or, Option, Some, None, if◌then◌else◌}
 use Rattle.std.specs.List.{flat_map, list_any}
 use Rattle.std.specs.Option.{option_map}
@@ -13,8 +13,8 @@ use Rattle.itf_reader.specs.Forms.{Row}
 use Rattle.itf_reader.specs.ClosedRows.{of_table}
 use Rattle.itf_reader.specs.RowFindings.{is_counted}
 use Rattle.ident_refs.specs.KeyBytes.{list_code, word_code}
-use Rattle.ident_refs.specs.KeyFindings.{column_of, referred}
-use Rattle.ident_refs.specs.ListValues.{demand}
+use Rattle.ident_refs.specs.KeyFindings.{column_of, referred_table}
+use Rattle.ident_refs.specs.ListValues.{ident_values}
 use Rattle.ident_refs.specs.Rows.{identification}
 
 -- ---- the keys of a row
@@ -22,7 +22,7 @@ abbrev pub id_key : Row → Option (List ℕ)
 id_key r = option_map word_code (identification r)
 
 abbrev pub list_key : Codes → Table → List ℕ → Row → Option (List ℕ)
-list_key codes t list r = option_map list_code (demand codes t list r)
+list_key codes t list r = option_map list_code (ident_values codes t list r)
 
 -- ---- the references of a row
 -- the line of its row, its column, its table, and the key of the identification that it names
@@ -44,7 +44,7 @@ column_refs codes line number (Some k) words = word_refs codes line number k wor
 abbrev pub columns_refs : Codes → ℕ → ℕ → List Column → List (List ℕ) → List Ref
 columns_refs codes line number [] words = []
 columns_refs codes line number (c ∷ cs) words =
-    column_refs codes line number (referred c.form) (take (width c.form) words) ++ columns_refs codes line (number + 1) cs (drop (width c.form) words)
+    column_refs codes line number (referred_table c.form) (take (width c.form) words) ++ columns_refs codes line (number + 1) cs (drop (width c.form) words)
 
 abbrev pub row_refs : Codes → Table → Row → List Ref
 row_refs codes t r = if is_counted t r then columns_refs codes r.line 1 t.columns (drop 1 r.fields) else []
@@ -73,8 +73,8 @@ kept_list codes t rows list = record { column = column_of list; places = list; k
 abbrev pub kept_lists : Codes → Table → List Row → List (List ℕ) → List KeptList
 kept_lists codes t rows lists = map (kept_list codes t rows) lists
 
-abbrev pub kept : Codes → Table → List Row → Kept
-kept codes t rows = record {
+abbrev pub kept_table : Codes → Table → List Row → Kept
+kept_table codes t rows = record {
   codes = codes;
   table = t;
   lines = map row_line rows;
@@ -84,7 +84,7 @@ kept codes t rows = record {
 }
 
 abbrev pub no_rows : Codes → Table → Kept
-no_rows codes t = kept codes t []
+no_rows codes t = kept_table codes t []
 
 -- one more row
 abbrev pub with_key : Codes → Table → Row → KeptList → KeptList
@@ -100,10 +100,10 @@ with_row r k = record {
   refs = k.refs ++ row_refs k.codes k.table r;
 }
 
--- ---- the rows of all tables, which came one after another, each with the number of its table
+-- ---- the rows of all tables, fed one after another, each with the number of its table
 abbrev pub kept_from : Codes → ℕ → List Table → List (ℕ × Row) → List Kept
 kept_from codes n [] rows = []
-kept_from codes n (t ∷ ts) rows = kept codes t (of_table n rows) ∷ kept_from codes (n + 1) ts rows
+kept_from codes n (t ∷ ts) rows = kept_table codes t (of_table n rows) ∷ kept_from codes (n + 1) ts rows
 
 abbrev pub kept_rows : Layout → List (ℕ × Row) → List Kept
 kept_rows l rows = kept_from l.codes 0 l.tables rows
@@ -114,10 +114,10 @@ abbrev pub cell_key : Option (List ℕ) → Option (List ℕ)
 cell_key key = key
 
 -- lines and keys of some rows, no key where there are fewer keys
-abbrev pub zipped : List ℕ → List (Option (List ℕ)) → List (ℕ × Option (List ℕ))
-zipped [] keys = []
-zipped (line ∷ lines) [] = (line, None) ∷ zipped lines []
-zipped (line ∷ lines) (key ∷ keys) = (line, key) ∷ zipped lines keys
+abbrev pub zip_keys : List ℕ → List (Option (List ℕ)) → List (ℕ × Option (List ℕ))
+zip_keys [] keys = []
+zip_keys (line ∷ lines) [] = (line, None) ∷ zip_keys lines []
+zip_keys (line ∷ lines) (key ∷ keys) = (line, key) ∷ zip_keys lines keys
 
 -- the line of the first of some rows that has a key
 abbrev pub first_line : Option (List ℕ) → List (ℕ × Option (List ℕ)) → Option ℕ
@@ -129,26 +129,26 @@ abbrev pub repeat : Code → ℕ → ℕ → Option ℕ → List Finding
 repeat code column line None = []
 repeat code column line (Some first) = record { line = line; column = column; code = code; other = Line first } ∷ []
 
--- rows behind some others: each whose key a row before it has, with the line of the first of these
+-- rows after some others: each whose key repeats that of an earlier row, with the line of the first of these
 abbrev pub repeats : Code → ℕ → List (ℕ × Option (List ℕ)) → List (ℕ × Option (List ℕ)) → List Finding
 repeats code column before [] = []
 repeats code column before (r ∷ rows) = repeat code column r.0 (first_line r.1 before) ++ repeats code column (before ++ r ∷ []) rows
 
 -- a reference whose key is no identification of its table
-abbrev pub dangling : List (List (Option (List ℕ))) → Ref → Option (List ℕ) → List Finding
-dangling ids r None = []
-dangling ids r (Some key) =
+abbrev pub dangling_finding : List (List (Option (List ℕ))) → Ref → Option (List ℕ) → List Finding
+dangling_finding ids r None = []
+dangling_finding ids r (Some key) =
     if list_any (is_key key) (slice_index_or ids r.table []) then [] else record { line = r.line; column = r.column; code = Reference; other = Word (drop 1 key) } ∷ []
 
 abbrev pub ref_findings : List (List (Option (List ℕ))) → Ref → List Finding
-ref_findings ids r = dangling ids r r.word
+ref_findings ids r = dangling_finding ids r r.word
 
 abbrev pub list_findings : List ℕ → KeptList → List Finding
-list_findings lines l = repeats Ident l.column [] (zipped lines l.keys)
+list_findings lines l = repeats Ident l.column [] (zip_keys lines l.keys)
 
 -- by the identifications of all tables
-abbrev pub table_told : List (List (Option (List ℕ))) → Kept → List Finding
-table_told ids k = repeats Tid 0 [] (zipped k.lines k.ids) ++ (flat_map (list_findings k.lines) k.lists ++ flat_map (ref_findings ids) k.refs)
+abbrev pub kept_findings : List (List (Option (List ℕ))) → Kept → List Finding
+kept_findings ids k = repeats Tid 0 [] (zip_keys k.lines k.ids) ++ (flat_map (list_findings k.lines) k.lists ++ flat_map (ref_findings ids) k.refs)
 
 abbrev pub ids_of : Kept → List (Option (List ℕ))
 ids_of k = k.ids
@@ -162,5 +162,5 @@ lines_of k = k.lines
 abbrev pub all_lines : List Kept → List (List ℕ)
 all_lines ks = map lines_of ks
 
-abbrev pub all_told : List Kept → List Finding
-all_told ks = flat_map (table_told (all_ids ks)) ks
+abbrev pub all_kept_findings : List Kept → List Finding
+all_kept_findings ks = flat_map (kept_findings (all_ids ks)) ks

@@ -23,26 +23,26 @@ list_view l = record { column = l.column; places = l.places.now; keys = l.keys.i
 abbrev pub lists_view : List CodeList → List KeptList
 lists_view ls = map list_view ls
 
-abbrev pub kept_of : TableKeys → Kept
-kept_of t = record {
-  codes = codes_of t.sheet.codes.now;
-  table = table_view t.sheet.table.now;
+abbrev pub kept_view : TableKeys → Kept
+kept_view t = record {
+  codes = codes_of t.reader.codes.now;
+  table = table_view t.reader.table.now;
   lines = t.lines.items;
   ids = t.ids.items;
   lists = lists_view t.lists.items;
   refs = refs_view t.refs.items;
 }
 
-abbrev pub kept_in : List TableKeys → List Kept
-kept_in ts = map kept_of ts
+abbrev pub all_kept_view : List TableKeys → List Kept
+all_kept_view ts = map kept_view ts
 
 -- the identifications of all tables
-abbrev pub ids_in : List KeyColumn → List (List (Option (List ℕ)))
-ids_in columns = map (λ (c : KeyColumn). c.keys.now) columns
+abbrev pub ids_view : List KeyColumn → List (List (Option (List ℕ)))
+ids_view columns = map (λ (c : KeyColumn). c.keys.now) columns
 
-abbrev pub lines_in : List KeyColumn → List (List ℕ)
-lines_in columns = map (λ (c : KeyColumn). c.lines.now) columns
+abbrev pub row_lines_view : List KeyColumn → List (List ℕ)
+row_lines_view columns = map (λ (c : KeyColumn). c.lines.now) columns
 
 -- the feed has taken these rows of a layout's tables, each with the number of its table
 abbrev pub HasRows : Layout → KeyFeed → List (ℕ × Row) → Type 0
-HasRows l feed rows = kept_in feed.tables.items ≡ kept_rows l rows
+HasRows l feed rows = all_kept_view feed.tables.items ≡ kept_rows l rows

@@ -1,9 +1,9 @@
--- Keys as bytes, so that rows are told apart by the bytes of one key.
+-- Keys as bytes: two rows have one key exactly where they have the same values.
 use Rattle.std.specs.Prelude.{ℕ, zero, suc, ℤ, List, [], ◌∷◌, ◌++◌, length, Option, Some, None}
 use Rattle.std.specs.List.{flat_map}
 use Rattle.std.specs.Int.{w64, to_be_bytes, cast_unsigned}
 use Rattle.itf_reader.specs.Forms.{Kind, Start, Straight, OnArc}
-use Rattle.ident_refs.specs.ListValues.{Corner, Value, Numbers, Bytes, Corners}
+use Rattle.ident_refs.specs.ListValues.{KeyVertex, Value, Numbers, Bytes, Vertices}
 
 -- ---- numbers, vertices and words
 unfoldable pub number_code : ℤ → List ℕ
@@ -17,28 +17,28 @@ kind_code Start = 0
 kind_code Straight = 1
 kind_code OnArc = 2
 
-abbrev pub corner_code : Corner → List ℕ
-corner_code c = kind_code c.kind ∷ length c.numbers ∷ numbers_code c.numbers
+abbrev pub key_vertex_code : KeyVertex → List ℕ
+key_vertex_code c = kind_code c.kind ∷ length c.numbers ∷ numbers_code c.numbers
 
-abbrev pub corners_code : List Corner → List ℕ
-corners_code cs = flat_map corner_code cs
+abbrev pub key_vertices_code : List KeyVertex → List ℕ
+key_vertices_code cs = flat_map key_vertex_code cs
 
 -- ---- values
 abbrev pub value_code : Value → List ℕ
 value_code (Numbers ns) = 0 ∷ numbers_code ns
 value_code (Bytes word) = 1 ∷ word
-value_code (Corners cs) = 2 ∷ corners_code cs
+value_code (Vertices cs) = 2 ∷ key_vertices_code cs
 
--- bytes that are told from what stands behind them: a zero byte is followed by a one, and two zero bytes end them
+-- bytes with an end mark: a zero byte is followed by a one, and two zero bytes end them
 abbrev pub byte_code : ℕ → List ℕ
 byte_code zero = 0 ∷ 1 ∷ []
 byte_code (suc b) = suc b ∷ []
 
-abbrev pub ended : List ℕ → List ℕ
-ended bytes = flat_map byte_code bytes ++ 0 ∷ 0 ∷ []
+abbrev pub with_end : List ℕ → List ℕ
+with_end bytes = flat_map byte_code bytes ++ 0 ∷ 0 ∷ []
 
 abbrev pub part_code : Value → List ℕ
-part_code v = ended (value_code v)
+part_code v = with_end (value_code v)
 
 -- ---- lists of values
 abbrev pub list_code : List Value → List ℕ

@@ -1,4 +1,4 @@
--- Identifications and IDENT values that stand already in a table, and references that name no row.
+-- Identifications and IDENT values that an earlier row of the table has, and references that name no row.
 use Rattle.std.specs.Prelude.{ℕ, ◌+◌, Bool, not, ◌&&◌, if◌then◌else◌, List, [], ◌∷◌, ◌++◌, take, drop, slice_index_or, Option, Some, None}
 use Rattle.std.specs.List.{flat_map, list_any}
 use Rattle.ili_grammar.specs.Syntax.{Codes}
@@ -12,34 +12,34 @@ use Rattle.itf_reader.specs.Forms.{Row}
 use Rattle.field_values.specs.Fields.{is_undefined, width}
 use Rattle.itf_reader.specs.RowFindings.{is_counted}
 use Rattle.ident_refs.specs.Rows.{identification, has_identification, first_such}
-use Rattle.ident_refs.specs.ListValues.{demand, is_same_demand}
+use Rattle.ident_refs.specs.ListValues.{ident_values, are_same_values}
 
--- a finding in a line, where another row came first
-abbrev pub clash : Code → ℕ → Row → Option Row → List Finding
-clash code column r None = []
-clash code column r (Some first) = record { line = r.line; column = column; code = code; other = Line first.line } ∷ []
+-- a finding of a row, where an earlier row has the same key
+abbrev pub duplicate : Code → ℕ → Row → Option Row → List Finding
+duplicate code column r None = []
+duplicate code column r (Some first) = record { line = r.line; column = column; code = code; other = Line first.line } ∷ []
 
 -- ---- identifications
 abbrev pub first_named : Option (List ℕ) → List Row → Option Row
 first_named None rows = None
 first_named (Some word) rows = first_such (has_identification word) rows
 
--- rows behind some others of their table: each whose identification a row before it has, with the first of these
+-- rows after some others of their table: each whose identification an earlier row has, with the first of these
 abbrev pub tid_findings : List Row → List Row → List Finding
 tid_findings before [] = []
-tid_findings before (r ∷ rows) = clash Tid 0 r (first_named (identification r) before) ++ tid_findings (before ++ r ∷ []) rows
+tid_findings before (r ∷ rows) = duplicate Tid 0 r (first_named (identification r) before) ++ tid_findings (before ++ r ∷ []) rows
 
 -- ---- IDENT lists
--- the column of a place in a list, counted from 1: those of lines stand behind those of columns
+-- the column of a place in a list, counted from 1: those of lines come after those of columns
 abbrev pub column_of : List ℕ → ℕ
 column_of [] = 0
 column_of (place ∷ places) = place + 1
 
--- rows behind some others of their table: each that demands what a row before it demands
+-- rows after some others of their table: each whose values by the list an earlier row has
 abbrev pub ident_findings : Codes → Table → List ℕ → List Row → List Row → List Finding
 ident_findings codes t list before [] = []
 ident_findings codes t list before (r ∷ rows) =
-    clash Ident (column_of list) r (first_such (λ other. is_same_demand (demand codes t list r) (demand codes t list other)) before)
+    duplicate Ident (column_of list) r (first_such (λ other. are_same_values (ident_values codes t list r) (ident_values codes t list other)) before)
     ++ ident_findings codes t list (before ++ r ∷ []) rows
 
 -- ---- references
@@ -48,9 +48,9 @@ abbrev pub names_a_row : List ℕ → List Row → Bool
 names_a_row word rows = list_any (has_identification word) rows
 
 -- the table that a column refers to
-abbrev pub referred : Form → Option ℕ
-referred (model.Reference k) = Some k
-referred f = None
+abbrev pub referred_table : Form → Option ℕ
+referred_table (model.Reference k) = Some k
+referred_table f = None
 
 -- a defined word of a reference names no row of its table
 abbrev pub word_findings : Codes → ℕ → ℕ → List Row → List (List ℕ) → List Finding
@@ -67,7 +67,7 @@ reference_finding codes transfer line number (Some k) words = word_findings code
 abbrev pub columns_references : Codes → List (List Row) → ℕ → ℕ → List Column → List (List ℕ) → List Finding
 columns_references codes transfer line number [] words = []
 columns_references codes transfer line number (c ∷ cs) words =
-    reference_finding codes transfer line number (referred c.form) (take (width c.form) words) ++ columns_references codes transfer line (number + 1) cs (drop (width c.form) words)
+    reference_finding codes transfer line number (referred_table c.form) (take (width c.form) words) ++ columns_references codes transfer line (number + 1) cs (drop (width c.form) words)
 
 -- a row with too few or too many words refers to nothing
 abbrev pub row_references : Codes → List (List Row) → Table → Row → List Finding

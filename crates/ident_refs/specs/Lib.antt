@@ -1,7 +1,7 @@
 pub mod Rows
 pub mod ListValues
 pub mod KeyFindings
-pub mod Compared
+pub mod ValueViews
 pub mod KeyBytes
 pub mod KeptRows
 pub mod KeptViews

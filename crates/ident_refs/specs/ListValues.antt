@@ -13,7 +13,7 @@ use Rattle.itf_reader.specs.StrokeFindings.{is_sound_stroke}
 use Rattle.itf_reader.specs.RowFindings.{is_counted}
 
 -- a vertex as it is compared: its kind and its numbers
-pub record Corner : Type 0 where
+pub record KeyVertex : Type 0 where
   pub kind : Kind
   pub numbers : List ℤ
 
@@ -21,36 +21,36 @@ pub record Corner : Type 0 where
 pub data Value : Type 0 where
   Numbers : List ℤ → Value
   Bytes : List ℕ → Value
-  Corners : List Corner → Value
+  Vertices : List KeyVertex → Value
 
 -- ---- the values of a row
 -- what words stand for, as it is compared
-abbrev pub compared : reading.Value → Value
-compared (reading.Numbers ns) = Numbers ns
-compared (reading.Bytes word) = Bytes word
+abbrev pub key_value : reading.Value → Value
+key_value (reading.Numbers ns) = Numbers ns
+key_value (reading.Bytes word) = Bytes word
 
 -- the value of a column by its form, none where it is undefined or has a finding
 abbrev pub form_value : Codes → Form → List (List ℕ) → Option Value
-form_value codes form words = if is_none (field_fault form codes words) then Some (compared (value_of form words)) else None
+form_value codes form words = if is_none (field_fault form codes words) then Some (key_value (value_of form words)) else None
 
 abbrev pub columns_values : Codes → List Column → List (List ℕ) → List (Option Value)
 columns_values codes [] words = []
 columns_values codes (c ∷ cs) words = form_value codes c.form (take (width c.form) words) ∷ columns_values codes cs (drop (width c.form) words)
 
-abbrev pub corner_of : LineForm → Vertex → Corner
-corner_of l v = record { kind = v.kind; numbers = numbers_on (line_axes l) v.fields }
+abbrev pub key_vertex_of : LineForm → Vertex → KeyVertex
+key_vertex_of l v = record { kind = v.kind; numbers = numbers_on (line_axes l) v.fields }
 
 -- the value of a line, none where it is undefined or has a finding
 abbrev pub line_value : Role → LineForm → List Vertex → Option Value
 line_value role l [] = None
-line_value role l (v ∷ vs) = if is_sound_stroke role l (v ∷ vs) then Some (Corners (map (corner_of l) (v ∷ vs))) else None
+line_value role l (v ∷ vs) = if is_sound_stroke role l (v ∷ vs) then Some (Vertices (map (key_vertex_of l) (v ∷ vs))) else None
 
 abbrev pub lines_values : Role → List LineForm → List (List Vertex) → List (Option Value)
 lines_values role [] strokes = []
 lines_values role (l ∷ ls) [] = []
 lines_values role (l ∷ ls) (s ∷ ss) = line_value role l s ∷ lines_values role ls ss
 
--- the values of a row: its columns, and its lines behind them
+-- the values of a row: its columns, and its lines after them
 abbrev pub row_values : Codes → Table → Row → List (Option Value)
 row_values codes t r = columns_values codes t.columns (drop 1 r.fields) ++ lines_values t.role t.lines r.strokes
 
@@ -65,10 +65,10 @@ abbrev pub values_at : List (Option Value) → List ℕ → Option (List Value)
 values_at values [] = Some []
 values_at values (p ∷ ps) = and_value (slice_index_or values p None) (values_at values ps)
 
--- what a row demands by a list: that no other row has these values; nothing where one of them is none, or where the row
+-- the values of a row by a list, which no other row may have; none where one of them is none, or where the row
 -- has too few or too many words
-abbrev pub demand : Codes → Table → List ℕ → Row → Option (List Value)
-demand codes t list r = if is_counted t r then values_at (row_values codes t r) list else None
+abbrev pub ident_values : Codes → Table → List ℕ → Row → Option (List Value)
+ident_values codes t list r = if is_counted t r then values_at (row_values codes t r) list else None
 
 -- ---- equal values
 abbrev pub is_same_kind : Kind → Kind → Bool
@@ -77,17 +77,17 @@ is_same_kind Straight Straight = true
 is_same_kind OnArc OnArc = true
 is_same_kind k other = false
 
-abbrev pub is_same_corner : Corner → Corner → Bool
-is_same_corner a b = is_same_kind a.kind b.kind && pointwise is_same a.numbers b.numbers
+abbrev pub is_same_vertex : KeyVertex → KeyVertex → Bool
+is_same_vertex a b = is_same_kind a.kind b.kind && pointwise is_same a.numbers b.numbers
 
 abbrev pub is_same_value : Value → Value → Bool
 is_same_value (Numbers a) (Numbers b) = pointwise is_same a b
 is_same_value (Bytes a) (Bytes b) = pointwise nat_eq a b
-is_same_value (Corners a) (Corners b) = pointwise is_same_corner a b
+is_same_value (Vertices a) (Vertices b) = pointwise is_same_vertex a b
 is_same_value v other = false
 
--- the same demand; what demands nothing is the same as no other
-abbrev pub is_same_demand : Option (List Value) → Option (List Value) → Bool
-is_same_demand (Some vs) (Some ws) = pointwise is_same_value vs ws
-is_same_demand (Some vs) None = false
-is_same_demand None other = false
+-- the same values; none are the same as no others
+abbrev pub are_same_values : Option (List Value) → Option (List Value) → Bool
+are_same_values (Some vs) (Some ws) = pointwise is_same_value vs ws
+are_same_values (Some vs) None = false
+are_same_values None other = false

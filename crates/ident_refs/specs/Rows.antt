@@ -1,4 +1,4 @@
--- Identifications of rows, and the rows that stand before another.
+-- Identifications of rows, and the rows before another.
 use Rattle.std.specs.Prelude.{ℕ, Bool, if◌then◌else◌, List, [], ◌∷◌, Option, Some, None}
 use Rattle.ports.specs.SortedKeys.{is_key}
 use Rattle.itf_reader.specs.Forms.{Row}

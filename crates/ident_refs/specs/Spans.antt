@@ -1,12 +1,12 @@
--- Where the words of columns stand among the fields of a row.
+-- Where the words of columns are among the fields of a row.
 use Rattle.std.specs.Prelude.{ℕ, ◌+◌, List, [], ◌∷◌}
 use Rattle.resolver.specs.Resolved.{Form}
 use Rattle.resolver.specs.Values.{form_of}
 use Rattle.table_layout.specs.Layouts.{Column}
 use Rattle.field_values.specs.Fields.{width}
-use Rattle.ident_refs.specs.declared.sheet.Span.{Span as CodeSpan}
+use Rattle.ident_refs.specs.declared.key_reader.Span.{Span as CodeSpan}
 
--- the form of a column, the field that its words begin at, and the one behind them
+-- the form of a column, the field that its words begin at, and the one after them
 pub record Span : Type 0 where
   pub form : Form
   pub start : ℕ

@@ -8,13 +8,13 @@ ghost use Rattle.table_layout.specs.Valid.{IsValid};
 ghost use Rattle.table_layout.specs.Values.{layout_view, tables_view};
 ghost use Rattle.itf_reader.specs.ClosedRows.{by_table};
 ghost use Rattle.itf_reader.specs.Few.{HasFew};
-ghost use Rattle.itf_reader.specs.Findings.{findings_of};
+ghost use Rattle.itf_reader.specs.Findings.{AddsFindings};
 ghost use Rattle.itf_reader.specs.Forms.{Row as GivenRow};
 ghost use Rattle.itf_reader.specs.Layouts.{form_of};
-ghost use Rattle.itf_reader.specs.Views.{row_of, rows_of, tables_seen};
+ghost use Rattle.itf_reader.specs.Views.{row_of, rows_of, tables_rows_of};
 ghost use Rattle.ident_refs.specs.FedRows.{HasPlaces, fed_keys, fed_rows, fed_tables, row_at};
-ghost use Rattle.ident_refs.specs.KeptRows.{all_ids, all_lines, all_told, no_rows};
-ghost use Rattle.ident_refs.specs.KeptViews.{HasRows, ids_in, kept_in, lines_in};
+ghost use Rattle.ident_refs.specs.KeptRows.{all_ids, all_lines, all_kept_findings, no_rows};
+ghost use Rattle.ident_refs.specs.KeptViews.{HasRows, ids_view, all_kept_view, row_lines_view};
 
 use super::repeats::KeyColumn;
 use super::table_keys::TableKeys;
@@ -40,7 +40,7 @@ fn empty_tables<'a>(
 ) -> Result<Vec<TableKeys<'a>>, Memory>
     requires few { All HasFew (tables_view tables.now) }
     requires places { All HasPlaces (tables_view tables.now) }
-    ensures { IfOk result (λ kept. kept_in kept.items ≡ map (no_rows (codes_of codes.now))
+    ensures { IfOk result (λ kept. all_kept_view kept.items ≡ map (no_rows (codes_of codes.now))
         (tables_view tables.now)) }
 {
     let mut kept = Vec::with_capacity(alloc, tables.len())?;
@@ -52,8 +52,8 @@ fn empty_tables<'a>(
 
 // Adds a row to the table at that place, if there is one.
 fn add_at(tables: &mut [TableKeys], place: usize, row: &Row) -> Result<(), Memory>
-    ensures { OnOk result (kept_in tables.new ≡ row_at place (row_of row.now)
-        (kept_in tables.old)) }
+    ensures { OnOk result (all_kept_view tables.new ≡ row_at place (row_of row.now)
+        (all_kept_view tables.old)) }
 {
     if place < tables.len() {
         tables[place].add_row(row)?;
@@ -63,8 +63,8 @@ fn add_at(tables: &mut [TableKeys], place: usize, row: &Row) -> Result<(), Memor
 
 // Adds rows to the table at that place.
 fn add_rows(tables: &mut [TableKeys], place: usize, rows: &[Row]) -> Result<(), Memory>
-    ensures { OnOk result (kept_in tables.new ≡ fed_rows place (rows_of rows.now)
-        (kept_in tables.old)) }
+    ensures { OnOk result (all_kept_view tables.new ≡ fed_rows place (rows_of rows.now)
+        (all_kept_view tables.old)) }
 {
     for row in rows {
         add_at(tables, place, row)?;
@@ -74,7 +74,7 @@ fn add_rows(tables: &mut [TableKeys], place: usize, rows: &[Row]) -> Result<(), 
 
 // The lines of the rows of the table at that place, none where there is no such table.
 fn lines_at<'a>(tables: &'a [TableKeys], place: usize) -> &'a [u32]
-    ensures { result.now ≡ slice_index_or (all_lines (kept_in tables.now)) place [] }
+    ensures { result.now ≡ slice_index_or (all_lines (all_kept_view tables.now)) place [] }
 {
     match tables.get(place) {
         Some(table) => &table.lines,
@@ -84,9 +84,10 @@ fn lines_at<'a>(tables: &'a [TableKeys], place: usize) -> &'a [u32]
 
 // The identifications of each table in order.
 fn id_columns<'a>(alloc: Global, tables: &'a [TableKeys<'a>]) -> Result<Vec<KeyColumn<'a>>, Memory>
-    ensures keys { IfOk result (λ columns. ids_in columns.items ≡ all_ids (kept_in tables.now)) }
-    ensures lines { IfOk result (λ columns. lines_in columns.items ≡ all_lines
-        (kept_in tables.now)) }
+    ensures keys { IfOk result (λ columns. ids_view columns.items
+        ≡ all_ids (all_kept_view tables.now)) }
+    ensures lines { IfOk result (λ columns. row_lines_view columns.items ≡ all_lines
+        (all_kept_view tables.now)) }
 {
     let mut columns = Vec::with_capacity(alloc, tables.len())?;
     for table in tables {
@@ -99,15 +100,15 @@ fn id_columns<'a>(alloc: Global, tables: &'a [TableKeys<'a>]) -> Result<Vec<KeyC
 fn add_findings(
     tables: &[TableKeys],
     ids: &[KeyColumn],
-    found: &mut Vec<Finding>,
+    findings: &mut Vec<Finding>,
 ) -> Result<(), Memory>
-    requires keys { ids_in ids.now ≡ all_ids (kept_in tables.now) }
-    requires lines { lines_in ids.now ≡ all_lines (kept_in tables.now) }
-    ensures { OnOk result (findings_of found.new.items ≡ findings_of found.old.items ++ all_told
-        (kept_in tables.now)) }
+    requires keys { ids_view ids.now ≡ all_ids (all_kept_view tables.now) }
+    requires lines { row_lines_view ids.now ≡ all_lines (all_kept_view tables.now) }
+    ensures { OnOk result (AddsFindings findings.old.items findings.new.items
+        (all_kept_findings (all_kept_view tables.now))) }
 {
     for (place, table) in tables.iter().enumerate() {
-        table.add_findings(&ids[place], ids, found)?;
+        table.add_findings(&ids[place], ids, findings)?;
     }
     Ok(())
 }
@@ -144,8 +145,8 @@ impl<'a> KeyFeed<'a> {
 
     /// Adds the rows of all tables, in the order of the layout, one after another.
     pub fn add_tables(&mut self, transfer: &[TableRows]) -> Result<(), Memory>
-        ensures { OnOk result (kept_in self.new.tables.items ≡ fed_tables 0
-            (tables_seen transfer.now) (kept_in self.old.tables.items)) }
+        ensures { OnOk result (all_kept_view self.new.tables.items ≡ fed_tables 0
+            (tables_rows_of transfer.now) (all_kept_view self.old.tables.items)) }
     {
         for (place, table) in transfer.iter().enumerate() {
             add_rows(&mut self.tables, place, &table.rows)?;
@@ -156,14 +157,14 @@ impl<'a> KeyFeed<'a> {
     /// Adds what is wrong with the keys and references of all rows that were added: the findings of
     /// each table in the order of the layout, those of identifications and of each IDENT list in
     /// the order of its rows, then those of references.
-    pub fn finish(self, found: &mut Vec<Finding>) -> Result<(), Memory>
+    pub fn finish(self, findings: &mut Vec<Finding>) -> Result<(), Memory>
         ensures { OnOk result ((l : GivenLayout) (rows : List (ℕ × GivenRow))
             → HasRows l self.entry rows
-            → findings_of found.new.items ≡ findings_of found.old.items ++ fed_keys l rows) }
+            → AddsFindings findings.old.items findings.new.items (fed_keys l rows)) }
     {
         let tables = self.tables.as_slice();
         let ids = id_columns(self.alloc, tables)?;
-        add_findings(tables, &ids, found)?;
+        add_findings(tables, &ids, findings)?;
         Ok(())
     }
 }

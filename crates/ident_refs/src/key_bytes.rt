@@ -1,23 +1,24 @@
-// The values that an IDENT list demands, as the bytes of one key.
+// The values of an IDENT list, as the bytes of one key.
 ghost use Rattle.std.specs.Prelude.{◌≡◌, ◌<◌, ◌+◌, ◌++◌, ◌∷◌, [], length, map, Some};
 ghost use Rattle.std.specs.Prelude.{IfOk, OnOk};
 ghost use Rattle.std.specs.List.{flat_map};
 ghost use Rattle.std.specs.Option.{option_to_list};
-ghost use Rattle.ident_refs.specs.Compared.{corner_view, demand_view, rank_of};
-ghost use Rattle.ident_refs.specs.Compared.{value_view, values_view};
+ghost use Rattle.ident_refs.specs.ValueViews.{key_vertex_view, ident_values_view, rank_of};
+ghost use Rattle.ident_refs.specs.ValueViews.{value_view, values_view};
 ghost use Rattle.ident_refs.specs.KeptRows.{id_key};
-ghost use Rattle.ident_refs.specs.KeyBytes.{byte_code, corner_code, corners_code, ended};
+ghost use Rattle.ident_refs.specs.KeyBytes.{byte_code, key_vertex_code, key_vertices_code};
+ghost use Rattle.ident_refs.specs.KeyBytes.{with_end};
 ghost use Rattle.ident_refs.specs.KeyBytes.{list_code, number_code, numbers_code, part_code};
 ghost use Rattle.ident_refs.specs.KeyBytes.{value_code, word_code};
 ghost use Rattle.itf_reader.specs.Views.{row_of};
 
-use super::compared::{Corner, Demand, Value};
 use super::key_cell::KeyCell;
+use super::key_values::{IdentValues, KeyVertex, Value};
 use itf_reader::{Row, VertexKind};
 use ports::{Keyed, Memory};
 use std::alloc::Global;
 
-// So many bytes of a key are kept in its value.
+// A key of at most this many bytes needs no memory.
 const ROOM: usize = 14;
 
 fn add_byte(into: &mut Vec<u8>, byte: u8) -> Result<(), Memory>
@@ -32,9 +33,9 @@ fn add_byte(into: &mut Vec<u8>, byte: u8) -> Result<(), Memory>
     Ok(())
 }
 
-// Adds bytes, so that they are told from what stands behind them.
+// Adds bytes and their end mark.
 fn add_ended(into: &mut Vec<u8>, bytes: &[u8]) -> Result<(), Memory>
-    ensures { OnOk result (into.new.items ≡ into.old.items ++ ended bytes.now) }
+    ensures { OnOk result (into.new.items ≡ into.old.items ++ with_end bytes.now) }
 {
     for byte in bytes {
         add_byte(into, *byte)?;
@@ -90,27 +91,27 @@ fn axes(height: Option<i64>) -> u8
 }
 
 // Adds a vertex: its kind, how many numbers it has, and these.
-fn add_corner(into: &mut Vec<u8>, corner: &Corner) -> Result<(), Memory>
-    ensures { OnOk result (into.new.items ≡ into.old.items ++ corner_code
-        (corner_view corner.now)) }
+fn add_vertex(into: &mut Vec<u8>, key_vertex: &KeyVertex) -> Result<(), Memory>
+    ensures { OnOk result (into.new.items ≡ into.old.items ++ key_vertex_code
+        (key_vertex_view key_vertex.now)) }
 {
-    into.push(rank(corner.kind))?;
-    into.push(axes(corner.height))?;
-    add_place(into, &corner.x, &corner.y)?;
-    add_height(into, corner.height)
+    into.push(rank(key_vertex.kind))?;
+    into.push(axes(key_vertex.height))?;
+    add_place(into, &key_vertex.x, &key_vertex.y)?;
+    add_height(into, key_vertex.height)
 }
 
-fn add_corners(into: &mut Vec<u8>, corners: &[Corner]) -> Result<(), Memory>
-    ensures { OnOk result (into.new.items ≡ into.old.items ++ corners_code
-        (map corner_view corners.now)) }
+fn add_vertices(into: &mut Vec<u8>, key_vertices: &[KeyVertex]) -> Result<(), Memory>
+    ensures { OnOk result (into.new.items ≡ into.old.items ++ key_vertices_code
+        (map key_vertex_view key_vertices.now)) }
 {
-    for corner in corners {
-        add_corner(into, corner)?;
+    for key_vertex in key_vertices {
+        add_vertex(into, key_vertex)?;
     }
     Ok(())
 }
 
-// Adds a value: what it is told by, and its numbers, bytes or vertices.
+// Adds a value: a byte for its kind, and its numbers, bytes or vertices.
 fn add_value(into: &mut Vec<u8>, value: &Value) -> Result<(), Memory>
     ensures { OnOk result (into.new.items ≡ into.old.items ++ value_code (value_view value.now)) }
 {
@@ -133,9 +134,9 @@ fn add_value(into: &mut Vec<u8>, value: &Value) -> Result<(), Memory>
             into.extend_from_slice(word)?;
             Ok(())
         }
-        Value::Line(corners) => {
+        Value::Line(key_vertices) => {
             into.push(2)?;
-            add_corners(into, corners)
+            add_vertices(into, key_vertices)
         }
     }
 }
@@ -171,12 +172,12 @@ fn add_list(alloc: Global, into: &mut Vec<u8>, values: &[Value]) -> Result<(), M
     }
 }
 
-/// The key of what a row demands.
-pub fn demand_key(alloc: Global, demand: &Demand) -> Result<KeyCell, Memory>
-    ensures { IfOk result (λ key. key ≡ Some (list_code (demand_view demand.now))) }
+/// The key of a row by any list, from its values.
+pub fn values_key(alloc: Global, ident_values: &IdentValues) -> Result<KeyCell, Memory>
+    ensures { IfOk result (λ key. key ≡ Some (list_code (ident_values_view ident_values.now))) }
 {
     let mut bytes = Vec::new(alloc);
-    add_list(alloc, &mut bytes, &demand.values)?;
+    add_list(alloc, &mut bytes, &ident_values.values)?;
     KeyCell::new(alloc, &bytes)
 }
 

@@ -7,7 +7,7 @@ use ports::{Keyed, Memory};
 use std::alloc::Global;
 use std::marker::Model;
 
-/// The bytes of a key, or no key, for which no byte stands.
+/// The bytes of a key, or no byte for no key.
 #[derive(Drop)]
 pub struct KeyCell {
     bytes: Field,

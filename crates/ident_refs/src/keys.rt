@@ -12,21 +12,22 @@ use ports::Memory;
 use std::alloc::Global;
 use table_layout::Layout;
 
-/// Which identifications and IDENT values of a transfer that was read for the layout stand
-/// already in their table, and which references name no row, in order of line, column and code.
+/// Which identifications and IDENT values of a transfer that was read for the layout an earlier
+/// row of the table has, and which references name no row, in order of line, column and code.
 pub fn check_keys(
     alloc: Global,
     layout: &Layout,
     transfer: &Transfer,
 ) -> Result<Vec<Finding>, Memory>
     requires { IsValid (layout_view layout.now) }
-    ensures { IfOk result (λ found. findings_of found.items ≡ key_findings (layout_view layout.now)
+    ensures { IfOk result (λ findings. findings_of findings.items
+        ≡ key_findings (layout_view layout.now)
         (transfer_of transfer.now)) }
 {
     let mut feed = KeyFeed::new(alloc, layout)?;
     feed.add_tables(&transfer.tables)?;
-    let mut found = Vec::new(alloc);
-    feed.finish(&mut found)?;
-    sort_findings(&mut found)?;
-    Ok(found)
+    let mut findings = Vec::new(alloc);
+    feed.finish(&mut findings)?;
+    sort_findings(&mut findings)?;
+    Ok(findings)
 }

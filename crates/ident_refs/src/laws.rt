@@ -10,9 +10,9 @@ ghost use Rattle.itf_reader.specs.TransferText.{TransferText};
 ghost use Rattle.ident_refs.specs.FedRows.{fed_keys};
 ghost use Rattle.ident_refs.specs.KeyFindings.{key_findings};
 
-/// Who feeds each row when it is closed, and keeps none, finds what is wrong with the keys of the
-/// whole transfer: the rows that the lines of a text close, one after another, have the findings
-/// that `check_keys` puts in order.
+/// A caller that feeds each row when it is closed, and keeps none, finds what is wrong with the
+/// keys of the whole transfer: the rows that the lines of a text close, one after another, have
+/// the findings that `check_keys` puts in order.
 pub fn fed_transfer()
     ensures { (l : Layout) (lines : List LogicalLine) (transfer : List (List Row))
         → TransferText (form_of l) lines transfer

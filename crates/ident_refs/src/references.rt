@@ -6,12 +6,12 @@ ghost use Rattle.ili_grammar.specs.Values.{codes_of};
 ghost use Rattle.resolver.specs.Values.{form_of};
 ghost use Rattle.table_layout.specs.Values.{columns_view, table_view};
 ghost use Rattle.field_values.specs.Fields.{width};
-ghost use Rattle.itf_reader.specs.Findings.{findings_of};
+ghost use Rattle.itf_reader.specs.Findings.{AddsFindings};
 ghost use Rattle.itf_reader.specs.RowFindings.{widths};
 ghost use Rattle.itf_reader.specs.Views.{row_of};
 ghost use Rattle.ident_refs.specs.KeptRows.{column_refs, columns_refs, ref_findings, row_refs};
-ghost use Rattle.ident_refs.specs.KeptViews.{ref_view, refs_view, ids_in};
-ghost use Rattle.ident_refs.specs.KeyFindings.{referred};
+ghost use Rattle.ident_refs.specs.KeptViews.{ref_view, refs_view, ids_view};
+ghost use Rattle.ident_refs.specs.KeyFindings.{referred_table};
 
 use super::key_bytes::word_key;
 use super::key_cell::KeyCell;
@@ -47,7 +47,7 @@ fn add_column(
 ) -> Result<(), Memory>
     requires { length words.now ≡ width (form_of form.now) }
     ensures { OnOk result (refs_view refs.new.items ≡ refs_view refs.old.items ++ column_refs
-        (codes_of codes.now) line number (referred (form_of form.now)) words.now) }
+        (codes_of codes.now) line number (referred_table (form_of form.now)) words.now) }
 {
     match (form, words) {
         (Form::Reference(table), [word]) if !is_undefined(codes, word.bytes()) => {
@@ -121,7 +121,7 @@ pub fn add_refs(
 
 // Whether a row of the table of that number has the key.
 fn is_named(ids: &[KeyColumn], table: u32, key: &[u8]) -> bool
-    ensures { result ≡ list_any (is_key key.now) (slice_index_or (ids_in ids.now) table []) }
+    ensures { result ≡ list_any (is_key key.now) (slice_index_or (ids_view ids.now) table []) }
 {
     match ids.get(table as usize) {
         Some(column) => column.has(key),
@@ -144,14 +144,14 @@ pub fn add_dangling(
     alloc: Global,
     ids: &[KeyColumn],
     reference: &KeptRef,
-    found: &mut Vec<Finding>,
+    findings: &mut Vec<Finding>,
 ) -> Result<(), Memory>
-    ensures { OnOk result (findings_of found.new.items ≡ findings_of found.old.items ++ ref_findings
-        (ids_in ids.now) (ref_view reference.now)) }
+    ensures { OnOk result (AddsFindings findings.old.items findings.new.items
+        (ref_findings (ids_view ids.now) (ref_view reference.now))) }
 {
     if let Some(key) = reference.word.key() {
         if !is_named(ids, reference.table, key) {
-            found.push(Finding {
+            findings.push(Finding {
                 line: reference.line,
                 column: reference.column,
                 code: Code::Reference,

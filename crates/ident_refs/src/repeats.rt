@@ -1,10 +1,10 @@
 // Rows that repeat a key of their table.
-ghost use Rattle.std.specs.Prelude.{◌≡◌, ◌≤◌, ◌++◌, [], None, IfOk, OnOk, get_or, length};
+ghost use Rattle.std.specs.Prelude.{◌≡◌, ◌≤◌, [], None, IfOk, OnOk, get_or, length};
 ghost use Rattle.std.specs.Prelude.{map, take};
 ghost use Rattle.std.specs.List.{list_any};
 ghost use Rattle.ports.specs.SortedKeys.{IsSortedKeys, is_key};
-ghost use Rattle.itf_reader.specs.Findings.{findings_of};
-ghost use Rattle.ident_refs.specs.KeptRows.{cell_key, first_line, repeat, repeats, zipped};
+ghost use Rattle.itf_reader.specs.Findings.{AddsFindings};
+ghost use Rattle.ident_refs.specs.KeptRows.{cell_key, first_line, repeat, repeats, zip_keys};
 
 use super::key_cell::KeyCell;
 use itf_reader::{Code, Finding, Other};
@@ -17,22 +17,22 @@ pub struct KeyColumn<'a> {
     pub lines: &'a [u32],
     pub keys: &'a [KeyCell],
     pub sorted: SortedKeys,
-    ghost told: { IsSortedKeys (map cell_key keys.now) sorted },
+    ghost keys_sorted: { IsSortedKeys (map cell_key keys.now) sorted },
 }
 
 // Adds a finding for a row whose key a row before it has.
 fn add_repeat(
-    found: &mut Vec<Finding>,
+    findings: &mut Vec<Finding>,
     code: Code,
     column: u32,
     line: u32,
     first: Option<u32>,
 ) -> Result<(), Memory>
-    ensures { OnOk result (findings_of found.new.items ≡ findings_of found.old.items ++ repeat
-        code column line first) }
+    ensures { OnOk result (AddsFindings findings.old.items findings.new.items
+        (repeat code column line first)) }
 {
     if let Some(first) = first {
-        found.push(Finding {
+        findings.push(Finding {
             line,
             column,
             code,
@@ -71,7 +71,7 @@ impl<'a> KeyColumn<'a> {
     fn first_before(&self, place: usize) -> Option<u32>
         requires { place ≤ length self.now.lines.now }
         ensures { result ≡ first_line (get_or self.now.keys.now place None) (take place
-            (zipped self.now.lines.now self.now.keys.now)) }
+            (zip_keys self.now.lines.now self.now.keys.now)) }
     {
         let key = self.keys.get(place)?.key()?;
         let first = self.sorted.first(self.keys, key)?;
@@ -88,13 +88,13 @@ impl<'a> KeyColumn<'a> {
         &self,
         code: Code,
         column: u32,
-        found: &mut Vec<Finding>,
+        findings: &mut Vec<Finding>,
     ) -> Result<(), Memory>
-        ensures { OnOk result (findings_of found.new.items ≡ findings_of found.old.items ++ repeats
-            code column [] (zipped self.now.lines.now self.now.keys.now)) }
+        ensures { OnOk result (AddsFindings findings.old.items findings.new.items
+            (repeats code column [] (zip_keys self.now.lines.now self.now.keys.now))) }
     {
         for (place, line) in self.lines.iter().enumerate() {
-            add_repeat(found, code, column, *line, self.first_before(place))?;
+            add_repeat(findings, code, column, *line, self.first_before(place))?;
         }
         Ok(())
     }

@@ -1,22 +1,22 @@
 // What is kept of the rows of a table.
-ghost use Rattle.std.specs.Prelude.{◌≡◌, ◌≤◌, ◌<◌, ◌++◌, [], length, map, OnOk, IfOk};
+ghost use Rattle.std.specs.Prelude.{◌≡◌, ◌≤◌, ◌<◌, [], length, map, OnOk, IfOk};
 ghost use Rattle.std.specs.List.{All, flat_map};
 ghost use Rattle.ili_grammar.specs.Syntax.{Codes as GivenCodes};
 ghost use Rattle.ili_grammar.specs.Values.{codes_of};
 ghost use Rattle.resolver.specs.Values.{places_of};
 ghost use Rattle.table_layout.specs.Layouts.{Table as GivenTable};
 ghost use Rattle.table_layout.specs.Values.{table_view};
-ghost use Rattle.itf_reader.specs.Findings.{findings_of};
+ghost use Rattle.itf_reader.specs.Findings.{AddsFindings};
 ghost use Rattle.itf_reader.specs.Views.{row_of};
-ghost use Rattle.ident_refs.specs.KeptRows.{kept, kept_lists, list_findings, ref_findings};
-ghost use Rattle.ident_refs.specs.KeptRows.{table_told, with_key, with_row};
-ghost use Rattle.ident_refs.specs.KeptViews.{ids_in, kept_of, list_view, lists_view, refs_view};
+ghost use Rattle.ident_refs.specs.KeptRows.{kept_table, kept_lists, list_findings, ref_findings};
+ghost use Rattle.ident_refs.specs.KeptRows.{kept_findings, with_key, with_row};
+ghost use Rattle.ident_refs.specs.KeptViews.{ids_view, kept_view, list_view, lists_view, refs_view};
 
 use super::key_bytes::row_key;
 use super::key_cell::KeyCell;
+use super::key_reader::{KeyReader, column_of};
 use super::references::{KeptRef, add_dangling, add_refs};
 use super::repeats::KeyColumn;
-use super::sheet::{Sheet, column_of};
 use ili_grammar::Codes;
 use itf_reader::{Code, Finding, Row};
 use ports::Memory;
@@ -37,7 +37,7 @@ pub struct KeptList<'a> {
 #[derive(Drop)]
 pub struct TableKeys<'a> {
     alloc: Global,
-    pub sheet: Sheet<'a>,
+    pub reader: KeyReader<'a>,
     pub lines: Vec<u32>,
     pub ids: Vec<KeyCell>,
     pub lists: Vec<KeptList<'a>>,
@@ -63,22 +63,22 @@ fn empty_lists<'a>(alloc: Global, lists: &'a [Places]) -> Result<Vec<KeptList<'a
 }
 
 // Adds the key of a row by a list.
-fn add_key(sheet: &Sheet, list: &mut KeptList, row: &Row) -> Result<(), Memory>
-    ensures { OnOk result (list_view list.new ≡ with_key (codes_of sheet.now.codes.now)
-        (table_view sheet.now.table.now) (row_of row.now) (list_view list.old)) }
+fn add_key(reader: &KeyReader, list: &mut KeptList, row: &Row) -> Result<(), Memory>
+    ensures { OnOk result (list_view list.new ≡ with_key (codes_of reader.now.codes.now)
+        (table_view reader.now.table.now) (row_of row.now) (list_view list.old)) }
 {
-    let key = sheet.key(list.places, row)?;
+    let key = reader.key(list.places, row)?;
     list.keys.push(key)?;
     Ok(())
 }
 
 // Adds the keys of a row by all lists.
-fn add_keys(sheet: &Sheet, lists: &mut [KeptList], row: &Row) -> Result<(), Memory>
-    ensures { OnOk result (lists_view lists.new ≡ map (with_key (codes_of sheet.now.codes.now)
-        (table_view sheet.now.table.now) (row_of row.now)) (lists_view lists.old)) }
+fn add_keys(reader: &KeyReader, lists: &mut [KeptList], row: &Row) -> Result<(), Memory>
+    ensures { OnOk result (lists_view lists.new ≡ map (with_key (codes_of reader.now.codes.now)
+        (table_view reader.now.table.now) (row_of row.now)) (lists_view lists.old)) }
 {
     for place in 0..lists.len() {
-        add_key(sheet, &mut lists[place], row)?;
+        add_key(reader, &mut lists[place], row)?;
     }
     Ok(())
 }
@@ -88,26 +88,26 @@ fn add_list(
     alloc: Global,
     lines: &[u32],
     list: &KeptList,
-    found: &mut Vec<Finding>,
+    findings: &mut Vec<Finding>,
 ) -> Result<(), Memory>
-    ensures { OnOk result (findings_of found.new.items ≡ findings_of found.old.items ++
-        list_findings lines.now (list_view list.now)) }
+    ensures { OnOk result (AddsFindings findings.old.items findings.new.items
+        (list_findings lines.now (list_view list.now))) }
 {
     let column = KeyColumn::new(alloc, lines, &list.keys)?;
-    column.add_repeats(Code::Ident, list.column, found)
+    column.add_repeats(Code::Ident, list.column, findings)
 }
 
 fn add_lists(
     alloc: Global,
     lines: &[u32],
     lists: &[KeptList],
-    found: &mut Vec<Finding>,
+    findings: &mut Vec<Finding>,
 ) -> Result<(), Memory>
-    ensures { OnOk result (findings_of found.new.items ≡ findings_of found.old.items ++ flat_map
-        (list_findings lines.now) (lists_view lists.now)) }
+    ensures { OnOk result (AddsFindings findings.old.items findings.new.items
+        (flat_map (list_findings lines.now) (lists_view lists.now))) }
 {
     for list in lists {
-        add_list(alloc, lines, list, found)?;
+        add_list(alloc, lines, list, findings)?;
     }
     Ok(())
 }
@@ -116,13 +116,13 @@ fn add_references(
     alloc: Global,
     ids: &[KeyColumn],
     refs: &[KeptRef],
-    found: &mut Vec<Finding>,
+    findings: &mut Vec<Finding>,
 ) -> Result<(), Memory>
-    ensures { OnOk result (findings_of found.new.items ≡ findings_of found.old.items ++ flat_map
-        (ref_findings (ids_in ids.now)) (refs_view refs.now)) }
+    ensures { OnOk result (AddsFindings findings.old.items findings.new.items
+        (flat_map (ref_findings (ids_view ids.now)) (refs_view refs.now))) }
 {
     for reference in refs {
-        add_dangling(alloc, ids, reference, found)?;
+        add_dangling(alloc, ids, reference, findings)?;
     }
     Ok(())
 }
@@ -132,13 +132,13 @@ impl<'a> TableKeys<'a> {
     pub fn new(alloc: Global, codes: &'a Codes, table: &'a Table) -> Result<TableKeys<'a>, Memory>
         requires few { length table.now.columns.items ≤ 4194306 }
         requires places { All (All (λ p. p < 4194306)) (places_of table.now.idents.items) }
-        ensures { IfOk result (λ keys. kept_of keys ≡ kept (codes_of codes.now)
+        ensures { IfOk result (λ keys. kept_view keys ≡ kept_table (codes_of codes.now)
             (table_view table.now) []) }
     {
         let lists = empty_lists(alloc, &table.idents)?;
         Ok(TableKeys {
             alloc,
-            sheet: Sheet::new(alloc, codes, table)?,
+            reader: KeyReader::new(alloc, codes, table)?,
             lines: Vec::new(alloc),
             ids: Vec::new(alloc),
             lists,
@@ -148,15 +148,16 @@ impl<'a> TableKeys<'a> {
 
     /// Adds a row.
     pub fn add_row(&mut self, row: &Row) -> Result<(), Memory>
-        ensures { OnOk result (kept_of self.new ≡ with_row (row_of row.now) (kept_of self.old)) }
+        ensures { OnOk result (kept_view self.new
+            ≡ with_row (row_of row.now) (kept_view self.old)) }
     {
         self.lines.push(row.line)?;
         self.ids.push(row_key(self.alloc, row)?)?;
-        add_keys(&self.sheet, &mut self.lists, row)?;
+        add_keys(&self.reader, &mut self.lists, row)?;
         add_refs(
             self.alloc,
-            self.sheet.codes,
-            self.sheet.table,
+            self.reader.codes,
+            self.reader.table,
             row,
             &mut self.refs,
         )
@@ -168,15 +169,15 @@ impl<'a> TableKeys<'a> {
         &self,
         own: &KeyColumn,
         ids: &[KeyColumn],
-        found: &mut Vec<Finding>,
+        findings: &mut Vec<Finding>,
     ) -> Result<(), Memory>
         requires lines { own.now.lines.now ≡ self.now.lines.items }
         requires keys { own.now.keys.now ≡ self.now.ids.items }
-        ensures { OnOk result (findings_of found.new.items ≡ findings_of found.old.items ++
-            table_told (ids_in ids.now) (kept_of self.now)) }
+        ensures { OnOk result (AddsFindings findings.old.items findings.new.items
+            (kept_findings (ids_view ids.now) (kept_view self.now))) }
     {
-        own.add_repeats(Code::Tid, 0, found)?;
-        add_lists(self.alloc, &self.lines, &self.lists, found)?;
-        add_references(self.alloc, ids, &self.refs, found)
+        own.add_repeats(Code::Tid, 0, findings)?;
+        add_lists(self.alloc, &self.lines, &self.lists, findings)?;
+        add_references(self.alloc, ids, &self.refs, findings)
     }
 }

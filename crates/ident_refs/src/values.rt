@@ -6,13 +6,13 @@ ghost use Rattle.resolver.specs.Values.{form_of, line_of};
 ghost use Rattle.table_layout.specs.Values.{role_view};
 ghost use Rattle.field_values.specs.Fields.{vertex_fault, width};
 ghost use Rattle.field_values.specs.Readings.{bytes_of};
-ghost use Rattle.field_values.specs.Values.{value_view as read_view};
+ghost use Rattle.field_values.specs.Views.{value_view as read_view};
 ghost use Rattle.itf_reader.specs.Views.{vertex_of, vertices_of};
 ghost use Rattle.itf_reader.specs.StrokeFindings.{is_sound_stroke};
-ghost use Rattle.ident_refs.specs.Compared.{corner_view, value_view};
-ghost use Rattle.ident_refs.specs.ListValues.{compared, corner_of, form_value, line_value};
+ghost use Rattle.ident_refs.specs.ValueViews.{key_vertex_view, value_view};
+ghost use Rattle.ident_refs.specs.ListValues.{key_value, key_vertex_of, form_value, line_value};
 
-use super::compared::{Corner, Value};
+use super::key_values::{KeyVertex, Value};
 use field_values::{ColumnValue, read_column, read_vertex};
 use ili_grammar::Codes;
 use itf_lines::Field;
@@ -24,7 +24,7 @@ use table_layout::Role;
 
 // What some words stand for, as it is compared.
 fn value_of<'a>(value: ColumnValue, words: &'a [Field]) -> Value<'a>
-    ensures { value_view result ≡ compared (read_view words.now value) }
+    ensures { value_view result ≡ key_value (read_view words.now value) }
 {
     match value {
         ColumnValue::Number(n) => Value::Number(n),
@@ -56,20 +56,20 @@ pub fn form_value<'a>(form: &Form, codes: &Codes, words: &'a [Field]) -> Option<
 }
 
 // A sound vertex by its kind and its numbers.
-fn corner_of(form: &LineForm, vertex: &Vertex) -> Corner
+fn key_vertex_of(form: &LineForm, vertex: &Vertex) -> KeyVertex
     requires { vertex_fault (line_of form.now) vertex.now.fields.items ≡ None }
-    ensures { corner_view result ≡ corner_of (line_of form.now) (vertex_of vertex.now) }
+    ensures { key_vertex_view result ≡ key_vertex_of (line_of form.now) (vertex_of vertex.now) }
 {
     let kind = vertex.kind;
     match read_vertex(form, &vertex.fields) {
-        Ok(value) => Corner {
+        Ok(value) => KeyVertex {
             kind,
             x: value.at.x,
             y: value.at.y,
             height: value.height,
         },
         // A sound vertex is read.
-        Err(_) => Corner {
+        Err(_) => KeyVertex {
             kind,
             x: 0,
             y: 0,
@@ -79,22 +79,22 @@ fn corner_of(form: &LineForm, vertex: &Vertex) -> Corner
 }
 
 // The vertices of a line with which nothing is wrong.
-fn corners_of(
+fn key_vertices_of(
     alloc: Global,
     role: Role,
     form: &LineForm,
     vertices: &[Vertex],
-) -> Result<Vec<Corner>, Memory>
+) -> Result<Vec<KeyVertex>, Memory>
     requires { IsTrue (is_sound_stroke (role_view role) (line_of form.now)
         (vertices_of vertices.now)) }
-    ensures { IfOk result (λ corners. map corner_view corners.items ≡ map
-        (corner_of (line_of form.now)) (vertices_of vertices.now)) }
+    ensures { IfOk result (λ key_vertices. map key_vertex_view key_vertices.items ≡ map
+        (key_vertex_of (line_of form.now)) (vertices_of vertices.now)) }
 {
-    let mut corners = Vec::with_capacity(alloc, vertices.len())?;
+    let mut key_vertices = Vec::with_capacity(alloc, vertices.len())?;
     for vertex in vertices {
-        corners.push(corner_of(form, vertex))?;
+        key_vertices.push(key_vertex_of(form, vertex))?;
     }
-    Ok(corners)
+    Ok(key_vertices)
 }
 
 /// The value of a line, none where it is undefined or has a finding.
@@ -110,5 +110,5 @@ pub fn line_value<'a>(
     if vertices.is_empty() || !is_sound_line(alloc, role, form, vertices)? {
         return Ok(None);
     }
-    Ok(Some(Value::Line(corners_of(alloc, role, form, vertices)?)))
+    Ok(Some(Value::Line(key_vertices_of(alloc, role, form, vertices)?)))
 }

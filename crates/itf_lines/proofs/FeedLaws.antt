@@ -3,55 +3,55 @@ use Rattle.std.proofs.Common.{◌≡◌, ◌≤◌, ◌<◌, ◌+◌, ℕ, suc, 
 use Rattle.std.proofs.lemmas.List.{append_assoc, append-nil, take-append-drop, drop-drop, take_rest, length-drop}
 use Rattle.itf_lines.specs.Fields.{physical_lines}
 use Rattle.itf_lines.specs.LogicalLines.{LogicalLine, LogicalLines, logical}
-use Rattle.itf_lines.specs.Places.{Place, in_the_head}
+use Rattle.itf_lines.specs.PassStates.{PassState, in_the_head}
 use Rattle.itf_lines.specs.Pass.{step, pass, fault_at}
 use Rattle.bstr.specs.Text.{without_terminator}
 use Rattle.itf_lines.specs.declared.logical.LineFault.{LineFault}
 use Rattle.itf_lines.specs.FeedStates.{FeedState, has_no_lf, opening}
-use Rattle.itf_lines.specs.Feeds.{lines_from_place, lines_from_state, with_lines, line_if, Takes, TakesLine, Reads, Adds, AddsFront, AddsEnd, IsEnded}
+use Rattle.itf_lines.specs.Feeds.{lines_from_pass, lines_from_state, with_lines, line_if, Takes, TakesLine, Reads, Adds, AddsFront, AddsEnd, IsEnded}
 use Rattle.itf_lines.specs.declared.logical.LineEnd.{LineEnd}
 use Rattle.itf_lines.proofs.LineCuts.{cut_begun, open_physical, nothing_physical}
 use Rattle.itf_lines.proofs.PassLaws.{whole_pass}
 
 -- a physical line is one step
-pub one_step : (code ended : ℕ) (place : Place) (text : List ℕ) (whole : Bool) (line : LogicalLine) (next : Place) (count : ℕ) → Takes (step code count text place) whole line next → count ≡ ended + 1
-    → (lines : List (List ℕ)) → lines_from_place code ended place (text ∷ lines) ≡ with_lines (line_if whole line) (lines_from_place code count next lines)
-one_step code ended place text whole line next count h e lines =
+pub one_step : (code ended : ℕ) (state : PassState) (text : List ℕ) (whole : Bool) (line : LogicalLine) (next : PassState) (count : ℕ) → Takes (step code count text state) whole line next → count ≡ ended + 1
+    → (lines : List (List ℕ)) → lines_from_pass code ended state (text ∷ lines) ≡ with_lines (line_if whole line) (lines_from_pass code count next lines)
+one_step code ended state text whole line next count h e lines =
     let t : ended + suc (length lines) ≡ (ended + 1) + length lines = omega arith in
     rw (e, h.0, h.1, e, t) refl
 
 with_lines_twice : (xs ys : List LogicalLine) (r : LogicalLines) → with_lines xs (with_lines ys r) ≡ with_lines (xs ++ ys) r
 with_lines_twice xs ys r = ap (λ (ls : List LogicalLine). record { lines = ls; fault = r.fault; total = r.total }) (sym (append_assoc xs ys r.lines))
 
--- one reading behind another
+-- one reading after another
 pub reads_on : (a s t : FeedState) (bytes rest left : List ℕ) (xs ys : List LogicalLine) → Reads a bytes xs s rest → Reads s rest ys t left → Reads a bytes (xs ++ ys) t left
 reads_on a s t bytes rest left xs ys h k z = h z ∙ (ap (with_lines xs) (k z) ∙ with_lines_twice xs ys (lines_from_state t (left ++ z)))
 
--- what is left behind the bytes stays
+-- what is left after the bytes stays
 pub reads_more : (s t : FeedState) (bytes left : List ℕ) (ys : List LogicalLine) → Reads s bytes ys t [] → Reads s (bytes ++ left) ys t left
 reads_more s t bytes left ys h z = ap (lines_from_state s) (append_assoc bytes left z) ∙ h (left ++ z)
 
--- two states stand at one place behind as many lines
+-- two states are the same after as many lines
 abbrev pub SameFront : FeedState → FeedState → Type 0
-SameFront a b = (a.code ≡ b.code) × (a.ended ≡ b.ended) × (a.place ≡ b.place)
+SameFront a b = (a.code ≡ b.code) × (a.ended ≡ b.ended) × (a.state ≡ b.state)
 
 pub same_front : (a b : FeedState) → a ≡ b → SameFront a b
-same_front a b e = (ap (λ (s : FeedState). s.code) e, ap (λ (s : FeedState). s.ended) e, ap (λ (s : FeedState). s.place) e)
+same_front a b e = (ap (λ (s : FeedState). s.code) e, ap (λ (s : FeedState). s.ended) e, ap (λ (s : FeedState). s.state) e)
 
-front_lines : (a b : FeedState) (ps : List (List ℕ)) → SameFront a b → lines_from_place a.code a.ended a.place ps ≡ lines_from_place b.code b.ended b.place ps
+front_lines : (a b : FeedState) (ps : List (List ℕ)) → SameFront a b → lines_from_pass a.code a.ended a.state ps ≡ lines_from_pass b.code b.ended b.state ps
 front_lines a b ps h =
-    ap (λ (n : ℕ). lines_from_place n a.ended a.place ps) h.0
-    ∙ (ap (λ (n : ℕ). lines_from_place b.code n a.place ps) h.1 ∙ ap (λ (p : Place). lines_from_place b.code b.ended p ps) h.2)
+    ap (λ (n : ℕ). lines_from_pass n a.ended a.state ps) h.0
+    ∙ (ap (λ (n : ℕ). lines_from_pass b.code n a.state ps) h.1 ∙ ap (λ (p : PassState). lines_from_pass b.code b.ended p ps) h.2)
 
 -- the last bytes of a physical line, with its LF
 pub reads_ended : (old s t new : FeedState) (bytes text : List ℕ) (whole : Bool) (line : LogicalLine) → has_no_lf old.begun ≡ true → IsEnded bytes → text ≡ without_terminator (old.begun ++ bytes)
     → SameFront old s → TakesLine s text whole line t → SameFront t new → new.begun ≡ []
     → Reads old bytes (line_if whole line) new []
 reads_ended old s t new bytes text whole line plain ended is f takes g empty z =
-    ap (lines_from_place old.code old.ended old.place) (cut_begun old.begun bytes plain ended z ∙ ap (λ (l : List ℕ). l ∷ physical_lines z) (sym is))
+    ap (lines_from_pass old.code old.ended old.state) (cut_begun old.begun bytes plain ended z ∙ ap (λ (l : List ℕ). l ∷ physical_lines z) (sym is))
     ∙ (front_lines old s (text ∷ physical_lines z) f
     ∙ (takes (physical_lines z)
-    ∙ ap (with_lines (line_if whole line)) (front_lines t new (physical_lines z) g ∙ ap (λ (b : List ℕ). lines_from_place new.code new.ended new.place (physical_lines (b ++ z))) (sym empty))))
+    ∙ ap (with_lines (line_if whole line)) (front_lines t new (physical_lines z) g ∙ ap (λ (b : List ℕ). lines_from_pass new.code new.ended new.state (physical_lines (b ++ z))) (sym empty))))
 
 if_ok : {A E : Type 0} (r : Result A E) (P Q : A → Type 0) → ((a : A) → P a → Q a) → IfOk r P → IfOk r Q
 if_ok (Ok a) P Q f h = f a h
@@ -65,7 +65,7 @@ reads_whole old new bytes text r line empty ended is same h =
     (λ whole takes. reads_ended old old new new bytes text whole line (ap has_no_lf empty) ended (is ∙ ap (λ (l : List ℕ). without_terminator (l ++ bytes)) (sym empty))
     (same_front old old refl) takes (same_front new new refl) (same ∙ empty)) h
 
--- from a place of a piece to the one behind the next LF
+-- from a place of a piece to the one after the next LF
 pub reads_next : (old s t : FeedState) (piece : List ℕ) (at end : ℕ) (ys : List LogicalLine) → Reads old piece [] s (drop at piece) → Reads s (take (at + end + 1 - at) (drop at piece)) ys t []
     → Reads old piece ys t (drop (at + end + 1) piece)
 reads_next old s t piece at end ys h k =
@@ -134,23 +134,23 @@ some_bytes zero h = absurd cc
 some_bytes (suc n) h = omega arith
 
 -- a text that ends with a LF
-pub ends_plain : (s t : FeedState) (fault : Option LineFault) → SameFront s t → s.begun ≡ [] → fault ≡ fault_at t.place → lines_from_state s [] ≡ record { lines = []; fault = fault; total = t.ended }
+pub ends_plain : (s t : FeedState) (fault : Option LineFault) → SameFront s t → s.begun ≡ [] → fault ≡ fault_at t.state → lines_from_state s [] ≡ record { lines = []; fault = fault; total = t.ended }
 ends_plain s t fault f empty e =
     let total : t.ended + 0 ≡ t.ended = omega arith in
-    ap (λ (b : List ℕ). lines_from_place s.code s.ended s.place (physical_lines (b ++ []))) empty
-    ∙ (ap (lines_from_place s.code s.ended s.place) nothing_physical
+    ap (λ (b : List ℕ). lines_from_pass s.code s.ended s.state (physical_lines (b ++ []))) empty
+    ∙ (ap (lines_from_pass s.code s.ended s.state) nothing_physical
     ∙ (front_lines s t [] f ∙ rw (e, total) refl))
 
 -- and one that does not
-pub ends_open : (s t : FeedState) (whole : Bool) (line : LogicalLine) (next : Place) (fault : Option LineFault) (total : ℕ) → SameFront s t → has_no_lf s.begun ≡ true → 0 < length s.begun
-    → Takes (step t.code total s.begun t.place) whole line next → fault ≡ fault_at next → total ≡ t.ended + 1
+pub ends_open : (s t : FeedState) (whole : Bool) (line : LogicalLine) (next : PassState) (fault : Option LineFault) (total : ℕ) → SameFront s t → has_no_lf s.begun ≡ true → 0 < length s.begun
+    → Takes (step t.code total s.begun t.state) whole line next → fault ≡ fault_at next → total ≡ t.ended + 1
     → lines_from_state s [] ≡ record { lines = line_if whole line; fault = fault; total = total }
 ends_open s t whole line next fault total f plain some takes e count =
     let none : total + 0 ≡ total = omega arith in
-    ap (λ (b : List ℕ). lines_from_place s.code s.ended s.place (physical_lines b)) (append-nil s.begun)
-    ∙ (ap (lines_from_place s.code s.ended s.place) (open_physical s.begun plain some)
+    ap (λ (b : List ℕ). lines_from_pass s.code s.ended s.state (physical_lines b)) (append-nil s.begun)
+    ∙ (ap (lines_from_pass s.code s.ended s.state) (open_physical s.begun plain some)
     ∙ (front_lines s t (s.begun ∷ []) f
-    ∙ (one_step t.code t.ended t.place s.begun whole line next total takes count [] ∙ rw (e, none, append-nil (line_if whole line)) refl)))
+    ∙ (one_step t.code t.ended t.state s.begun whole line next total takes count [] ∙ rw (e, none, append-nil (line_if whole line)) refl)))
 
 -- From the opening state on, they are the logical lines of a text.
 pub opening_is : (code : ℕ) (text : List ℕ) → lines_from_state (opening code) text ≡ logical code text

@@ -111,7 +111,7 @@ none_lf (c ∷ bs) h = elim (c == 10) as (λ t. (c == 10) ≡ t → (not t && ha
 regrouped : (b f z : List ℕ) → b ++ ((f ++ 10 ∷ []) ++ z) ≡ (b ++ f) ++ 10 ∷ z
 regrouped b f z = ap (λ (l : List ℕ). b ++ l) (append_assoc f (10 ∷ []) z) ∙ sym (append_assoc b f (10 ∷ z))
 
--- the last bytes of a physical line, behind those that came before
+-- the last bytes of a physical line, after those before
 pub cut_begun : (b bytes : List ℕ) → has_no_lf b ≡ true → IsEnded bytes → (z : List ℕ) → physical_lines (b ++ (bytes ++ z)) ≡ without_terminator (b ++ bytes) ∷ physical_lines z
 cut_begun b bytes h k z =
     let whole : (b ++ k.front) ++ 10 ∷ [] ≡ b ++ bytes = append_assoc b k.front (10 ∷ []) ∙ ap (λ (l : List ℕ). b ++ l) (sym k.ends) in

@@ -3,22 +3,22 @@ use Rattle.std.specs.Prelude.{ℕ, ◌+◌, ◌≡◌, Bool, true, List, [], ◌
 use Rattle.itf_lines.specs.declared.logical.LineEnd.{LineEnd}
 use Rattle.itf_lines.specs.LogicalLines.{LogicalLine, LogicalLines}
 use Rattle.itf_lines.specs.Fields.{physical_lines}
-use Rattle.itf_lines.specs.Places.{Place}
+use Rattle.itf_lines.specs.PassStates.{PassState}
 use Rattle.itf_lines.specs.Pass.{Step, pass}
 use Rattle.itf_lines.specs.FeedStates.{FeedState, has_no_lf}
 
--- What these physical lines give where reading goes on behind so many others.
-abbrev pub lines_from_place : ℕ → ℕ → Place → List (List ℕ) → LogicalLines
-lines_from_place code ended place lines = record {
-  lines = (pass code (ended + 1) place lines).lines;
-  fault = (pass code (ended + 1) place lines).fault;
+-- What these physical lines give where reading goes on after that many others.
+abbrev pub lines_from_pass : ℕ → ℕ → PassState → List (List ℕ) → LogicalLines
+lines_from_pass code ended state lines = record {
+  lines = (pass code (ended + 1) state lines).lines;
+  fault = (pass code (ended + 1) state lines).fault;
   total = ended + length lines;
 }
 
 -- The logical lines, the first fault and the number of physical lines that a text has where reading goes on from a
 -- state with these bytes and they are its last.
 abbrev pub lines_from_state : FeedState → List ℕ → LogicalLines
-lines_from_state s bytes = lines_from_place s.code s.ended s.place (physical_lines (s.begun ++ bytes))
+lines_from_state s bytes = lines_from_pass s.code s.ended s.state (physical_lines (s.begun ++ bytes))
 
 -- some lines in front
 abbrev pub with_lines : List LogicalLine → LogicalLines → LogicalLines
@@ -29,13 +29,13 @@ abbrev pub line_if : Bool → LogicalLine → List LogicalLine
 line_if whole line = if whole then line ∷ [] else []
 
 -- the step gives that line, where it is whole, and leads there
-abbrev pub Takes : Step → Bool → LogicalLine → Place → Type 0
-Takes step whole line place = (line_if whole line ≡ step.lines) × (place ≡ step.next)
+abbrev pub Takes : Step → Bool → LogicalLine → PassState → Type 0
+Takes step whole line state = (line_if whole line ≡ step.lines) × (state ≡ step.next)
 
 -- a physical line leads from one state to another, and gives that line, where it is whole
 abbrev pub TakesLine : FeedState → List ℕ → Bool → LogicalLine → FeedState → Type 0
 TakesLine old text whole line new =
-    (lines : List (List ℕ)) → lines_from_place old.code old.ended old.place (text ∷ lines) ≡ with_lines (line_if whole line) (lines_from_place new.code new.ended new.place lines)
+    (lines : List (List ℕ)) → lines_from_pass old.code old.ended old.state (text ∷ lines) ≡ with_lines (line_if whole line) (lines_from_pass new.code new.ended new.state lines)
 
 -- Some bytes lead from one state to another with the last of them left, and give these lines: whatever follows.
 abbrev pub Reads : FeedState → List ℕ → List LogicalLine → FeedState → List ℕ → Type 0

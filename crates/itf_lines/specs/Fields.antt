@@ -11,9 +11,9 @@ abbrev pub is_blank : ℕ → Bool
 is_blank c = c == 32 || c == 9
 
 -- a byte at the front of the first field
-abbrev pub grown : ℕ → List (List ℕ) → List (List ℕ)
-grown c [] = (c ∷ []) ∷ []
-grown c (field ∷ fields) = (c ∷ field) ∷ fields
+abbrev pub with_first_byte : ℕ → List (List ℕ) → List (List ℕ)
+with_first_byte c [] = (c ∷ []) ∷ []
+with_first_byte c (field ∷ fields) = (c ∷ field) ∷ fields
 
 -- nothing follows, or a blank or a tab
 abbrev pub ends_field : List ℕ → Bool
@@ -23,7 +23,7 @@ ends_field (c ∷ line) = is_blank c
 -- the fields of a line: one or more blanks and tabs divide them
 abbrev pub fields : List ℕ → List (List ℕ)
 fields [] = []
-fields (c ∷ line) = cond (is_blank c) (fields line) (cond (ends_field line) ((c ∷ []) ∷ fields line) (grown c (fields line)))
+fields (c ∷ line) = cond (is_blank c) (fields line) (cond (ends_field line) ((c ∷ []) ∷ fields line) (with_first_byte c (fields line)))
 
 -- nothing but blanks and tabs
 abbrev pub all_blank : List ℕ → Bool
@@ -31,9 +31,9 @@ all_blank [] = true
 all_blank (c ∷ line) = is_blank c && all_blank line
 
 -- the line with the blanks and tabs at its end dropped
-abbrev pub trimmed : List ℕ → List ℕ
-trimmed [] = []
-trimmed (c ∷ line) = cond (all_blank (c ∷ line)) [] (c ∷ trimmed line)
+abbrev pub trim_end : List ℕ → List ℕ
+trim_end [] = []
+trim_end (c ∷ line) = cond (all_blank (c ∷ line)) [] (c ∷ trim_end line)
 
 -- that byte is the last one
 abbrev pub ends_in : ℕ → List ℕ → Bool

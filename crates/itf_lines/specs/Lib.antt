@@ -5,7 +5,7 @@ pub mod Fronts
 pub mod Kept
 pub mod LogicalLines
 pub mod Pass
-pub mod Places
+pub mod PassStates
 pub mod Rising
 pub mod Views
 pub mod Words

@@ -4,11 +4,11 @@ use Rattle.itf_lines.specs.declared.logical.Line.{Line}
 use Rattle.itf_lines.specs.declared.logical.Lines.{Lines}
 use Rattle.itf_lines.specs.LogicalLines.{LogicalLine, LogicalLines}
 
-abbrev pub line_seen : Line → LogicalLine
-line_seen line = record { number = line.number; word = line.word; fields = line.fields.items }
+abbrev pub line_view : Line → LogicalLine
+line_view line = record { number = line.number; word = line.word; fields = line.fields.items }
 
-abbrev pub lines_seen : List Line → List LogicalLine
-lines_seen lines = map line_seen lines
+abbrev pub lines_view : List Line → List LogicalLine
+lines_view lines = map line_view lines
 
-abbrev pub seen : Lines → LogicalLines
-seen found = record { lines = lines_seen found.lines.items; fault = found.fault; total = found.total }
+abbrev pub logical_view : Lines → LogicalLines
+logical_view lines = record { lines = lines_view lines.lines.items; fault = lines.fault; total = lines.total }

@@ -2,9 +2,10 @@
 ghost use Rattle.std.specs.Prelude.{◌≡◌, ◌≤◌, ◌<◌, ◌∷◌, ◌||◌, [], length, true, false};
 ghost use Rattle.std.specs.Prelude.{OnSome, IfSome, IfNone, IsTrue, IsFalse};
 ghost use Rattle.bstr.specs.Text.{without_terminator};
-ghost use Rattle.itf_lines.specs.Fields.{fields, is_blank, trimmed, ends_in, without_last};
+ghost use Rattle.itf_lines.specs.Fields.{fields, is_blank, trim_end, ends_in, without_last};
 ghost use Rattle.itf_lines.specs.Fronts.{field_len, begins_with_field};
-ghost use Rattle.itf_lines.specs.LogicalLines.{is_slashes, goes_on, without_code, is_cont, further};
+ghost use Rattle.itf_lines.specs.LogicalLines.{is_slashes, goes_on, without_code, is_cont};
+ghost use Rattle.itf_lines.specs.LogicalLines.{without_first};
 
 /// The text of a physical line without the code by which it goes on.
 #[derive(Clone, Copy)]
@@ -20,7 +21,7 @@ fn is_blank(byte: u8) -> bool
     byte == b' ' || byte == b'\t'
 }
 
-// The line without the blanks and tabs in front.
+// The line without the blanks and tabs at its front.
 fn skip_blanks(mut line: &[u8]) -> &[u8]
     ensures fields { fields result.now ≡ fields line.entry.now }
     ensures front { IsTrue (begins_with_field result.now) }
@@ -48,7 +49,7 @@ fn field_len(line: &[u8]) -> usize
     line.len()
 }
 
-/// The first field of a line and what stands behind it; none where there is no field.
+/// The first field of a line and what follows it; none where there is no field.
 #[tactic(auto, using(crate::proofs::Cuts::front_is_field))]
 pub fn split_field(line: &[u8]) -> Option<(&[u8], &[u8])>
     ensures some { IfSome result (λ parts. fields line.now ≡ parts.0.now ∷ fields parts.1.now) }
@@ -62,10 +63,10 @@ pub fn split_field(line: &[u8]) -> Option<(&[u8], &[u8])>
     Some(line.split_at(field_len(line)))
 }
 
-/// What stands behind the field CONT at the front of a line; none where no such field stands there.
-pub fn behind_cont(line: &[u8]) -> Option<&[u8]>
+/// What follows the field CONT at the front of a line; none where the first field is another.
+pub fn after_cont(line: &[u8]) -> Option<&[u8]>
     ensures cont { IfSome result (λ rest. is_cont (fields line.now) ≡ true) }
-    ensures some { IfSome result (λ rest. further (fields line.now) ≡ fields rest.now) }
+    ensures some { IfSome result (λ rest. without_first (fields line.now) ≡ fields rest.now) }
     ensures none { IfNone result (is_cont (fields line.now) ≡ false) }
 {
     match split_field(line) {
@@ -89,8 +90,8 @@ pub fn content(line: &[u8]) -> &[u8]
 
 // The line with the blanks and tabs at its end dropped.
 #[tactic(auto, using(crate::proofs::Ends::trimmed_blank, crate::proofs::Ends::trimmed_solid))]
-fn trimmed(mut line: &[u8]) -> &[u8]
-    ensures { result.now ≡ trimmed line.entry.now }
+fn trim_end(mut line: &[u8]) -> &[u8]
+    ensures { result.now ≡ trim_end line.entry.now }
 {
     while let [front @ .., last] = line {
         if !is_blank(*last) {
@@ -105,7 +106,7 @@ fn trimmed(mut line: &[u8]) -> &[u8]
 pub fn is_slashes(line: &[u8]) -> bool
     ensures { result ≡ is_slashes line.now }
 {
-    trimmed(line) == b"////".as_slice()
+    trim_end(line) == b"////".as_slice()
 }
 
 // The byte is the last one.
@@ -134,10 +135,10 @@ pub fn piece_of(code: u8, line: &[u8]) -> Piece<'_>
     ensures text { result.text.now ≡ without_code code line.now }
     ensures goes_on { result.goes_on ≡ goes_on code line.now }
 {
-    let trimmed = trimmed(line);
-    if ends_in(code, trimmed) {
+    let front = trim_end(line);
+    if ends_in(code, front) {
         Piece {
-            text: without_last(trimmed),
+            text: without_last(front),
             goes_on: true,
         }
     } else {

@@ -1,7 +1,7 @@
 // The lines of a text that comes in pieces.
 ghost use Rattle.std.specs.Prelude.{◌≡◌, ◌+◌, ◌<◌, ◌≤◌, ◌∷◌, ◌++◌, [], length, drop, true, false};
 ghost use Rattle.std.specs.Prelude.{IfOk, OnOk, OnErr, IfSome, IfNone};
-ghost use Rattle.itf_lines.specs.Views.{line_seen, lines_seen};
+ghost use Rattle.itf_lines.specs.Views.{line_view, lines_view};
 ghost use Rattle.itf_lines.specs.FeedStates.{has_no_lf, opening};
 ghost use Rattle.itf_lines.specs.Feeds.{line_if, IsEnded, TakesLine, Reads};
 ghost use Rattle.itf_lines.specs.Feeds.{Adds, AddsFront, Ends, AddsEnd};
@@ -16,8 +16,8 @@ use std::alloc::Global;
 use std::marker::Model;
 use std::mem::replace;
 
-/// The lines of a text that is read in pieces: what was read so far, as far as it tells the lines
-/// of the rest.
+/// The lines of a text that is read in pieces: of what was read so far, that which the lines of
+/// the rest depend on.
 #[derive(Drop)]
 pub struct LineFeed {
     alloc: Global,
@@ -29,7 +29,7 @@ pub struct LineFeed {
 
 impl Model for LineFeed {
     ghost use Rattle.std.specs.Prelude.{◌≡◌, ◌<◌, true};
-    ghost use Rattle.itf_lines.specs.Pass.{place_of};
+    ghost use Rattle.itf_lines.specs.Pass.{state_view};
     ghost use Rattle.itf_lines.specs.FeedStates.{FeedState, has_no_lf};
 
     ghost Value = { FeedState };
@@ -39,7 +39,7 @@ impl Model for LineFeed {
       code = feed.pass.code;
       ended = feed.ended;
       begun = feed.begun.items;
-      place = place_of feed.pass;
+      state = state_view feed.pass;
     } };
 
     ghost invariant = { λ feed. (feed.ended < 4294967295) × (has_no_lf feed.begun.items ≡ true) };
@@ -49,8 +49,8 @@ impl Model for LineFeed {
 // transfer has millions of lines.
 fn add_line(alloc: Global, line: &mut Line, into: &mut Vec<Line>) -> Result<(), Memory>
     ensures added { OnOk result
-        (lines_seen into.new.items ≡ lines_seen into.old.items ++ line_seen line.old ∷ []) }
-    ensures kept { OnErr result (lines_seen into.new.items ≡ lines_seen into.old.items) }
+        (lines_view into.new.items ≡ lines_view into.old.items ++ line_view line.old ∷ []) }
+    ensures kept { OnErr result (lines_view into.new.items ≡ lines_view into.old.items) }
 {
     let mut fields = Vec::with_capacity(alloc, line.fields.len())?;
     fields.append(&mut line.fields)?;
@@ -80,7 +80,7 @@ impl LineFeed {
     fn take_line(&mut self, text: &[u8], line: &mut Line) -> Result<bool, Memory>
         requires few { self.old.ended + 1 < 4294967295 }
         ensures lines { IfOk result
-            (λ whole. TakesLine self.old text.now whole (line_seen line.new) self.new) }
+            (λ whole. TakesLine self.old text.now whole (line_view line.new) self.new) }
         ensures ended { self.new.ended ≡ self.old.ended + 1 }
         ensures begun { self.new.begun ≡ self.old.begun }
         ensures failed { self.new.failed ≡ self.old.failed }
@@ -94,13 +94,14 @@ impl LineFeed {
         requires ended { IsEnded bytes.now }
         requires few { self.old.ended + 1 < 4294967295 }
         ensures reads { IfOk result (λ whole.
-            Reads self.old bytes.now (line_if whole (line_seen line.new)) self.new []) }
+            Reads self.old bytes.now (line_if whole (line_view line.new)) self.new []) }
         ensures ended { OnOk result (self.new.ended ≡ self.old.ended + 1) }
         ensures failed { self.new.failed ≡ self.old.failed }
     {
         if self.begun.is_empty() {
             return self.take_line(content(bytes), line);
         }
+        // Moved out while the line is taken; its room is put back.
         let mut begun = replace(&mut self.begun, Vec::new(self.alloc));
         begun.extend_from_slice(bytes)?;
         let whole = self.take_line(content(&begun), line)?;
@@ -123,21 +124,21 @@ impl LineFeed {
     // The next logical line of a piece, by a feed that did not fail.
     fn next_line(&mut self, piece: &[u8], line: &mut Line) -> Result<Option<usize>, Memory>
         requires few { self.old.ended + length piece.now < 4294967295 }
-        ensures line { IfOk result (λ found. IfSome found (λ n.
-            Reads self.old piece.now (line_seen line.new ∷ []) self.new (drop n piece.now))) }
-        ensures within { IfOk result (λ found. IfSome found (λ n.
+        ensures line { IfOk result (λ taken. IfSome taken (λ n.
+            Reads self.old piece.now (line_view line.new ∷ []) self.new (drop n piece.now))) }
+        ensures within { IfOk result (λ taken. IfSome taken (λ n.
             (0 < n) × (n ≤ length piece.now) × (self.new.ended ≤ self.old.ended + n))) }
-        ensures none { IfOk result (λ found.
-            IfNone found (Reads self.old piece.now [] self.new [])) }
-        ensures few { IfOk result (λ found.
-            IfNone found (self.new.ended ≤ self.old.ended + length piece.now)) }
+        ensures none { IfOk result (λ taken.
+            IfNone taken (Reads self.old piece.now [] self.new [])) }
+        ensures few { IfOk result (λ taken.
+            IfNone taken (self.new.ended ≤ self.old.ended + length piece.now)) }
         ensures failed { self.new.failed ≡ self.old.failed }
     {
         let mut at = 0;
         while let Some(end) = (&piece[at..]).find_byte(b'\n') {
-            let behind = at + end + 1;
-            let whole = self.take_ended(&piece[at..behind], line)?;
-            at = behind;
+            let next = at + end + 1;
+            let whole = self.take_ended(&piece[at..next], line)?;
+            at = next;
             if whole {
                 return Ok(Some(at));
             }
@@ -147,7 +148,7 @@ impl LineFeed {
     }
 
     /// Takes bytes of a piece up to the next logical line, and fills `line` with it: `Some` of how
-    /// many bytes were taken. `None`: all bytes were taken, and no logical line is whole by them.
+    /// many bytes were taken. `None`: all bytes were taken, and they complete no logical line.
     ///
     /// Cost: time in proportion to the bytes that are taken. `line` keeps the room of its fields,
     /// so that only a longer line and a field of more than 14 bytes take memory. Bytes are copied
@@ -155,14 +156,14 @@ impl LineFeed {
     pub fn next(&mut self, piece: &[u8], line: &mut Line) -> Result<Option<usize>, Memory>
         requires few { self.old.failed ≡ false → self.old.ended + length piece.now < 4294967295 }
         // Whatever follows the piece: the lines are this one and those of the rest from here on.
-        ensures line { IfOk result (λ found. IfSome found (λ n.
-            Reads self.old piece.now (line_seen line.new ∷ []) self.new (drop n piece.now))) }
-        ensures within { IfOk result (λ found. IfSome found (λ n.
+        ensures line { IfOk result (λ taken. IfSome taken (λ n.
+            Reads self.old piece.now (line_view line.new ∷ []) self.new (drop n piece.now))) }
+        ensures within { IfOk result (λ taken. IfSome taken (λ n.
             (0 < n) × (n ≤ length piece.now) × (self.new.ended ≤ self.old.ended + n))) }
-        ensures none { IfOk result (λ found.
-            IfNone found (Reads self.old piece.now [] self.new [])) }
-        ensures few { IfOk result (λ found.
-            IfNone found (self.new.ended ≤ self.old.ended + length piece.now)) }
+        ensures none { IfOk result (λ taken.
+            IfNone taken (Reads self.old piece.now [] self.new [])) }
+        ensures few { IfOk result (λ taken.
+            IfNone taken (self.new.ended ≤ self.old.ended + length piece.now)) }
         // The only error is out of memory, after which each call has it.
         ensures sound { OnOk result ((self.old.failed ≡ false) × (self.new.failed ≡ false)) }
         ensures failed { OnErr result (self.new.failed ≡ true) }
@@ -170,22 +171,22 @@ impl LineFeed {
         if self.failed {
             return Err(Memory);
         }
-        let found = self.next_line(piece, line);
-        self.failed = found.is_err();
-        found
+        let taken = self.next_line(piece, line);
+        self.failed = taken.is_err();
+        taken
     }
 
     // Adds the logical lines of a piece, by a feed that did not fail.
     fn feed_lines(&mut self, piece: &[u8], into: &mut Vec<Line>) -> Result<(), Memory>
         requires few { self.old.ended + length piece.now < 4294967295 }
         ensures lines { OnOk result
-            (Adds (lines_seen into.old.items) self.old piece.now (lines_seen into.new.items)
+            (Adds (lines_view into.old.items) self.old piece.now (lines_view into.new.items)
             self.new []) }
         ensures few { OnOk result (self.new.ended ≤ self.old.ended + length piece.now) }
         ensures sound { OnOk result (self.new.failed ≡ false) }
         ensures front { OnErr result
-            (AddsFront (lines_seen into.old.items) self.old piece.now
-            (lines_seen into.new.items)) }
+            (AddsFront (lines_view into.old.items) self.old piece.now
+            (lines_view into.new.items)) }
     {
         let mut line = Line::empty(self.alloc);
         let mut at = 0;
@@ -204,7 +205,7 @@ impl LineFeed {
         requires few { self.old.failed ≡ false → self.old.ended + length piece.now < 4294967295 }
         // Whatever follows the piece: the lines are those that were added and those from here on.
         ensures lines { OnOk result
-            (Adds (lines_seen into.old.items) self.old piece.now (lines_seen into.new.items)
+            (Adds (lines_view into.old.items) self.old piece.now (lines_view into.new.items)
             self.new []) }
         ensures few { OnOk result (self.new.ended ≤ self.old.ended + length piece.now) }
         ensures sound { OnOk result ((self.old.failed ≡ false) × (self.new.failed ≡ false)) }
@@ -212,8 +213,8 @@ impl LineFeed {
         // are then the first of those that would have been.
         ensures failed { OnErr result (self.new.failed ≡ true) }
         ensures front { OnErr result
-            (AddsFront (lines_seen into.old.items) self.old piece.now
-            (lines_seen into.new.items)) }
+            (AddsFront (lines_view into.old.items) self.old piece.now
+            (lines_view into.new.items)) }
         ensures nothing { self.old.failed ≡ true → into.new ≡ into.old }
     {
         if self.failed {
@@ -224,11 +225,11 @@ impl LineFeed {
         added
     }
 
-    /// The text ends here: fills `line` with the logical line that is whole by its last bytes,
-    /// where there is one, and answers whether there is, and the fault and the number of lines.
+    /// The text ends here: fills `line` with the logical line that its last bytes complete, where
+    /// there is one, and answers whether there is, and the fault and the number of lines.
     pub fn finish_line(self, line: &mut Line) -> Result<(bool, LineEnd), Memory>
-        ensures ends { IfOk result (λ found.
-            Ends self (line_if found.0 (line_seen line.new)) found.1) }
+        ensures ends { IfOk result (λ answer.
+            Ends self (line_if answer.0 (line_view line.new)) answer.1) }
         ensures sound { OnOk result (self.failed ≡ false) }
     {
         if self.failed {
@@ -256,9 +257,9 @@ impl LineFeed {
     /// feed that failed before has it, and nothing is added then.
     pub fn finish(self, into: &mut Vec<Line>) -> Result<LineEnd, Memory>
         ensures lines { IfOk result (λ end.
-            AddsEnd (lines_seen into.old.items) self (lines_seen into.new.items) end) }
+            AddsEnd (lines_view into.old.items) self (lines_view into.new.items) end) }
         ensures sound { OnOk result (self.failed ≡ false) }
-        ensures nothing { OnErr result (lines_seen into.new.items ≡ lines_seen into.old.items) }
+        ensures nothing { OnErr result (lines_view into.new.items ≡ lines_view into.old.items) }
     {
         let alloc = self.alloc;
         let mut line = Line::empty(alloc);

@@ -13,7 +13,7 @@ enum Kept {
     Long(Box<Vec<u8>>),
 }
 
-/// A field: one or more bytes as they stand in the text, or any other list of bytes. Up to 14
+/// A field: one or more bytes as they are in the text, or any other list of bytes. Up to 14
 /// bytes are kept in the value, which takes 16; more are kept in a block of their own.
 #[derive(Drop)]
 pub struct Field {
@@ -30,7 +30,7 @@ impl Model for Field {
 }
 
 impl Field {
-    /// Copies the bytes. The only error is want of memory.
+    /// Copies the bytes. The only error is out of memory.
     pub fn new(alloc: Global, bytes: &[u8]) -> Result<Field, Memory>
         ensures { IfOk result (λ field. field ≡ bytes.now) }
     {

@@ -5,7 +5,7 @@ ghost use Rattle.itf_lines.specs.FeedStates.{FeedState, opening};
 ghost use Rattle.itf_lines.specs.Feeds.{Reads, lines_from_state};
 ghost use Rattle.itf_lines.specs.Rising.{Rise, AreAtMost};
 
-/// A feed that begins in front of a text has the logical lines of that text.
+/// A feed that begins before a text has the logical lines of that text.
 pub fn from_the_opening()
     ensures { (code : ℕ) (text : List ℕ)
         → lines_from_state (opening code) text ≡ logical code text }

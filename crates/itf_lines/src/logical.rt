@@ -8,9 +8,9 @@ use std::alloc::Global;
 pub struct Line {
     /// The number of its first physical line, counted from 1.
     pub number: u32,
-    /// What its first field says.
+    /// The word of its first field.
     pub word: LineWord,
-    /// The fields behind the first one. Those of a line that was continued stand in the order of
+    /// The fields after the first one. Those of a line that was continued are in the order of
     /// its pieces, each CONT left out. The lines of the head are kept by the same rule: the first
     /// line, the free lines, the line `////` (which has no further fields), and a line without
     /// fields, whose word is `Other`. The first field of a line with the word `Other` is not kept.
@@ -44,7 +44,7 @@ pub struct Lines {
     pub lines: Vec<Line>,
     /// The first fault of continuation.
     pub fault: Option<LineFault>,
-    /// The number of physical lines, those behind a fault too.
+    /// The number of physical lines, those after a fault too.
     pub total: u32,
 }
 
@@ -53,6 +53,6 @@ pub struct Lines {
 pub struct LineEnd {
     /// The first fault of continuation.
     pub fault: Option<LineFault>,
-    /// The number of physical lines, those behind a fault too.
+    /// The number of physical lines, those after a fault too.
     pub total: u32,
 }

@@ -1,9 +1,9 @@
 // A logical line whose fields are still being added.
 ghost use Rattle.std.specs.Prelude.{◌≡◌, [], OnOk};
 ghost use Rattle.itf_lines.specs.Fields.{fields};
-ghost use Rattle.itf_lines.specs.Pass.{held_of, nothing, with_field, with_fields};
-ghost use Rattle.itf_lines.specs.Pass.{line_held, any_line};
-ghost use Rattle.itf_lines.specs.Views.{line_seen};
+ghost use Rattle.itf_lines.specs.Pass.{open_line_view, no_fields, with_field, with_fields};
+ghost use Rattle.itf_lines.specs.Pass.{line_in, any_line};
+ghost use Rattle.itf_lines.specs.Views.{line_view};
 ghost use Rattle.itf_lines.specs.Feeds.{line_if};
 
 use super::cut::split_field;
@@ -33,7 +33,7 @@ impl PartialLine {
 
     /// Begins a line of that number. The room of the fields before stays.
     pub fn restart(&mut self, number: u32)
-        ensures { held_of self.new ≡ nothing number }
+        ensures { open_line_view self.new ≡ no_fields number }
     {
         self.number = number;
         self.word = None;
@@ -42,7 +42,8 @@ impl PartialLine {
 
     // Adds a field.
     fn add(&mut self, alloc: Global, field: &[u8]) -> Result<(), Memory>
-        ensures { OnOk result (held_of self.new ≡ with_field (held_of self.old) field.now) }
+        ensures { OnOk result (open_line_view self.new
+            ≡ with_field (open_line_view self.old) field.now) }
     {
         if self.word.is_none() {
             self.word = Some(word_of(field));
@@ -55,19 +56,19 @@ impl PartialLine {
     /// Adds the fields of a text.
     pub fn add_all(&mut self, alloc: Global, text: &[u8]) -> Result<(), Memory>
         ensures { OnOk result
-            (held_of self.new ≡ with_fields (held_of self.old) (fields text.now)) }
+            (open_line_view self.new ≡ with_fields (open_line_view self.old) (fields text.now)) }
     {
         let mut rest = text;
-        while let Some((field, behind)) = split_field(rest) {
+        while let Some((field, others)) = split_field(rest) {
             self.add(alloc, field)?;
-            rest = behind;
+            rest = others;
         }
         Ok(())
     }
 
     /// Moves the line into `line`, also where it has no field; its word is then `Other`.
     pub fn move_any_into(&mut self, line: &mut Line)
-        ensures { line_seen line.new ≡ any_line (held_of self.old) }
+        ensures { line_view line.new ≡ any_line (open_line_view self.old) }
     {
         line.number = self.number;
         line.word = self.word.unwrap_or(LineWord::Other);
@@ -76,7 +77,7 @@ impl PartialLine {
 
     /// Moves the line into `line`; false where it has no field.
     pub fn move_into(&mut self, line: &mut Line) -> bool
-        ensures { line_if result (line_seen line.new) ≡ line_held (held_of self.old) }
+        ensures { line_if result (line_view line.new) ≡ line_in (open_line_view self.old) }
     {
         let has_field = self.word.is_some();
         self.move_any_into(line);

@@ -1,29 +1,29 @@
 // The machine that takes one physical line after another.
 ghost use Rattle.std.specs.Prelude.{◌≡◌, IfOk};
 ghost use Rattle.itf_lines.specs.LogicalLines.{is_slashes};
-ghost use Rattle.itf_lines.specs.Pass.{held_of, place_of, fault_at};
-ghost use Rattle.itf_lines.specs.Pass.{step, in_head, begun, gone_on, settled};
-ghost use Rattle.itf_lines.specs.Places.{in_the_head};
-ghost use Rattle.itf_lines.specs.Views.{line_seen};
+ghost use Rattle.itf_lines.specs.Pass.{open_line_view, state_view, fault_at};
+ghost use Rattle.itf_lines.specs.Pass.{step, head_step, start_step, continue_step, end_step};
+ghost use Rattle.itf_lines.specs.PassStates.{in_the_head};
+ghost use Rattle.itf_lines.specs.Views.{line_view};
 ghost use Rattle.itf_lines.specs.Feeds.{Takes};
 
-use super::cut::{Piece, behind_cont, is_slashes, piece_of};
+use super::cut::{Piece, after_cont, is_slashes, piece_of};
 use super::logical::{Line, LineFault};
 use super::partial::PartialLine;
 use super::word::LineWord;
 use ports::Memory;
 use std::alloc::Global;
 
-/// Where the machine stands between two physical lines.
+/// The state between two physical lines.
 #[derive(Clone, Copy)]
 pub enum State {
-    /// The line of four slashes has not come.
+    /// Up to the line of four slashes.
     Head,
     /// No line goes on.
     Between,
     /// The partial line goes on, and the number is that of its last physical line.
     Waiting(u32),
-    /// A fault of continuation came.
+    /// After a fault of continuation.
     Broken(LineFault),
 }
 
@@ -39,7 +39,7 @@ pub struct Pass {
 impl Pass {
     /// Before the first line.
     pub fn new(alloc: Global, code: u8) -> Pass
-        ensures place { place_of result ≡ in_the_head }
+        ensures state { state_view result ≡ in_the_head }
         ensures code { result.code ≡ code }
     {
         Pass {
@@ -52,7 +52,7 @@ impl Pass {
 
     /// The fault of a text that ends here.
     pub fn fault(&self) -> Option<LineFault>
-        ensures { result ≡ fault_at (place_of self.now) }
+        ensures { result ≡ fault_at (state_view self.now) }
     {
         match self.state {
             State::Head | State::Between => None,
@@ -61,12 +61,12 @@ impl Pass {
         }
     }
 
-    // Takes a line of the head, whatever stands in it.
+    // Takes a line of the head, whatever it holds.
     #[tactic(auto, using(crate::proofs::Gathering::gathered_any))]
     fn take_head(&mut self, number: u32, text: &[u8], line: &mut Line) -> Result<bool, Memory>
         ensures next { IfOk result (λ whole. Takes
-            (in_head number text.now)
-            whole (line_seen line.new) (place_of self.new)) }
+            (head_step number text.now)
+            whole (line_view line.new) (state_view self.new)) }
         ensures code { self.new.code ≡ self.old.code }
     {
         self.partial.restart(number);
@@ -81,10 +81,10 @@ impl Pass {
         Ok(true)
     }
 
-    // The physical line of that number was added to the partial line, which goes on or is whole.
+    // The physical line of that number was added to the partial line, which goes on or is complete.
     fn finish_or_wait(&mut self, goes_on: bool, number: u32, line: &mut Line) -> bool
-        ensures next { Takes (settled goes_on number (held_of self.old.partial))
-            result (line_seen line.new) (place_of self.new) }
+        ensures next { Takes (end_step goes_on number (open_line_view self.old.partial))
+            result (line_view line.new) (state_view self.new) }
         ensures code { self.new.code ≡ self.old.code }
     {
         if goes_on {
@@ -98,11 +98,11 @@ impl Pass {
     // Takes a physical line that continues nothing.
     fn start_line(&mut self, number: u32, piece: Piece<'_>, line: &mut Line) -> Result<bool, Memory>
         ensures next { IfOk result (λ whole. Takes
-            (begun number piece.entry.text.now piece.entry.goes_on)
-            whole (line_seen line.new) (place_of self.new)) }
+            (start_step number piece.entry.text.now piece.entry.goes_on)
+            whole (line_view line.new) (state_view self.new)) }
         ensures code { self.new.code ≡ self.old.code }
     {
-        if behind_cont(piece.text).is_some() {
+        if after_cont(piece.text).is_some() {
             self.state = State::Broken(LineFault::StrayCont(number));
             return Ok(false);
         }
@@ -111,7 +111,7 @@ impl Pass {
         Ok(self.finish_or_wait(piece.goes_on, number, line))
     }
 
-    // Takes the physical line behind one that goes on, whose number is `last`.
+    // Takes the physical line after one that goes on, whose number is `last`.
     fn continue_line(
         &mut self,
         number: u32,
@@ -120,12 +120,12 @@ impl Pass {
         line: &mut Line,
     ) -> Result<bool, Memory>
         ensures next { IfOk result (λ whole. Takes
-            (gone_on number (held_of self.old.partial) last piece.entry.text.now
+            (continue_step number (open_line_view self.old.partial) last piece.entry.text.now
             piece.entry.goes_on)
-            whole (line_seen line.new) (place_of self.new)) }
+            whole (line_view line.new) (state_view self.new)) }
         ensures code { self.new.code ≡ self.old.code }
     {
-        let Some(rest) = behind_cont(piece.text) else {
+        let Some(rest) = after_cont(piece.text) else {
             self.state = State::Broken(LineFault::OpenContinue(last));
             return Ok(false);
         };
@@ -133,12 +133,12 @@ impl Pass {
         Ok(self.finish_or_wait(piece.goes_on, number, line))
     }
 
-    /// Takes the physical line of that number. True: a logical line is whole by it and was moved
+    /// Takes the physical line of that number. True: it completes a logical line, which was moved
     /// into `line`.
     pub fn take(&mut self, number: u32, text: &[u8], line: &mut Line) -> Result<bool, Memory>
         ensures next { IfOk result (λ whole. Takes
-            (step self.old.code number text.now (place_of self.old))
-            whole (line_seen line.new) (place_of self.new)) }
+            (step self.old.code number text.now (state_view self.old))
+            whole (line_view line.new) (state_view self.new)) }
         ensures code { self.new.code ≡ self.old.code }
     {
         match self.state {

@@ -3,7 +3,7 @@ ghost use Rattle.std.specs.Prelude.{◌≡◌, ◌≤◌, length, IfSome, IfNone
 
 use std::marker::Model;
 
-// So many bytes, their count and the tag of an enum make a field of 16 bytes.
+// With their count and the tag of an enum these bytes make a field of 16 bytes.
 const ROOM: usize = 14;
 
 /// At most 14 bytes, seen as their list.

@@ -2,7 +2,7 @@
 ghost use Rattle.std.specs.Prelude.{◌≡◌};
 ghost use Rattle.itf_lines.specs.Words.{word_of};
 
-/// The word of a line, by which the form of a transfer tells what the line is.
+/// The word of a line, which says what the line is.
 #[derive(Clone, Copy, Debug, PartialEq, Eq)]
 pub enum LineWord {
     Scnt,

@@ -1,10 +1,10 @@
--- A line that the machine takes, before what completes the state behind it.
+-- A line that the machine takes, before what completes the state after it.
 use Rattle.std.proofs.Common.{◌≡◌, ◌<◌, ◌+◌, ℕ, Bool, true, false, List, [], ◌∷◌, ◌++◌, length, Option, Some, None, Result, Ok, Err, refl, ap, sym, subst, ◌∙◌, arith, if◌then◌else◌, nat_lt}
 use Rattle.std.proofs.lemmas.List.{append_assoc, append-nil, length-append}
 use Rattle.itf_lines.specs.declared.word.LineWord.{LineWord}
 use Rattle.itf_lines.specs.declared.word.LineWord.TheVariants.{Scnt, Slashes, Mtid, Modl, Topi, Tabl, Obje, Stpt, Lipt, Arcp, Elin, Etab, Etop, Emod, Ende}
 use Rattle.itf_lines.specs.LogicalLines.{LogicalLine}
-use Rattle.itf_reader.specs.Forms.{Table, Form, Start, Straight, OnArc, Vertex, vertex, Row, TableRows, TopicRows, names, table_named, topic_named, table_came, topic_came, filled}
+use Rattle.itf_reader.specs.Forms.{Table, Form, Start, Straight, OnArc, Vertex, vertex, Row, TableRows, TopicRows, names, table_named, topic_named, has_table, has_topic, fill_strokes}
 use Rattle.itf_reader.specs.TransferText.{line, no_vertex, straight_vertex, arc_vertex, IsStroke, undefined_stroke, defined_stroke, no_stroke, more_strokes, no_object, more_objects, no_table, more_tables, no_topic, more_topics, no_free, more_free, is_free}
 use Rattle.itf_reader.specs.Machine.{InTopic, InTable, InRow, State, start, free, title, model, topics, tables, objects, strokes, vertices, arc, last, done, with_table, with_stroke, closed_topic, closed_table, closed_row, opened_row, opened_table, named_table, opened_topic, named_topic, more_of, Code, Name, Twice, Word, by_word}
 use Rattle.itf_reader.proofs.Completes.{Completes, at_done, at_last, at_topics, at_tables, at_objects, at_strokes, at_vertices, at_arc, at_model, at_title, at_free, at_start}
@@ -31,34 +31,34 @@ kept_out : (b : Bool) (c : Code) (s t : State) → (if b then Err c else Ok s) �
 kept_out false c s t e = (refl, same_state s t e)
 kept_out true c s t e = absurd cc
 
-topics_topi : (f : Form) (came : List TopicRows) (n i : ℕ) (fs : List (List ℕ)) (all : List TopicRows) (w : List LogicalLine)
-    → topic_named 0 fs f.topics ≡ Some i → topic_came i came ≡ false
-    → Back f (topics came) (line Topi n fs) (tables (record { came = came; number = i; tables = [] })) all w
-topics_topi f came n i fs all w e c (at_tables _ ts _ m gs _ u h (at_topics _ us _ k j hs is _ g q)) =
-    at_topics came (record { topic = i; tables = ts } ∷ us) all k j hs is (line Topi n fs ∷ w)
-    (more_topics came n m i fs gs ts us w u (line Emod k hs ∷ line Ende j is ∷ []) e c h g)
-    (q ∙ append_assoc came (record { topic = i; tables = ts } ∷ []) us)
+topics_topi : (f : Form) (earlier : List TopicRows) (n i : ℕ) (fs : List (List ℕ)) (all : List TopicRows) (w : List LogicalLine)
+    → topic_named 0 fs f.topics ≡ Some i → has_topic i earlier ≡ false
+    → Back f (topics earlier) (line Topi n fs) (tables (record { earlier = earlier; number = i; tables = [] })) all w
+topics_topi f earlier n i fs all w e c (at_tables _ ts _ m gs _ u h (at_topics _ us _ k j hs is _ g q)) =
+    at_topics earlier (record { topic = i; tables = ts } ∷ us) all k j hs is (line Topi n fs ∷ w)
+    (more_topics earlier n m i fs gs ts us w u (line Emod k hs ∷ line Ende j is ∷ []) e c h g)
+    (q ∙ append_assoc earlier (record { topic = i; tables = ts } ∷ []) us)
 
-topics_emod : (f : Form) (came all : List TopicRows) (n : ℕ) (fs : List (List ℕ)) (w : List LogicalLine) → Back f (topics came) (line Emod n fs) (last came) all w
-topics_emod f came all n fs _ (at_last _ m gs) = at_topics came [] came n m fs gs (line Emod n fs ∷ line Ende m gs ∷ []) (no_topic came (line Emod n fs ∷ line Ende m gs ∷ [])) (sym (append-nil came))
+topics_emod : (f : Form) (earlier all : List TopicRows) (n : ℕ) (fs : List (List ℕ)) (w : List LogicalLine) → Back f (topics earlier) (line Emod n fs) (last earlier) all w
+topics_emod f earlier all n fs _ (at_last _ m gs) = at_topics earlier [] earlier n m fs gs (line Emod n fs ∷ line Ende m gs ∷ []) (no_topic earlier (line Emod n fs ∷ line Ende m gs ∷ [])) (sym (append-nil earlier))
 
 tables_tabl : (f : Form) (o : InTopic) (n i : ℕ) (fs : List (List ℕ)) (t : Table) (all : List TopicRows) (w : List LogicalLine)
-    → table_named 0 o.number fs f.tables ≡ Some (i, t) → table_came i o.tables ≡ false
+    → table_named 0 o.number fs f.tables ≡ Some (i, t) → has_table i o.tables ≡ false
     → Back f (tables o) (line Tabl n fs) (objects (record { inside = o; number = i; lines = t.lines; rows = [] })) all w
 tables_tabl f o n i fs t all w e c (at_objects _ rows _ m gs _ u h (at_tables _ ts _ k hs _ v g q)) =
     let first : TableRows = record { table = i; rows = rows } in
     at_tables o (first ∷ ts) all k hs (line Tabl n fs ∷ w) v
     (more_tables o.tables n m i fs gs t rows ts w u (line Etop k hs ∷ v) e c h g)
-    (subst (λ (x : List TableRows). Completes f (topics (o.came ++ (record { topic = o.number; tables = x } ∷ []))) all v) (append_assoc o.tables (first ∷ []) ts) q)
+    (subst (λ (x : List TableRows). Completes f (topics (o.earlier ++ (record { topic = o.number; tables = x } ∷ []))) all v) (append_assoc o.tables (first ∷ []) ts) q)
 
 tables_etop : (f : Form) (o : InTopic) (n : ℕ) (fs : List (List ℕ)) (all : List TopicRows) (w : List LogicalLine) → Back f (tables o) (line Etop n fs) (topics (closed_topic o)) all w
 tables_etop f o n fs all w q =
     at_tables o [] all n fs (line Etop n fs ∷ w) w (no_table o.tables (line Etop n fs ∷ w))
-    (subst (λ (x : List TableRows). Completes f (topics (o.came ++ (record { topic = o.number; tables = x } ∷ []))) all w) (sym (append-nil o.tables)) q)
+    (subst (λ (x : List TableRows). Completes f (topics (o.earlier ++ (record { topic = o.number; tables = x } ∷ []))) all w) (sym (append-nil o.tables)) q)
 
 objects_obje : (f : Form) (t : InTable) (n : ℕ) (fs : List (List ℕ)) (all : List TopicRows) (w : List LogicalLine) → Back f (objects t) (line Obje n fs) (strokes (opened_row t n fs)) all w
 objects_obje f t n fs all w (at_strokes _ ss _ _ u h l (at_objects _ rows _ m gs _ v g q)) =
-    let first : Row = record { line = n; fields = fs; strokes = filled t.lines ss } in
+    let first : Row = record { line = n; fields = fs; strokes = fill_strokes t.lines ss } in
     at_objects t (first ∷ rows) all m gs (line Obje n fs ∷ w) v
     (more_objects n fs ss rows w u (line Etab m gs ∷ v) h (omega (arith, l)) g)
     (subst (λ (x : List Row). Completes f (tables (with_table t.inside (record { table = t.number; rows = x }))) all v) (append_assoc t.rows (first ∷ []) rows) q)
@@ -110,27 +110,27 @@ free_slashes f n fs all w q = at_free all n fs (line Slashes n fs ∷ w) w (no_f
 free_free : (f : Form) (l : LogicalLine) (all : List TopicRows) (w : List LogicalLine) → is_free l.word ≡ true → Back f free l free all w
 free_free f l all w e (at_free _ n fs _ u h q) = at_free all n fs (l ∷ w) u (more_free l w (line Slashes n fs ∷ u) e h) q
 
-last_ende : (f : Form) (came all : List TopicRows) (n : ℕ) (fs : List (List ℕ)) (w : List LogicalLine) → Back f (last came) (line Ende n fs) (done came) all w
-last_ende f came _ n fs _ (at_done _) = at_last came n fs
+last_ende : (f : Form) (earlier all : List TopicRows) (n : ℕ) (fs : List (List ℕ)) (w : List LogicalLine) → Back f (last earlier) (line Ende n fs) (done earlier) all w
+last_ende f earlier _ n fs _ (at_done _) = at_last earlier n fs
 
 start_scnt : (f : Form) (n : ℕ) (fs : List (List ℕ)) (all : List TopicRows) (w : List LogicalLine) → Back f start (line Scnt n fs) free all w
 start_scnt f n fs all w q = at_start all n fs w q
 
-opened_topic_back : (f : Form) (came : List TopicRows) (n i : ℕ) (fs : List (List ℕ)) (s : State) (all : List TopicRows) (w : List LogicalLine)
-    → topic_named 0 fs f.topics ≡ Some i → opened_topic came i ≡ Ok s → Back f (topics came) (line Topi n fs) s all w
-opened_topic_back f came n i fs s all w e h q =
-    let p = kept_out (topic_came i came) Twice (tables (record { came = came; number = i; tables = [] })) s h in
-    topics_topi f came n i fs all w e p.0 (subst (λ (x : State). Completes f x all w) (sym p.1) q)
+opened_topic_back : (f : Form) (earlier : List TopicRows) (n i : ℕ) (fs : List (List ℕ)) (s : State) (all : List TopicRows) (w : List LogicalLine)
+    → topic_named 0 fs f.topics ≡ Some i → opened_topic earlier i ≡ Ok s → Back f (topics earlier) (line Topi n fs) s all w
+opened_topic_back f earlier n i fs s all w e h q =
+    let p = kept_out (has_topic i earlier) Twice (tables (record { earlier = earlier; number = i; tables = [] })) s h in
+    topics_topi f earlier n i fs all w e p.0 (subst (λ (x : State). Completes f x all w) (sym p.1) q)
 
-named_topic_back : (f : Form) (came : List TopicRows) (n : ℕ) (fs : List (List ℕ)) (found : Option ℕ) (s : State) (all : List TopicRows) (w : List LogicalLine)
-    → topic_named 0 fs f.topics ≡ found → named_topic came found ≡ Ok s → Back f (topics came) (line Topi n fs) s all w
-named_topic_back f came n fs None s all w e h q = absurd cc
-named_topic_back f came n fs (Some i) s all w e h q = opened_topic_back f came n i fs s all w e h q
+named_topic_back : (f : Form) (earlier : List TopicRows) (n : ℕ) (fs : List (List ℕ)) (found : Option ℕ) (s : State) (all : List TopicRows) (w : List LogicalLine)
+    → topic_named 0 fs f.topics ≡ found → named_topic earlier found ≡ Ok s → Back f (topics earlier) (line Topi n fs) s all w
+named_topic_back f earlier n fs None s all w e h q = absurd cc
+named_topic_back f earlier n fs (Some i) s all w e h q = opened_topic_back f earlier n i fs s all w e h q
 
 opened_table_back : (f : Form) (o : InTopic) (n i : ℕ) (fs : List (List ℕ)) (t : Table) (s : State) (all : List TopicRows) (w : List LogicalLine)
     → table_named 0 o.number fs f.tables ≡ Some (i, t) → opened_table o i t ≡ Ok s → Back f (tables o) (line Tabl n fs) s all w
 opened_table_back f o n i fs t s all w e h q =
-    let p = kept_out (table_came i o.tables) Twice (objects (record { inside = o; number = i; lines = t.lines; rows = [] })) s h in
+    let p = kept_out (has_table i o.tables) Twice (objects (record { inside = o; number = i; lines = t.lines; rows = [] })) s h in
     tables_tabl f o n i fs t all w e p.0 (subst (λ (x : State). Completes f x all w) (sym p.1) q)
 
 named_table_back : (f : Form) (o : InTopic) (n : ℕ) (fs : List (List ℕ)) (found : Option (ℕ × Table)) (s : State) (all : List TopicRows) (w : List LogicalLine)
@@ -164,8 +164,8 @@ back f free t0 Slashes n fs all w h = onto f free title t0 (line Slashes n fs) a
 back f free t0 word n fs all w h = onto f free free t0 (line word n fs) all w (free_free f (line word n fs) all w refl) h
 back f title t0 Mtid n fs all w h = onto f title model t0 (line Mtid n fs) all w (λ q. at_title all n fs w q) h
 back f model t0 Modl n fs all w h = model_modl f n fs t0 all w h
-back f (topics came) t0 Topi n fs all w h = named_topic_back f came n fs (topic_named 0 fs f.topics) t0 all w refl h
-back f (topics came) t0 Emod n fs all w h = onto f (topics came) (last came) t0 (line Emod n fs) all w (topics_emod f came all n fs w) h
+back f (topics earlier) t0 Topi n fs all w h = named_topic_back f earlier n fs (topic_named 0 fs f.topics) t0 all w refl h
+back f (topics earlier) t0 Emod n fs all w h = onto f (topics earlier) (last earlier) t0 (line Emod n fs) all w (topics_emod f earlier all n fs w) h
 back f (tables o) t0 Tabl n fs all w h = named_table_back f o n fs (table_named 0 o.number fs f.tables) t0 all w refl h
 back f (tables o) t0 Etop n fs all w h = onto f (tables o) (topics (closed_topic o)) t0 (line Etop n fs) all w (tables_etop f o n fs all w) h
 back f (objects t) t0 Obje n fs all w h = onto f (objects t) (strokes (opened_row t n fs)) t0 (line Obje n fs) all w (objects_obje f t n fs all w) h
@@ -181,5 +181,5 @@ back f (vertices r acc) t0 Lipt n fs all w h = onto f (vertices r acc) (vertices
 back f (vertices r acc) t0 Arcp n fs all w h = onto f (vertices r acc) (arc r (acc ++ (vertex OnArc n fs ∷ []))) t0 (line Arcp n fs) all w (vertices_arcp f r acc n fs all w) h
 back f (vertices r acc) t0 Elin n fs all w h = onto f (vertices r acc) (strokes (with_stroke r acc)) t0 (line Elin n fs) all w (vertices_elin f r acc n fs all w) h
 back f (arc r acc) t0 Lipt n fs all w h = onto f (arc r acc) (vertices r (acc ++ (vertex Straight n fs ∷ []))) t0 (line Lipt n fs) all w (arc_lipt f r acc n fs all w) h
-back f (last came) t0 Ende n fs all w h = onto f (last came) (done came) t0 (line Ende n fs) all w (last_ende f came all n fs w) h
+back f (last earlier) t0 Ende n fs all w h = onto f (last earlier) (done earlier) t0 (line Ende n fs) all w (last_ende f earlier all n fs w) h
 back f s t0 word n fs all w h = absurd cc

@@ -3,7 +3,7 @@ use Rattle.std.proofs.Common.{◌≡◌, ◌≤◌, ◌<◌, ◌+◌, ℕ, Bool,
 use Rattle.std.proofs.lemmas.List.{append-nil}
 use Rattle.std.proofs.lemmas.Bool.{eqb-true, eqb-false, ne_eqb, eq-eqb}
 use Rattle.itf_lines.specs.LogicalLines.{LogicalLine}
-use Rattle.itf_reader.specs.Forms.{Table, Form, Row, TableRows, TopicRows, names, table_named, table_came, topic_came, rows_in, rows_from, tables_of}
+use Rattle.itf_reader.specs.Forms.{Table, Form, Row, TableRows, TopicRows, names, table_named, has_table, has_topic, rows_in, rows_from, tables_of}
 use Rattle.itf_reader.specs.TransferText.{IsTables, no_table, more_tables, IsTopics, no_topic, more_topics, IsText, text, TransferText}
 use Rattle.itf_reader.specs.ClosedRows.{closed_rows, of_table, by_table_from, by_table, all_pairs}
 use Rattle.itf_reader.proofs.Counted.{table_more, topic_more}
@@ -93,31 +93,31 @@ abbrev AllOwned : Form → ℕ → List TableRows → Type 0
 AllOwned f topic [] = Unit {0}
 AllOwned f topic (c ∷ cs) = Owned 0 f.tables c.table topic × AllOwned f topic cs
 
-tables_owned : (f : Form) (topic : ℕ) (came ts : List TableRows) (w r : List LogicalLine) → IsTables f topic came ts w r → AllOwned f topic ts
-tables_owned f topic _ _ _ _ (no_table came r) = tt
-tables_owned f topic _ _ _ _ (more_tables came n m i fs gs t rows ts w u r e c h k) = (named_owned 0 topic fs f.tables i t e, tables_owned f topic _ ts u r k)
+tables_owned : (f : Form) (topic : ℕ) (earlier ts : List TableRows) (w r : List LogicalLine) → IsTables f topic earlier ts w r → AllOwned f topic ts
+tables_owned f topic _ _ _ _ (no_table earlier r) = tt
+tables_owned f topic _ _ _ _ (more_tables earlier n m i fs gs t rows ts w u r e c h k) = (named_owned 0 topic fs f.tables i t e, tables_owned f topic _ ts u r k)
 
 -- none of them has a number of those that came before
 abbrev Apart : List TableRows → List TableRows → Type 0
-Apart came [] = Unit {0}
-Apart came (c ∷ cs) = (table_came c.table came ≡ false) × Apart came cs
+Apart earlier [] = Unit {0}
+Apart earlier (c ∷ cs) = (has_table c.table earlier ≡ false) × Apart earlier cs
 
 cond_other : (a b : Bool) → cond a true b ≡ false → (a ≡ false) × (b ≡ false)
 cond_other true b h = absurd cc
 cond_other false b h = (refl, h)
 
-apart_less : (came : List TableRows) (x : TableRows) (ts : List TableRows) → Apart (came ++ (x ∷ [])) ts → Apart came ts × Without x.table ts
-apart_less came x [] h = (tt, tt)
-apart_less came x (c ∷ ts) h =
-    let k = cond_other (nat_eq x.table c.table) (table_came c.table came) (sym (table_more c.table came x) ∙ h.0) in
-    let r = apart_less came x ts h.1 in
+apart_less : (earlier : List TableRows) (x : TableRows) (ts : List TableRows) → Apart (earlier ++ (x ∷ [])) ts → Apart earlier ts × Without x.table ts
+apart_less earlier x [] h = (tt, tt)
+apart_less earlier x (c ∷ ts) h =
+    let k = cond_other (nat_eq x.table c.table) (has_table c.table earlier) (sym (table_more c.table earlier x) ∙ h.0) in
+    let r = apart_less earlier x ts h.1 in
     ((k.1, r.0), ((λ e. eqb-false x.table c.table k.0 (sym e)), r.1))
 
-tables_apart : (f : Form) (topic : ℕ) (came ts : List TableRows) (w r : List LogicalLine) → IsTables f topic came ts w r → Apart came ts × Distinct ts
-tables_apart f topic _ _ _ _ (no_table came r) = (tt, tt)
-tables_apart f topic _ _ _ _ (more_tables came n m i fs gs t rows ts w u r e c h k) =
-    let rest = tables_apart f topic (came ++ (record { table = i; rows = rows } ∷ [])) ts u r k in
-    let less = apart_less came (record { table = i; rows = rows }) ts rest.0 in
+tables_apart : (f : Form) (topic : ℕ) (earlier ts : List TableRows) (w r : List LogicalLine) → IsTables f topic earlier ts w r → Apart earlier ts × Distinct ts
+tables_apart f topic _ _ _ _ (no_table earlier r) = (tt, tt)
+tables_apart f topic _ _ _ _ (more_tables earlier n m i fs gs t rows ts w u r e c h k) =
+    let rest = tables_apart f topic (earlier ++ (record { table = i; rows = rows } ∷ [])) ts u r k in
+    let less = apart_less earlier (record { table = i; rows = rows }) ts rest.0 in
     ((c, less.0), (less.1, rest.1))
 
 -- the tables of topics, none of which is that one
@@ -144,21 +144,21 @@ distinct-append f i (c ∷ cs) ts o d g h = (without-append c.table cs (tables_o
 
 -- topics that came before are none of these
 abbrev TopicsApart : Form → List TopicRows → List TopicRows → Type 0
-TopicsApart f came [] = Unit {0}
-TopicsApart f came (t ∷ ts) = (topic_came t.topic came ≡ false) × AllOwned f t.topic t.tables × TopicsApart f came ts
+TopicsApart f earlier [] = Unit {0}
+TopicsApart f earlier (t ∷ ts) = (has_topic t.topic earlier ≡ false) × AllOwned f t.topic t.tables × TopicsApart f earlier ts
 
-topics_less : (f : Form) (came : List TopicRows) (x : TopicRows) (ts : List TopicRows) → TopicsApart f (came ++ (x ∷ [])) ts → TopicsApart f came ts × Foreign f x.topic ts
-topics_less f came x [] h = (tt, tt)
-topics_less f came x (t ∷ ts) h =
-    let k = cond_other (nat_eq x.topic t.topic) (topic_came t.topic came) (sym (topic_more t.topic came x) ∙ h.0) in
-    let r = topics_less f came x ts h.2 in
+topics_less : (f : Form) (earlier : List TopicRows) (x : TopicRows) (ts : List TopicRows) → TopicsApart f (earlier ++ (x ∷ [])) ts → TopicsApart f earlier ts × Foreign f x.topic ts
+topics_less f earlier x [] h = (tt, tt)
+topics_less f earlier x (t ∷ ts) h =
+    let k = cond_other (nat_eq x.topic t.topic) (has_topic t.topic earlier) (sym (topic_more t.topic earlier x) ∙ h.0) in
+    let r = topics_less f earlier x ts h.2 in
     ((k.1, h.1, r.0), ((λ e. eqb-false x.topic t.topic k.0 (sym e)), h.1, r.1))
 
-topics_apart : (f : Form) (came ts : List TopicRows) (w r : List LogicalLine) → IsTopics f came ts w r → TopicsApart f came ts × Distinct (tables_of ts)
-topics_apart f _ _ _ _ (no_topic came r) = (tt, tt)
-topics_apart f _ _ _ _ (more_topics came n m i fs gs tables ts w u r e c h k) =
-    let rest = topics_apart f (came ++ (record { topic = i; tables = tables } ∷ [])) ts u r k in
-    let less = topics_less f came (record { topic = i; tables = tables }) ts rest.0 in
+topics_apart : (f : Form) (earlier ts : List TopicRows) (w r : List LogicalLine) → IsTopics f earlier ts w r → TopicsApart f earlier ts × Distinct (tables_of ts)
+topics_apart f _ _ _ _ (no_topic earlier r) = (tt, tt)
+topics_apart f _ _ _ _ (more_topics earlier n m i fs gs tables ts w u r e c h k) =
+    let rest = topics_apart f (earlier ++ (record { topic = i; tables = tables } ∷ [])) ts u r k in
+    let less = topics_less f earlier (record { topic = i; tables = tables }) ts rest.0 in
     let own = tables_owned f i [] tables w _ h in
     ((c, own, less.0), distinct-append f i tables ts own (tables_apart f i [] tables w _ h).1 less.1 rest.1)
 

@@ -4,7 +4,7 @@ use Rattle.std.specs.Prelude.{not, is_some, ◌&&◌}
 use Rattle.itf_lines.specs.declared.word.LineWord.{LineWord}
 use Rattle.itf_lines.specs.declared.word.LineWord.TheVariants.{Scnt, Slashes, Mtid, Modl, Motr, Topi, Tabl, Obje, Stpt, Lipt, Arcp, Elin, Etab, Etop, Emod, Ende}
 use Rattle.itf_lines.specs.LogicalLines.{LogicalLine}
-use Rattle.itf_reader.specs.Forms.{Table, Form, TopicRows, names, table_named, topic_named, table_came, topic_came}
+use Rattle.itf_reader.specs.Forms.{Table, Form, TopicRows, names, table_named, topic_named, has_table, has_topic}
 use Rattle.itf_reader.specs.TransferText.{line}
 use Rattle.itf_reader.specs.Machine.{InTopic, State, start, free, title, model, topics, tables, objects, strokes, vertices, arc, last, done, named_table, named_topic, has_room, has_ended, Code, Word, AsMotr, Name, Twice, by_word}
 
@@ -14,8 +14,8 @@ may_stand start Scnt = true
 may_stand free word = true
 may_stand title Mtid = true
 may_stand model Modl = true
-may_stand (topics came) Topi = true
-may_stand (topics came) Emod = true
+may_stand (topics earlier) Topi = true
+may_stand (topics earlier) Emod = true
 may_stand (tables t) Tabl = true
 may_stand (tables t) Etop = true
 may_stand (objects t) Obje = true
@@ -28,13 +28,13 @@ may_stand (vertices r vs) Lipt = true
 may_stand (vertices r vs) Arcp = true
 may_stand (vertices r vs) Elin = true
 may_stand (arc r vs) Lipt = true
-may_stand (last came) Ende = true
+may_stand (last earlier) Ende = true
 may_stand state word = false
 
 -- MODL has exactly the model's name, TOPI that of a topic, TABL that of a table of the open topic
 abbrev pub state_named : Form → State → List (List ℕ) → Bool
 state_named f model fields = names fields f.model
-state_named f (topics came) fields = is_some (topic_named 0 fields f.topics)
+state_named f (topics earlier) fields = is_some (topic_named 0 fields f.topics)
 state_named f (tables t) fields = is_some (table_named 0 t.number fields f.tables)
 state_named f state fields = true
 
@@ -73,25 +73,25 @@ twice : (b : Bool) (s : State) (c : Code) → (if b then fault Twice else Ok s) 
 twice true s c h = sym (same_code Twice c h)
 twice false s c h = absurd cc
 
-topic_code : (came : List TopicRows) (found : Option ℕ) (c : Code) → named_topic came found ≡ Err c → c ≡ (if not (is_some found) then Name else Twice)
-topic_code came None c h = sym (same_code Name c h)
-topic_code came (Some i) c h = twice (topic_came i came) (tables (record { came = came; number = i; tables = [] })) c h
+topic_code : (earlier : List TopicRows) (found : Option ℕ) (c : Code) → named_topic earlier found ≡ Err c → c ≡ (if not (is_some found) then Name else Twice)
+topic_code earlier None c h = sym (same_code Name c h)
+topic_code earlier (Some i) c h = twice (has_topic i earlier) (tables (record { earlier = earlier; number = i; tables = [] })) c h
 
 table_code : (o : InTopic) (found : Option (ℕ × Table)) (c : Code) → named_table o found ≡ Err c → c ≡ (if not (is_some found) then Name else Twice)
 table_code o None c h = sym (same_code Name c h)
-table_code o (Some found) c h = twice (table_came found.0 o.tables) (objects (record { inside = o; number = found.0; lines = (found.1).lines; rows = [] })) c h
+table_code o (Some found) c h = twice (has_table found.0 o.tables) (objects (record { inside = o; number = found.0; lines = (found.1).lines; rows = [] })) c h
 
 pub code_stands : (f : Form) (s : State) (word : LineWord) (n : ℕ) (fs : List (List ℕ)) (c : Code) → by_word f s word n fs ≡ Err c → c ≡ code_of f s (line word n fs)
 code_stands f free Slashes n fs c h = absurd cc
 code_stands f free word n fs c h = absurd cc
 code_stands f model Modl n fs c h = not_named (names fs f.model) (topics []) c h
-code_stands f (topics came) Topi n fs c h = topic_code came (topic_named 0 fs f.topics) c h
+code_stands f (topics earlier) Topi n fs c h = topic_code earlier (topic_named 0 fs f.topics) c h
 code_stands f (tables o) Tabl n fs c h = table_code o (table_named 0 o.number fs f.tables) c h
 code_stands f (strokes r) Stpt n fs c h = no_room (has_room r) _ c h
 code_stands f (strokes r) Elin n fs c h = no_room (has_room r) _ c h
 code_stands f start Scnt n fs c h = absurd cc
 code_stands f title Mtid n fs c h = absurd cc
-code_stands f (topics came) Emod n fs c h = absurd cc
+code_stands f (topics earlier) Emod n fs c h = absurd cc
 code_stands f (tables o) Etop n fs c h = absurd cc
 code_stands f (objects t) Obje n fs c h = absurd cc
 code_stands f (objects t) Etab n fs c h = absurd cc
@@ -101,7 +101,7 @@ code_stands f (vertices r vs) Lipt n fs c h = absurd cc
 code_stands f (vertices r vs) Arcp n fs c h = absurd cc
 code_stands f (vertices r vs) Elin n fs c h = absurd cc
 code_stands f (arc r vs) Lipt n fs c h = absurd cc
-code_stands f (last came) Ende n fs c h = absurd cc
-code_stands f (done came) Motr n fs c h = sym (same_code Word c h)
+code_stands f (last earlier) Ende n fs c h = absurd cc
+code_stands f (done earlier) Motr n fs c h = sym (same_code Word c h)
 code_stands f s Motr n fs c h = sym (same_code AsMotr c h)
 code_stands f s word n fs c h = sym (same_code Word c h)

@@ -4,10 +4,10 @@ use Rattle.std.specs.Prelude.{⊤, not, ◌&&◌}
 use Rattle.itf_lines.specs.declared.word.LineWord.{LineWord}
 use Rattle.itf_lines.specs.declared.word.LineWord.TheVariants.{Scnt, Slashes, Mtid, Modl, Motr, Topi, Tabl, Obje, Stpt, Lipt, Arcp, Elin, Etab, Etop, Emod, Ende}
 use Rattle.itf_lines.specs.LogicalLines.{LogicalLine}
-use Rattle.itf_reader.specs.Forms.{Table, Form, TopicRows, names, table_named, topic_named, table_came, topic_came}
+use Rattle.itf_reader.specs.Forms.{Table, Form, TopicRows, names, table_named, topic_named, has_table, has_topic}
 use Rattle.itf_reader.specs.TransferText.{line, IsText, IsFaultAt}
 use Rattle.itf_reader.specs.Machine.{InTopic, State, start, free, title, model, topics, tables, objects, strokes, vertices, arc, last, done, has_room, has_ended, named_table, named_topic, Code, Word, AsMotr, Name, Twice, by_word, step, then_run, run}
-use Rattle.itf_reader.specs.Codes.{widened, MayStand, opened, open_topic, names_table, is_named, IsMotr, HasCode, motr, word, name, twice}
+use Rattle.itf_reader.specs.Codes.{with_more, MayStand, topic_after, open_topic, names_table, is_named, IsMotr, HasCode, motr, word, name, twice}
 use Rattle.itf_reader.proofs.Fresh.{same_itself, new_topic, new_table}
 use Rattle.itf_reader.proofs.Wider.{run_wider}
 use Rattle.itf_reader.proofs.Back.{ok, same_state}
@@ -22,25 +22,25 @@ record Goes (f : Form) (s : State) (w : LineWord) : Type 0 where
   number : ℕ
   fields : List (List ℕ)
   behind : State
-  taken : by_word (widened f more others) s w number fields ≡ Ok behind
+  after_line : by_word (with_more f more others) s w number fields ≡ Ok behind
 
 -- at once, with any fields
-goes_so : (f : Form) (s : State) (w : LineWord) (t : State) → by_word (widened f [] []) s w 0 [] ≡ Ok t → Goes f s w
-goes_so f s w t e = record { more = []; others = []; number = 0; fields = []; behind = t; taken = e }
+goes_so : (f : Form) (s : State) (w : LineWord) (t : State) → by_word (with_more f [] []) s w 0 [] ≡ Ok t → Goes f s w
+goes_so f s w t e = record { more = []; others = []; number = 0; fields = []; behind = t; after_line = e }
 
 goes_model : (f : Form) → Goes f model Modl
-goes_model f = record { more = []; others = []; number = 0; fields = f.model ∷ []; behind = topics []; taken = rw (same_itself f.model) refl }
+goes_model f = record { more = []; others = []; number = 0; fields = f.model ∷ []; behind = topics []; after_line = rw (same_itself f.model) refl }
 
-goes_topic : (f : Form) (came : List TopicRows) → Goes f (topics came) Topi
-goes_topic f came =
-    let q = new_topic f.topics came in
+goes_topic : (f : Form) (earlier : List TopicRows) → Goes f (topics earlier) Topi
+goes_topic f earlier =
+    let q = new_topic f.topics earlier in
     record {
       more = q.more;
       others = [];
       number = 0;
       fields = q.fields;
-      behind = tables (record { came = came; number = q.number; tables = [] });
-      taken = ap (named_topic came) q.named ∙ rw q.came_not refl;
+      behind = tables (record { earlier = earlier; number = q.number; tables = [] });
+      after_line = ap (named_topic earlier) q.named ∙ rw q.came_not refl;
     }
 
 goes_table : (f : Form) (o : InTopic) → Goes f (tables o) Tabl
@@ -52,10 +52,10 @@ goes_table f o =
       number = 0;
       fields = q.fields;
       behind = objects (record { inside = o; number = (q.found).0; lines = ((q.found).1).lines; rows = [] });
-      taken = ap (named_table o) q.named ∙ rw q.came_not refl;
+      after_line = ap (named_table o) q.named ∙ rw q.came_not refl;
     }
 
-goes_room : (f : Form) (s t : State) (w : LineWord) (b : Bool) → by_word (widened f [] []) s w 0 [] ≡ (if b then Ok t else Err Word) → b ≡ true → Goes f s w
+goes_room : (f : Form) (s t : State) (w : LineWord) (b : Bool) → by_word (with_more f [] []) s w 0 [] ≡ (if b then Ok t else Err Word) → b ≡ true → Goes f s w
 goes_room f s t w b e h = goes_so f s w t (e ∙ ap (λ (c : Bool). if c then Ok t else Err Word) h)
 
 -- where the word may stand, such a line goes there
@@ -65,8 +65,8 @@ goes f free Slashes h = goes_so f free Slashes title refl
 goes f free w h = goes_so f free w free refl
 goes f title Mtid h = goes_so f title Mtid model refl
 goes f model Modl h = goes_model f
-goes f (topics came) Topi h = goes_topic f came
-goes f (topics came) Emod h = goes_so f (topics came) Emod (last came) refl
+goes f (topics earlier) Topi h = goes_topic f earlier
+goes f (topics earlier) Emod h = goes_so f (topics earlier) Emod (last earlier) refl
 goes f (tables o) Tabl h = goes_table f o
 goes f (tables o) Etop h = goes_so f (tables o) Etop _ refl
 goes f (objects o) Obje h = goes_so f (objects o) Obje _ refl
@@ -79,13 +79,13 @@ goes f (vertices r vs) Lipt h = goes_so f (vertices r vs) Lipt _ refl
 goes f (vertices r vs) Arcp h = goes_so f (vertices r vs) Arcp _ refl
 goes f (vertices r vs) Elin h = goes_so f (vertices r vs) Elin _ refl
 goes f (arc r vs) Lipt h = goes_so f (arc r vs) Lipt _ refl
-goes f (last came) Ende h = goes_so f (last came) Ende (done came) refl
+goes f (last earlier) Ende h = goes_so f (last earlier) Ende (done earlier) refl
 goes f s w h = absurd cc
 
 stands : (f : Form) (front : List LogicalLine) (s : State) (w : LineWord) → run f start front ≡ Ok s → may_stand s w ≡ true → MayStand f front w
 stands f front s w h e =
     let g = goes f s w e in
-    (g.more, g.others, g.number, g.fields, taken_on (widened f g.more g.others) front (line w g.number g.fields) s g.behind (run_wider f g.more g.others start s front h) g.taken)
+    (g.more, g.others, g.number, g.fields, taken_on (with_more f g.more g.others) front (line w g.number g.fields) s g.behind (run_wider f g.more g.others start s front h) g.after_line)
 
 -- and nothing else goes there
 room_there : (b : Bool) (s t : State) → (if b then Ok s else Err Word) ≡ Ok t → b ≡ true
@@ -97,8 +97,8 @@ may f start t Scnt n fs h = refl
 may f free t w n fs h = refl
 may f title t Mtid n fs h = refl
 may f model t Modl n fs h = refl
-may f (topics came) t Topi n fs h = refl
-may f (topics came) t Emod n fs h = refl
+may f (topics earlier) t Topi n fs h = refl
+may f (topics earlier) t Emod n fs h = refl
 may f (tables o) t Tabl n fs h = refl
 may f (tables o) t Etop n fs h = refl
 may f (objects o) t Obje n fs h = refl
@@ -111,10 +111,10 @@ may f (vertices r vs) t Lipt n fs h = refl
 may f (vertices r vs) t Arcp n fs h = refl
 may f (vertices r vs) t Elin n fs h = refl
 may f (arc r vs) t Lipt n fs h = refl
-may f (last came) t Ende n fs h = refl
+may f (last earlier) t Ende n fs h = refl
 may f s t w n fs h = absurd cc
 
--- a line that begins a text behind some lines is taken by the machine
+-- a line that begins a text after some lines is taken by the machine
 taken_of : (f : Form) (front : List LogicalLine) (l : LogicalLine) (s : State) (r : Result State Code) → run f start front ≡ Ok s → step f s l ≡ r → (IsFaultAt f front l → ⊥) → (t : State) × (r ≡ Ok t)
 taken_of f front l s (Ok t) h e k = (t, refl)
 taken_of f front l s (Err c) h e k = absurd (k (refused_at f front l s c h e))
@@ -122,8 +122,8 @@ taken_of f front l s (Err c) h e k = absurd (k (refused_at f front l s c h e))
 stands_only : (f : Form) (front : List LogicalLine) (s : State) (w : LineWord) → run f start front ≡ Ok s → MayStand f front w → may_stand s w ≡ true
 stands_only f front s w h (more, others, n, fs, b) =
     let k = run_wider f more others start s front h in
-    let t = taken_of (widened f more others) front (line w n fs) s (by_word (widened f more others) s w n fs) k refl (λ q. q.1 b) in
-    may (widened f more others) s t.0 w n fs t.1
+    let t = taken_of (with_more f more others) front (line w n fs) s (by_word (with_more f more others) s w n fs) k refl (λ q. q.1 b) in
+    may (with_more f more others) s t.0 w n fs t.1
 
 -- ---- the open topic
 abbrev pub Opens : Option ℕ → State → Type 0
@@ -145,22 +145,22 @@ lands_unless : (topic : Option ℕ) (b : Bool) (s t : State) (c : Code) → (if 
 lands_unless topic true s t c h o = absurd cc
 lands_unless topic false s t c h o = lands topic s t h o
 
-topic_lands : (came : List TopicRows) (found : Option ℕ) (t : State) → named_topic came found ≡ Ok t → Opens found t
-topic_lands came None t h = absurd cc
-topic_lands came (Some i) t h = lands_unless (Some i) (topic_came i came) (tables (record { came = came; number = i; tables = [] })) t Twice h refl
+topic_lands : (earlier : List TopicRows) (found : Option ℕ) (t : State) → named_topic earlier found ≡ Ok t → Opens found t
+topic_lands earlier None t h = absurd cc
+topic_lands earlier (Some i) t h = lands_unless (Some i) (has_topic i earlier) (tables (record { earlier = earlier; number = i; tables = [] })) t Twice h refl
 
 table_lands : (topic : Option ℕ) (o : InTopic) (found : Option (ℕ × Table)) (t : State) → named_table o found ≡ Ok t → topic ≡ Some o.number → Opens topic t
 table_lands topic o None t h e = absurd cc
-table_lands topic o (Some v) t h e = lands_unless topic (table_came v.0 o.tables) (objects (record { inside = o; number = v.0; lines = (v.1).lines; rows = [] })) t Twice h e
+table_lands topic o (Some v) t h e = lands_unless topic (has_table v.0 o.tables) (objects (record { inside = o; number = v.0; lines = (v.1).lines; rows = [] })) t Twice h e
 
-step_opens : (f : Form) (topic : Option ℕ) (s t : State) (w : LineWord) (n : ℕ) (fs : List (List ℕ)) → by_word f s w n fs ≡ Ok t → Opens topic s → Opens (opened f topic w fs) t
+step_opens : (f : Form) (topic : Option ℕ) (s t : State) (w : LineWord) (n : ℕ) (fs : List (List ℕ)) → by_word f s w n fs ≡ Ok t → Opens topic s → Opens (topic_after f topic w fs) t
 step_opens f topic start t Scnt n fs h o = lands topic free t h tt
 step_opens f topic free t Slashes n fs h o = lands topic title t h tt
-step_opens f topic free t w n fs h o = lands (opened f topic w fs) free t h tt
+step_opens f topic free t w n fs h o = lands (topic_after f topic w fs) free t h tt
 step_opens f topic title t Mtid n fs h o = lands topic model t h tt
 step_opens f topic model t Modl n fs h o = lands_if topic (names fs f.model) (topics []) t Name h tt
-step_opens f topic (topics came) t Topi n fs h o = topic_lands came (topic_named 0 fs f.topics) t h
-step_opens f topic (topics came) t Emod n fs h o = lands topic (last came) t h tt
+step_opens f topic (topics earlier) t Topi n fs h o = topic_lands earlier (topic_named 0 fs f.topics) t h
+step_opens f topic (topics earlier) t Emod n fs h o = lands topic (last earlier) t h tt
 step_opens f topic (tables p) t Tabl n fs h o = table_lands topic p (table_named 0 p.number fs f.tables) t h o
 step_opens f topic (tables p) t Etop n fs h o = lands topic _ t h tt
 step_opens f topic (objects p) t Obje n fs h o = lands topic _ t h o
@@ -173,17 +173,17 @@ step_opens f topic (vertices r vs) t Lipt n fs h o = lands topic _ t h o
 step_opens f topic (vertices r vs) t Arcp n fs h o = lands topic _ t h o
 step_opens f topic (vertices r vs) t Elin n fs h o = lands topic _ t h o
 step_opens f topic (arc r vs) t Lipt n fs h o = lands topic _ t h o
-step_opens f topic (last came) t Ende n fs h o = lands topic (done came) t h tt
+step_opens f topic (last earlier) t Ende n fs h o = lands topic (done earlier) t h tt
 step_opens f topic s t w n fs h o = absurd cc
 
-opens_on : (f : Form) (topic : Option ℕ) (s t : State) (l : LogicalLine) (ls : List LogicalLine) (taken : Result State Code) → step f s l ≡ taken → then_run (λ u. run f u ls) taken ≡ Ok t → Opens topic s
-    → ((u : State) → run f u ls ≡ Ok t → Opens (opened f topic l.word l.fields) u → Opens (open_topic f topic (l ∷ ls)) t) → Opens (open_topic f topic (l ∷ ls)) t
+opens_on : (f : Form) (topic : Option ℕ) (s t : State) (l : LogicalLine) (ls : List LogicalLine) (after_line : Result State Code) → step f s l ≡ after_line → then_run (λ u. run f u ls) after_line ≡ Ok t → Opens topic s
+    → ((u : State) → run f u ls ≡ Ok t → Opens (topic_after f topic l.word l.fields) u → Opens (open_topic f topic (l ∷ ls)) t) → Opens (open_topic f topic (l ∷ ls)) t
 opens_on f topic s t l ls (Ok u) e h o rest = rest u h (step_opens f topic s u l.word l.number l.fields e o)
 opens_on f topic s t l ls (Err c) e h o rest = absurd cc
 
 pub run_opens : (f : Form) (topic : Option ℕ) (s t : State) (ls : List LogicalLine) → run f s ls ≡ Ok t → Opens topic s → Opens (open_topic f topic ls) t
 run_opens f topic s t [] h o = lands topic s t h o
-run_opens f topic s t (l ∷ ls) h o = opens_on f topic s t l ls (step f s l) refl h o (λ u k p. run_opens f (opened f topic l.word l.fields) u t ls k p)
+run_opens f topic s t (l ∷ ls) h o = opens_on f topic s t l ls (step f s l) refl h o (λ u k p. run_opens f (topic_after f topic l.word l.fields) u t ls k p)
 
 -- ---- the code
 named_there : (f : Form) (front : List LogicalLine) (s : State) (w : LineWord) (n : ℕ) (fs : List (List ℕ)) (c : Code)
@@ -193,8 +193,8 @@ named_there f front free Slashes n fs c o h e = absurd cc
 named_there f front free w n fs c o h e = absurd cc
 named_there f front title Mtid n fs c o h e = absurd cc
 named_there f front model Modl n fs c o h e = refl
-named_there f front (topics came) Topi n fs c o h e = refl
-named_there f front (topics came) Emod n fs c o h e = absurd cc
+named_there f front (topics earlier) Topi n fs c o h e = refl
+named_there f front (topics earlier) Emod n fs c o h e = absurd cc
 named_there f front (tables p) Tabl n fs c o h e = ap (λ (t : Option ℕ). names_table f t fs) (sym o)
 named_there f front (tables p) Etop n fs c o h e = absurd cc
 named_there f front (strokes r) Stpt n fs c o h e = refl
@@ -207,10 +207,10 @@ named_there f front (vertices r vs) Lipt n fs c o h e = refl
 named_there f front (vertices r vs) Arcp n fs c o h e = refl
 named_there f front (vertices r vs) Elin n fs c o h e = refl
 named_there f front (arc r vs) Lipt n fs c o h e = refl
-named_there f front (last came) Ende n fs c o h e = refl
+named_there f front (last earlier) Ende n fs c o h e = refl
 named_there f front s w n fs c o h e = absurd cc
 
--- the word MOTR in front of the end
+-- the word MOTR before the end
 motr_word : (w : LineWord) → is_motr w ≡ true → w ≡ Motr
 motr_word Motr h = refl
 motr_word w h = absurd cc

@@ -12,7 +12,7 @@ and_strokes r ss = record { inside = r.inside; line = r.line; fields = r.fields;
 
 -- the topics, with the open one and these tables too
 abbrev pub and_tables : InTopic → List TableRows → List TopicRows
-and_tables t ts = t.came ++ (record { topic = t.number; tables = t.tables ++ ts } ∷ [])
+and_tables t ts = t.earlier ++ (record { topic = t.number; tables = t.tables ++ ts } ∷ [])
 
 -- the topic, with the open table and these rows too
 abbrev pub and_rows : InTable → List Row → InTopic
@@ -22,8 +22,8 @@ and_rows t rows = with_table t.inside (record { table = t.number; rows = t.rows 
 pub data Completes (f : Form) : State → List TopicRows → List LogicalLine → Type 0 where
   at_done : (ts : List TopicRows) → Completes f (done ts) ts []
   at_last : (ts : List TopicRows) (n : ℕ) (fs : List (List ℕ)) → Completes f (last ts) ts (line Ende n fs ∷ [])
-  at_topics : (came ts all : List TopicRows) (n m : ℕ) (fs gs : List (List ℕ)) (w : List LogicalLine)
-      → IsTopics f came ts w (line Emod n fs ∷ line Ende m gs ∷ []) → all ≡ came ++ ts → Completes f (topics came) all w
+  at_topics : (earlier ts all : List TopicRows) (n m : ℕ) (fs gs : List (List ℕ)) (w : List LogicalLine)
+      → IsTopics f earlier ts w (line Emod n fs ∷ line Ende m gs ∷ []) → all ≡ earlier ++ ts → Completes f (topics earlier) all w
   at_tables : (t : InTopic) (ts : List TableRows) (all : List TopicRows) (n : ℕ) (fs : List (List ℕ)) (w u : List LogicalLine)
       → IsTables f t.number t.tables ts w (line Etop n fs ∷ u) → Completes f (topics (and_tables t ts)) all u → Completes f (tables t) all w
   at_objects : (t : InTable) (rows : List Row) (all : List TopicRows) (n : ℕ) (fs : List (List ℕ)) (w u : List LogicalLine)

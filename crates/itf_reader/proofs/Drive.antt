@@ -4,7 +4,7 @@ use Rattle.std.proofs.lemmas.List.{append_assoc, append-nil, length-append}
 use Rattle.itf_lines.specs.declared.word.LineWord.{LineWord}
 use Rattle.itf_lines.specs.declared.word.LineWord.TheVariants.{Slashes, Mtid, Modl, Topi, Tabl, Elin, Etab, Etop, Emod, Ende}
 use Rattle.itf_lines.specs.LogicalLines.{LogicalLine}
-use Rattle.itf_reader.specs.Forms.{Table, Form, Start, Straight, OnArc, Vertex, vertex, Row, TableRows, TopicRows, table_named, topic_named, table_came, topic_came, filled}
+use Rattle.itf_reader.specs.Forms.{Table, Form, Start, Straight, OnArc, Vertex, vertex, Row, TableRows, TopicRows, table_named, topic_named, has_table, has_topic, fill_strokes}
 use Rattle.itf_reader.specs.TransferText.{line, IsVertices, no_vertex, straight_vertex, arc_vertex, IsStroke, undefined_stroke, defined_stroke, IsStrokes, no_stroke, more_strokes, IsObjects, no_object, more_objects, IsTables, no_table, more_tables, IsTopics, no_topic, more_topics, AreFree, no_free, more_free, is_free, IsText, text}
 use Rattle.itf_reader.specs.Machine.{InTopic, InTable, InRow, State, start, free, topics, tables, objects, strokes, vertices, done, with_stroke, closed_row, opened_row, named_table, named_topic, more_of, Code, Name, Twice, by_word, step, then_run, run}
 
@@ -39,7 +39,7 @@ strokes_drive f r _ _ _ h (more_strokes s ss w u v k i) =
 abbrev in_rows : InTopic → ℕ → ℕ → List Row → InTable
 in_rows inside number lines rows = record { inside = inside; number = number; lines = lines; rows = rows }
 
--- behind the strokes of an object stands the next object, or the end of the table
+-- after the strokes of an object stands the next object, or the end of the table
 row_ends : (f : Form) (r : InRow) (lines m : ℕ) (gs : List (List ℕ)) (rows : List Row) (w v u : List LogicalLine) → IsObjects lines rows w v → v ≡ line Etab m gs ∷ u
     → run f (strokes r) w ≡ run f (objects (closed_row r)) w
 row_ends f r lines m gs _ _ _ u (no_object v) e = subst (λ (x : List LogicalLine). run f (strokes r) x ≡ run f (objects (closed_row r)) x) (sym e) refl
@@ -49,35 +49,35 @@ objects_drive : (f : Form) (o : InTopic) (i lines : ℕ) (acc : List Row) (m : �
     → run f (objects (in_rows o i lines acc)) w ≡ run f (objects (in_rows o i lines (acc ++ rows))) v
 objects_drive f o i lines acc m gs _ _ _ u (no_object v) e = ap (λ (a : List Row). run f (objects (in_rows o i lines a)) v) (sym (append-nil acc))
 objects_drive f o i lines acc m gs _ _ _ u (more_objects n fs ss rows w x v k l h) e =
-    let first : Row = record { line = n; fields = fs; strokes = filled lines ss } in
+    let first : Row = record { line = n; fields = fs; strokes = fill_strokes lines ss } in
     strokes_drive f (opened_row (in_rows o i lines acc) n fs) ss w x (omega (arith, l)) k
     ∙ (row_ends f (with_strokes (opened_row (in_rows o i lines acc) n fs) ss) lines m gs rows x v u h e
     ∙ (objects_drive f o i lines (acc ++ (first ∷ [])) m gs rows x v u h e
     ∙ ap (λ (a : List Row). run f (objects (in_rows o i lines a)) v) (append_assoc acc (first ∷ []) rows)))
 
 abbrev in_topic : List TopicRows → ℕ → List TableRows → State
-in_topic came i ts = tables (record { came = came; number = i; tables = ts })
+in_topic earlier i ts = tables (record { earlier = earlier; number = i; tables = ts })
 
 abbrev in_table : List TopicRows → ℕ → List TableRows → ℕ → Table → List Row → State
-in_table came i ts j table rows = objects (record { inside = record { came = came; number = i; tables = ts }; number = j; lines = table.lines; rows = rows })
+in_table earlier i ts j table rows = objects (record { inside = record { earlier = earlier; number = i; tables = ts }; number = j; lines = table.lines; rows = rows })
 
-table_opens : (f : Form) (came : List TopicRows) (i : ℕ) (ts : List TableRows) (n j : ℕ) (fs : List (List ℕ)) (table : Table)
-    → table_named 0 i fs f.tables ≡ Some (j, table) → table_came j ts ≡ false → step f (in_topic came i ts) (line Tabl n fs) ≡ Ok (in_table came i ts j table [])
-table_opens f came i ts n j fs table e h = ap (named_table (record { came = came; number = i; tables = ts })) e ∙ ap (λ (b : Bool). if b then Err Twice else Ok (in_table came i ts j table [])) h
+table_opens : (f : Form) (earlier : List TopicRows) (i : ℕ) (ts : List TableRows) (n j : ℕ) (fs : List (List ℕ)) (table : Table)
+    → table_named 0 i fs f.tables ≡ Some (j, table) → has_table j ts ≡ false → step f (in_topic earlier i ts) (line Tabl n fs) ≡ Ok (in_table earlier i ts j table [])
+table_opens f earlier i ts n j fs table e h = ap (named_table (record { earlier = earlier; number = i; tables = ts })) e ∙ ap (λ (b : Bool). if b then Err Twice else Ok (in_table earlier i ts j table [])) h
 
-tables_drive : (f : Form) (came : List TopicRows) (i : ℕ) (acc ts : List TableRows) (w v : List LogicalLine) → IsTables f i acc ts w v
-    → run f (in_topic came i acc) w ≡ run f (in_topic came i (acc ++ ts)) v
-tables_drive f came i _ _ _ _ (no_table acc v) = ap (λ (a : List TableRows). run f (in_topic came i a) v) (sym (append-nil acc))
-tables_drive f came i _ _ _ _ (more_tables acc n m j fs gs table rows ts w u v e c h k) =
-    let o : InTopic = record { came = came; number = i; tables = acc } in
-    ap (then_run (λ s. run f s w)) (table_opens f came i acc n j fs table e c)
+tables_drive : (f : Form) (earlier : List TopicRows) (i : ℕ) (acc ts : List TableRows) (w v : List LogicalLine) → IsTables f i acc ts w v
+    → run f (in_topic earlier i acc) w ≡ run f (in_topic earlier i (acc ++ ts)) v
+tables_drive f earlier i _ _ _ _ (no_table acc v) = ap (λ (a : List TableRows). run f (in_topic earlier i a) v) (sym (append-nil acc))
+tables_drive f earlier i _ _ _ _ (more_tables acc n m j fs gs table rows ts w u v e c h k) =
+    let o : InTopic = record { earlier = earlier; number = i; tables = acc } in
+    ap (then_run (λ s. run f s w)) (table_opens f earlier i acc n j fs table e c)
     ∙ (objects_drive f o j table.lines [] m gs rows w (line Etab m gs ∷ u) u h refl
-    ∙ (tables_drive f came i (acc ++ (record { table = j; rows = rows } ∷ [])) ts u v k
-    ∙ ap (λ (a : List TableRows). run f (in_topic came i a) v) (append_assoc acc (record { table = j; rows = rows } ∷ []) ts)))
+    ∙ (tables_drive f earlier i (acc ++ (record { table = j; rows = rows } ∷ [])) ts u v k
+    ∙ ap (λ (a : List TableRows). run f (in_topic earlier i a) v) (append_assoc acc (record { table = j; rows = rows } ∷ []) ts)))
 
-topic_opens : (f : Form) (came : List TopicRows) (n i : ℕ) (fs : List (List ℕ))
-    → topic_named 0 fs f.topics ≡ Some i → topic_came i came ≡ false → step f (topics came) (line Topi n fs) ≡ Ok (in_topic came i [])
-topic_opens f came n i fs e h = ap (named_topic came) e ∙ ap (λ (b : Bool). if b then Err Twice else Ok (in_topic came i [])) h
+topic_opens : (f : Form) (earlier : List TopicRows) (n i : ℕ) (fs : List (List ℕ))
+    → topic_named 0 fs f.topics ≡ Some i → has_topic i earlier ≡ false → step f (topics earlier) (line Topi n fs) ≡ Ok (in_topic earlier i [])
+topic_opens f earlier n i fs e h = ap (named_topic earlier) e ∙ ap (λ (b : Bool). if b then Err Twice else Ok (in_topic earlier i [])) h
 
 topics_drive : (f : Form) (acc ts : List TopicRows) (w v : List LogicalLine) → IsTopics f acc ts w v → run f (topics acc) w ≡ run f (topics (acc ++ ts)) v
 topics_drive f _ _ _ _ (no_topic acc v) = ap (λ (a : List TopicRows). run f (topics a) v) (sym (append-nil acc))

@@ -6,20 +6,20 @@ use Rattle.itf_lines.specs.declared.word.LineWord.TheVariants.{Obje, Etab}
 use Rattle.itf_lines.specs.declared.logical.Line.{Line}
 use Rattle.itf_lines.specs.declared.logical.LineEnd.{LineEnd}
 use Rattle.itf_lines.specs.LogicalLines.{LogicalLine}
-use Rattle.itf_lines.specs.Views.{line_seen, lines_seen}
+use Rattle.itf_lines.specs.Views.{line_view, lines_view}
 use Rattle.itf_reader.specs.Forms.{Form, Row}
 use Rattle.itf_reader.specs.Machine.{strokes}
-use Rattle.itf_reader.specs.RowFeeds.{Standing, standing, stopped, next, after_lines, shows, shown_rows, number_shown, Shows, shown}
+use Rattle.itf_reader.specs.RowFeeds.{Standing, standing, stopped, next, after_lines, shows, shown_rows, number_shown, Shows, shown_row}
 use Rattle.itf_reader.specs.Reads.{TransferState, read_from, fault_at, answer}
 
 pub after-append : (f : Form) (at : Standing) (xs ys : List LogicalLine) → after_lines f at (xs ++ ys) ≡ after_lines f (after_lines f at xs) ys
 after-append f at [] ys = refl
 after-append f at (x ∷ xs) ys = after-append f (next f at x) xs ys
 
-pub shown-append : (f : Form) (at : Standing) (xs ys : List LogicalLine) → shown_rows f at (xs ++ ys) ≡ shown_rows f at xs ++ shown_rows f (after_lines f at xs) ys
-shown-append f at [] ys = refl
-shown-append f at (x ∷ xs) ys =
-    ap (λ (l : List (ℕ × Row)). shows at x.word ++ l) (shown-append f (next f at x) xs ys)
+pub shown_row-append : (f : Form) (at : Standing) (xs ys : List LogicalLine) → shown_rows f at (xs ++ ys) ≡ shown_rows f at xs ++ shown_rows f (after_lines f at xs) ys
+shown_row-append f at [] ys = refl
+shown_row-append f at (x ∷ xs) ys =
+    ap (λ (l : List (ℕ × Row)). shows at x.word ++ l) (shown_row-append f (next f at x) xs ys)
     ∙ sym (append_assoc (shows at x.word) (shown_rows f (next f at x) xs) (shown_rows f (after_lines f (next f at x) xs) ys))
 
 -- where a feed took some lines, the answer is that from there on
@@ -27,38 +27,38 @@ pub read_on : (f : Form) (old new : TransferState) (lines : List LogicalLine) �
     → (more : List LogicalLine) (end : LineEnd) → read_from f old (lines ++ more) end ≡ read_from f new more end
 read_on f old new lines r a more end =
     let rows : old.rows ++ shown_rows f old.at (lines ++ more) ≡ new.rows ++ shown_rows f new.at more =
-    ap (λ (l : List (ℕ × Row)). old.rows ++ l) (shown-append f old.at lines more)
+    ap (λ (l : List (ℕ × Row)). old.rows ++ l) (shown_row-append f old.at lines more)
     ∙ (sym (append_assoc old.rows (shown_rows f old.at lines) (shown_rows f (after_lines f old.at lines) more))
     ∙ (ap (λ (l : List (ℕ × Row)). l ++ shown_rows f (after_lines f old.at lines) more) (sym r) ∙ ap (λ (s : Standing). new.rows ++ shown_rows f s more) (sym a))) in
     let at : after_lines f old.at (lines ++ more) ≡ after_lines f new.at more = after-append f old.at lines more ∙ ap (λ (s : Standing). after_lines f s more) (sym a) in
     ap (λ (l : List (ℕ × Row)). answer f l (fault_at (after_lines f old.at (lines ++ more)) end)) rows
     ∙ ap (λ (s : Standing). answer f (new.rows ++ shown_rows f new.at more) (fault_at s end)) at
 
-one_line : (ls : List Line) (i : ℕ) (l : Line) → i < length ls → l ≡ get_or ls i l → lines_seen (take (i + 1) ls) ≡ lines_seen (take i ls) ++ (line_seen l ∷ [])
+one_line : (ls : List Line) (i : ℕ) (l : Line) → i < length ls → l ≡ get_or ls i l → lines_view (take (i + 1) ls) ≡ lines_view (take i ls) ++ (line_view l ∷ [])
 one_line ls i l h e =
-    ap lines_seen (take_more ls i l h) ∙ (map-append line_seen (take i ls) (get_or ls i l ∷ []) ∙ ap (λ (x : Line). lines_seen (take i ls) ++ (line_seen x ∷ [])) (sym e))
+    ap lines_view (take_more ls i l h) ∙ (map-append line_view (take i ls) (get_or ls i l ∷ []) ∙ ap (λ (x : Line). lines_view (take i ls) ++ (line_view x ∷ [])) (sym e))
 
 -- a feed goes on by a line
-pub at_more : (f : Form) (old now new : Standing) (ls : List Line) (i : ℕ) (l : Line) → i < length ls → l ≡ get_or ls i l → now ≡ after_lines f old (lines_seen (take i ls)) → new ≡ next f now (line_seen l)
-    → new ≡ after_lines f old (lines_seen (take (i + 1) ls))
+pub at_more : (f : Form) (old now new : Standing) (ls : List Line) (i : ℕ) (l : Line) → i < length ls → l ≡ get_or ls i l → now ≡ after_lines f old (lines_view (take i ls)) → new ≡ next f now (line_view l)
+    → new ≡ after_lines f old (lines_view (take (i + 1) ls))
 at_more f old now new ls i l h e k q =
-    q ∙ (ap (λ (s : Standing). next f s (line_seen l)) k ∙ sym (ap (after_lines f old) (one_line ls i l h e) ∙ after-append f old (lines_seen (take i ls)) (line_seen l ∷ [])))
+    q ∙ (ap (λ (s : Standing). next f s (line_view l)) k ∙ sym (ap (after_lines f old) (one_line ls i l h e) ∙ after-append f old (lines_view (take i ls)) (line_view l ∷ [])))
 
-pub rows_more : (f : Form) (old now : Standing) (before rows new : List (ℕ × Row)) (ls : List Line) (i : ℕ) (l : Line) → i < length ls → l ≡ get_or ls i l → now ≡ after_lines f old (lines_seen (take i ls))
-    → rows ≡ before ++ shown_rows f old (lines_seen (take i ls)) → new ≡ rows ++ shows now l.word
-    → new ≡ before ++ shown_rows f old (lines_seen (take (i + 1) ls))
+pub rows_more : (f : Form) (old now : Standing) (before rows new : List (ℕ × Row)) (ls : List Line) (i : ℕ) (l : Line) → i < length ls → l ≡ get_or ls i l → now ≡ after_lines f old (lines_view (take i ls))
+    → rows ≡ before ++ shown_rows f old (lines_view (take i ls)) → new ≡ rows ++ shows now l.word
+    → new ≡ before ++ shown_rows f old (lines_view (take (i + 1) ls))
 rows_more f old now before rows new ls i l h e k r q =
-    let front = lines_seen (take i ls) in
+    let front = lines_view (take i ls) in
     let own = ap (λ (s : Standing). shows s l.word) k ∙ sym (append-nil (shows (after_lines f old front) l.word)) in
     q ∙ (ap (λ (x : List (ℕ × Row)). x ++ shows now l.word) r
     ∙ (append_assoc before (shown_rows f old front) (shows now l.word)
-    ∙ ap (λ (x : List (ℕ × Row)). before ++ x) (ap (λ (x : List (ℕ × Row)). shown_rows f old front ++ x) own ∙ sym (ap (shown_rows f old) (one_line ls i l h e) ∙ shown-append f old front (line_seen l ∷ [])))))
+    ∙ ap (λ (x : List (ℕ × Row)). before ++ x) (ap (λ (x : List (ℕ × Row)). shown_rows f old front ++ x) own ∙ sym (ap (shown_rows f old) (one_line ls i l h e) ∙ shown_row-append f old front (line_view l ∷ [])))))
 
 -- the row that a line shows, by the number of its table
-pub one_shown : (at : Standing) (w : LineWord) (row : Row) (table : Option ℕ) → table ≡ number_shown (shows at w) → Shows (shows at w) row → shown table row ≡ shows at w
-one_shown at w row table e h = ap (λ (o : Option ℕ). shown o row) e ∙ by_word at w row h
+pub one_shown : (at : Standing) (w : LineWord) (row : Row) (table : Option ℕ) → table ≡ number_shown (shows at w) → Shows (shows at w) row → shown_row table row ≡ shows at w
+one_shown at w row table e h = ap (λ (o : Option ℕ). shown_row o row) e ∙ by_word at w row h
   where
-    by_word : (at : Standing) (w : LineWord) (row : Row) → Shows (shows at w) row → shown (number_shown (shows at w)) row ≡ shows at w
+    by_word : (at : Standing) (w : LineWord) (row : Row) → Shows (shows at w) row → shown_row (number_shown (shows at w)) row ≡ shows at w
     by_word (standing (strokes r)) Obje row h = ap (λ (x : Row). (r.inside.number, x) ∷ []) h
     by_word (standing (strokes r)) Etab row h = ap (λ (x : Row). (r.inside.number, x) ∷ []) h
     by_word (standing s) w row h = refl

@@ -1,16 +1,16 @@
 -- Numbers that came, with a flag for each.
 use Rattle.std.proofs.Common.{◌≡◌, ◌<◌, ◌+◌, ℕ, suc, zero, Bool, true, false, cond, List, [], ◌∷◌, ◌++◌, length, set, get_or, refl, ap, sym, ◌∙◌, arith, if◌then◌else◌, nat_eq}
 use Rattle.std.proofs.lemmas.Bool.{eqb-true, eqb-false}
-use Rattle.itf_reader.specs.Forms.{topic_came, table_came}
+use Rattle.itf_reader.specs.Forms.{has_topic, has_table}
 use Rattle.itf_reader.specs.Numbers.{has_number, AreFlags}
 use Rattle.itf_reader.specs.MachineViews.{topics_alone, tables_alone}
 use Rattle.itf_reader.proofs.Counted.{swap, one}
 
-pub topic_has : (n : ℕ) (ns : List ℕ) → has_number n ns ≡ topic_came n (topics_alone ns)
+pub topic_has : (n : ℕ) (ns : List ℕ) → has_number n ns ≡ has_topic n (topics_alone ns)
 topic_has n [] = refl
 topic_has n (m ∷ ns) = ap (λ (b : Bool). if nat_eq m n then true else b) (topic_has n ns)
 
-pub table_has : (n : ℕ) (ns : List ℕ) → has_number n ns ≡ table_came n (tables_alone ns)
+pub table_has : (n : ℕ) (ns : List ℕ) → has_number n ns ≡ has_table n (tables_alone ns)
 table_has n [] = refl
 table_has n (m ∷ ns) = ap (λ (b : Bool). if nat_eq m n then true else b) (table_has n ns)
 

@@ -3,7 +3,7 @@ use Rattle.std.proofs.Common.{◌≡◌, ◌<◌, ◌+◌, ℕ, zero, suc, Bool,
 use Rattle.std.proofs.lemmas.List.{append_assoc, length-append}
 use Rattle.std.proofs.lemmas.Slice.Eq.{bytes_eq-Decides}
 use Rattle.itf_lines.specs.Words.{same}
-use Rattle.itf_reader.specs.Forms.{Table, TableRows, TopicRows, names, table_named, topic_named, table_came, topic_came}
+use Rattle.itf_reader.specs.Forms.{Table, TableRows, TopicRows, names, table_named, topic_named, has_table, has_topic}
 use Rattle.itf_reader.proofs.Sorting.{by_test}
 
 -- a name longer than some others is none of them
@@ -40,7 +40,7 @@ abbrev topic_numbers : List TopicRows → ℕ
 topic_numbers [] = 0
 topic_numbers (t ∷ ts) = t.topic + topic_numbers ts
 
-no_topic_came : (i : ℕ) (came : List TopicRows) → topic_numbers came < i → topic_came i came ≡ false
+no_topic_came : (i : ℕ) (earlier : List TopicRows) → topic_numbers earlier < i → has_topic i earlier ≡ false
 no_topic_came i [] h = refl
 no_topic_came i (t ∷ ts) h =
     let e : nat_eq t.topic i ≡ false = search arith in
@@ -62,16 +62,16 @@ length-empty_names : (k : ℕ) → length (empty_names k) ≡ k
 length-empty_names zero = refl
 length-empty_names (suc k) = ap suc (length-empty_names k)
 
-pub record NewTopic (topics : List (List ℕ)) (came : List TopicRows) : Type 0 where
+pub record NewTopic (topics : List (List ℕ)) (earlier : List TopicRows) : Type 0 where
   pub more : List (List ℕ)
   pub fields : List (List ℕ)
   pub number : ℕ
   pub named : topic_named 0 fields (topics ++ more) ≡ Some number
-  pub came_not : topic_came number came ≡ false
+  pub came_not : has_topic number earlier ≡ false
 
-pub new_topic : (topics : List (List ℕ)) (came : List TopicRows) → NewTopic topics came
-new_topic topics came =
-    let k = suc (topic_numbers came) in
+pub new_topic : (topics : List (List ℕ)) (earlier : List TopicRows) → NewTopic topics earlier
+new_topic topics earlier =
+    let k = suc (topic_numbers earlier) in
     let long = zeros (suc (all_bytes topics)) in
     let front = topics ++ empty_names k in
     let l : length long ≡ suc (all_bytes topics) = length-zeros (suc (all_bytes topics)) in
@@ -86,7 +86,7 @@ new_topic topics came =
           ap (topic_named 0 (long ∷ [])) (sym (append_assoc topics (empty_names k) (long ∷ [])))
           ∙ past_topics 0 long front (long ∷ []) (omega (arith, l, b))
           ∙ rw (same_itself long) refl;
-      came_not = no_topic_came (length front + 0) came (omega (arith, n, m));
+      came_not = no_topic_came (length front + 0) earlier (omega (arith, n, m));
     }
 
 -- ---- tables
@@ -109,7 +109,7 @@ abbrev table_numbers : List TableRows → ℕ
 table_numbers [] = 0
 table_numbers (t ∷ ts) = t.table + table_numbers ts
 
-no_table_came : (i : ℕ) (came : List TableRows) → table_numbers came < i → table_came i came ≡ false
+no_table_came : (i : ℕ) (earlier : List TableRows) → table_numbers earlier < i → has_table i earlier ≡ false
 no_table_came i [] h = refl
 no_table_came i (t ∷ ts) h =
     let e : nat_eq t.table i ≡ false = search arith in
@@ -137,16 +137,16 @@ itself topic n t long e h =
     let q : same long t.name ≡ true = ap (same long) h ∙ same_itself long in
     rw p (rw q refl)
 
-pub record NewTable (tables : List Table) (topic : ℕ) (came : List TableRows) : Type 0 where
+pub record NewTable (tables : List Table) (topic : ℕ) (earlier : List TableRows) : Type 0 where
   pub more : List Table
   pub fields : List (List ℕ)
   pub found : ℕ × Table
   pub named : table_named 0 topic fields (tables ++ more) ≡ Some found
-  pub came_not : table_came found.0 came ≡ false
+  pub came_not : has_table found.0 earlier ≡ false
 
-pub new_table : (tables : List Table) (topic : ℕ) (came : List TableRows) → NewTable tables topic came
-new_table tables topic came =
-    let k = suc (table_numbers came) in
+pub new_table : (tables : List Table) (topic : ℕ) (earlier : List TableRows) → NewTable tables topic earlier
+new_table tables topic earlier =
+    let k = suc (table_numbers earlier) in
     let long = zeros (suc (table_bytes tables)) in
     let front = tables ++ empty_tables k in
     let last : Table = record { topic = topic; name = long; lines = 0 } in
@@ -162,5 +162,5 @@ new_table tables topic came =
           ap (table_named 0 topic (long ∷ [])) (sym (append_assoc tables (empty_tables k) (last ∷ [])))
           ∙ past_tables 0 topic long front (last ∷ []) (omega (arith, l, b))
           ∙ itself topic (length front + 0) last long refl refl;
-      came_not = no_table_came (length front + 0) came (omega (arith, n, m));
+      came_not = no_table_came (length front + 0) earlier (omega (arith, n, m));
     }

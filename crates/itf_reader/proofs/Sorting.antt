@@ -20,7 +20,7 @@ module _ {X : Type 0} (lt : X → X → Bool) (o : IsStrictWeakOrder lt) where
   NoneLess x [] = ⊤
   NoneLess x (y ∷ ys) = (lt y x ≡ false) × NoneLess x ys
 
-  -- none is less than one in front of it
+  -- none is less than one before it
   abbrev Ascends : List X → Type 0
   Ascends [] = ⊤
   Ascends (x ∷ xs) = NoneLess x xs × Ascends xs

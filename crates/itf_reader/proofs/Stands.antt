@@ -16,14 +16,14 @@ pub completes_text : (f : Form) (ts : List TopicRows) (ls : List LogicalLine) �
 completes_text f ts _ (at_start _ n fs w (at_free _ m gs _ _ free_lines (at_title _ i hs _ (at_model _ j is u named (at_topics _ us _ k e ks js _ h q))))) =
     subst (λ (x : List TopicRows). IsText f x (line Scnt n fs ∷ w)) (sym q) (text n m i j k e fs gs hs is ks js us w u free_lines named h)
 
--- some lines and a text behind them
+-- some lines and a text after them
 abbrev pub Live : Form → State → Type 0
 Live f s = (all : List TopicRows) × (w : List LogicalLine) × Completes f s all w
 
-live_topics : (f : Form) (came : List TopicRows) → Live f (topics came)
-live_topics f came =
+live_topics : (f : Form) (earlier : List TopicRows) → Live f (topics earlier)
+live_topics f earlier =
     let end : List LogicalLine = line Emod 0 [] ∷ line Ende 0 [] ∷ [] in
-    (came, end, at_topics came [] came 0 0 [] [] end (no_topic came end) (sym (append-nil came)))
+    (earlier, end, at_topics earlier [] earlier 0 0 [] [] end (no_topic earlier end) (sym (append-nil earlier)))
 
 live_tables : (f : Form) (t : InTopic) → Live f (tables t)
 live_tables f t =
@@ -65,17 +65,17 @@ live f start = let l = live_free f in (l.0, line Scnt 0 [] ∷ l.1, at_start l.0
 live f free = live_free f
 live f title = live_title f
 live f model = live_model f
-live f (topics came) = live_topics f came
+live f (topics earlier) = live_topics f earlier
 live f (tables t) = live_tables f t
 live f (objects t) = live_objects f t
 live f (strokes r) = live_strokes f r
 live f (vertices r acc) = live_vertices f r acc
 live f (arc r acc) = live_arc f r acc
-live f (last came) = (came, line Ende 0 [] ∷ [], at_last came 0 [])
-live f (done came) = (came, [], at_done came)
+live f (last earlier) = (earlier, line Ende 0 [] ∷ [], at_last earlier 0 [])
+live f (done earlier) = (earlier, [], at_done earlier)
 
--- where the machine takes some lines, they stand before what completes the state behind them
-run_on : (f : Form) (s t : State) (l : LogicalLine) (ls : List LogicalLine) (taken : Result State Code) → step f s l ≡ taken → then_run (λ u. run f u ls) taken ≡ Ok t
+-- where the machine takes some lines, they stand before what completes the state after them
+run_on : (f : Form) (s t : State) (l : LogicalLine) (ls : List LogicalLine) (after_line : Result State Code) → step f s l ≡ after_line → then_run (λ u. run f u ls) after_line ≡ Ok t
     → ((u : State) → run f u ls ≡ Ok t → (all : List TopicRows) (w : List LogicalLine) → Completes f t all w → Completes f u all (ls ++ w))
     → (all : List TopicRows) (w : List LogicalLine) → Completes f t all w → Completes f s all (l ∷ (ls ++ w))
 run_on f s t l ls (Ok u) e h rest all w q = back f s u l.word l.number l.fields all (ls ++ w) e (rest u h all w q)

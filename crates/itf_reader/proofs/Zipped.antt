@@ -6,7 +6,7 @@ use Rattle.table_layout.specs.Values.{lines_view}
 use Rattle.itf_reader.specs.declared.transfer.Stroke.{Stroke}
 use Rattle.itf_reader.specs.RowFindings.{lines_findings}
 use Rattle.itf_reader.specs.RowReadings.{lines_of, lines_vertices, lines_heights}
-use Rattle.itf_reader.specs.RowViews.{strokes_of}
+use Rattle.itf_reader.specs.Views.{strokes_of}
 
 -- nothing is left
 pub all_done : {X : Type 0} (done left all : List X) → left ≡ [] → done ++ left ≡ all → done ≡ all

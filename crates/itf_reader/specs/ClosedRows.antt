@@ -3,12 +3,12 @@ use Rattle.std.specs.Prelude.{ℕ, ◌+◌, List, [], ◌∷◌, ◌++◌, map, 
 use Rattle.itf_lines.specs.declared.word.LineWord.{LineWord}
 use Rattle.itf_lines.specs.declared.word.LineWord.TheVariants.{Obje, Etab}
 use Rattle.itf_lines.specs.LogicalLines.{LogicalLine}
-use Rattle.itf_reader.specs.Forms.{Table, Form, Row, TableRows, filled}
+use Rattle.itf_reader.specs.Forms.{Table, Form, Row, TableRows, fill_strokes}
 use Rattle.itf_reader.specs.Machine.{InRow, State, strokes, start, Code, step}
 
 -- the row that an open object becomes
 abbrev pub row_closed : InRow → Row
-row_closed r = record { line = r.line; fields = r.fields; strokes = filled r.inside.lines r.strokes }
+row_closed r = record { line = r.line; fields = r.fields; strokes = fill_strokes r.inside.lines r.strokes }
 
 -- the row that a line of that word closes, with the number of its table; most close none
 abbrev pub closes : State → LineWord → List (ℕ × Row)
@@ -16,14 +16,14 @@ closes (strokes r) Obje = (r.inside.number, row_closed r) ∷ []
 closes (strokes r) Etab = (r.inside.number, row_closed r) ∷ []
 closes state word = []
 
-abbrev pub closed_behind : (State → List (ℕ × Row)) → Result State Code → List (ℕ × Row)
-closed_behind rest (Ok s) = rest s
-closed_behind rest (Err c) = []
+abbrev pub closed_after : (State → List (ℕ × Row)) → Result State Code → List (ℕ × Row)
+closed_after rest (Ok s) = rest s
+closed_after rest (Err c) = []
 
 -- the rows that some lines close from a state on, in the order of the text
 abbrev pub closed_from : Form → State → List LogicalLine → List (ℕ × Row)
 closed_from f s [] = []
-closed_from f s (l ∷ ls) = closes s l.word ++ closed_behind (λ t. closed_from f t ls) (step f s l)
+closed_from f s (l ∷ ls) = closes s l.word ++ closed_after (λ t. closed_from f t ls) (step f s l)
 
 abbrev pub closed_rows : Form → List LogicalLine → List (ℕ × Row)
 closed_rows f lines = closed_from f start lines
@@ -41,7 +41,7 @@ by_table_from n (t ∷ ts) rows = of_table n rows ∷ by_table_from (n + 1) ts r
 abbrev pub by_table : Form → List (ℕ × Row) → List (List Row)
 by_table f rows = by_table_from 0 f.tables rows
 
--- the rows of a table that came, each with the number of the table
+-- the rows of a table, each with the number of the table
 abbrev pub pairs : TableRows → List (ℕ × Row)
 pairs c = map (λ row. (c.table, row)) c.rows
 

@@ -1,5 +1,5 @@
 -- Findings and their order, without where they lie in memory.
-use Rattle.std.specs.Prelude.{ℕ, Bool, List, [], ◌∷◌, map, if◌then◌else◌}
+use Rattle.std.specs.Prelude.{◌≡◌, ℕ, Bool, List, [], ◌∷◌, ◌++◌, map, if◌then◌else◌}
 use Rattle.std.specs.Ordering.{nat_cmp, on, then_cmp, is_lt}
 use Rattle.std.specs.declared.cmp.Ordering.{Ordering}
 use Rattle.itf_reader.specs.declared.findings.Code.{Code}
@@ -45,7 +45,7 @@ finding_cmp = then_cmp (on (λ f. f.line) nat_cmp) (then_cmp (on (λ f. f.column
 abbrev pub is_before : Finding → Finding → Bool
 is_before f g = is_lt (finding_cmp f g)
 
--- an element in front of the first that does not come before it
+-- an element before the first that does not come before it
 abbrev pub put_in : {X : Type 0} → (X → X → Bool) → X → List X → List X
 put_in lt x [] = x ∷ []
 put_in lt x (y ∷ ys) = if lt y x then y ∷ put_in lt x ys else x ∷ y ∷ ys
@@ -70,3 +70,7 @@ finding_of f = record { line = f.line; column = f.column; code = f.code; other =
 
 abbrev pub findings_of : List CodeFinding → List Finding
 findings_of fs = map finding_of fs
+
+-- further findings were added to those before
+abbrev pub AddsFindings : List CodeFinding → List CodeFinding → List Finding → Type 0
+AddsFindings old new more = findings_of new ≡ findings_of old ++ more

@@ -32,12 +32,12 @@ pub record Row : Type 0 where
   pub fields : List (List ℕ)
   pub strokes : List (List Vertex)
 
--- a table that came: its number among all tables, and its rows
+-- a table of a text: its number among all tables, and its rows
 pub record TableRows : Type 0 where
   pub table : ℕ
   pub rows : List Row
 
--- a topic that came: its number, and its tables as they came
+-- a topic of a text: its number, and its tables in the order of the text
 pub record TopicRows : Type 0 where
   pub topic : ℕ
   pub tables : List TableRows
@@ -59,35 +59,35 @@ abbrev pub topic_named : ℕ → List (List ℕ) → List (List ℕ) → Option 
 topic_named number fields [] = None
 topic_named number fields (name ∷ topics) = if names fields name then Some number else topic_named (number + 1) fields topics
 
--- the table of that number came
-abbrev pub table_came : ℕ → List TableRows → Bool
-table_came number [] = false
-table_came number (came ∷ tables) = if nat_eq came.table number then true else table_came number tables
+-- one of these tables has that number
+abbrev pub has_table : ℕ → List TableRows → Bool
+has_table number [] = false
+has_table number (earlier ∷ tables) = if nat_eq earlier.table number then true else has_table number tables
 
--- the topic of that number came
-abbrev pub topic_came : ℕ → List TopicRows → Bool
-topic_came number [] = false
-topic_came number (came ∷ topics) = if nat_eq came.topic number then true else topic_came number topics
+-- one of these topics has that number
+abbrev pub has_topic : ℕ → List TopicRows → Bool
+has_topic number [] = false
+has_topic number (earlier ∷ topics) = if nat_eq earlier.topic number then true else has_topic number topics
 
 -- as many strokes as the table has lines: the missing ones at the end are undefined
-abbrev pub filled : ℕ → List (List Vertex) → List (List Vertex)
-filled lines strokes = strokes ++ replicate (lines - length strokes) []
+abbrev pub fill_strokes : ℕ → List (List Vertex) → List (List Vertex)
+fill_strokes lines strokes = strokes ++ replicate (lines - length strokes) []
 
--- the rows of the table of that number among tables that came; none where it did not come
+-- the rows of the table of that number among these; none where it is not among them
 abbrev pub rows_in : ℕ → List TableRows → List Row
 rows_in number [] = []
-rows_in number (came ∷ tables) = if nat_eq came.table number then came.rows else rows_in number tables
+rows_in number (earlier ∷ tables) = if nat_eq earlier.table number then earlier.rows else rows_in number tables
 
--- all tables that came
+-- the tables of all topics
 abbrev pub tables_of : List TopicRows → List TableRows
 tables_of [] = []
 tables_of (topic ∷ topics) = topic.tables ++ tables_of topics
 
 -- the rows of each table, the first of these tables having that number
 abbrev pub rows_from : ℕ → List Table → List TableRows → List (List Row)
-rows_from number [] came = []
-rows_from number (table ∷ tables) came = rows_in number came ∷ rows_from (number + 1) tables came
+rows_from number [] earlier = []
+rows_from number (table ∷ tables) earlier = rows_in number earlier ∷ rows_from (number + 1) tables earlier
 
 -- what a text holds: the rows of each table, in the order of the form
-abbrev pub placed : Form → List TopicRows → List (List Row)
-placed form topics = rows_from 0 form.tables (tables_of topics)
+abbrev pub rows_by_form : Form → List TopicRows → List (List Row)
+rows_by_form form topics = rows_from 0 form.tables (tables_of topics)

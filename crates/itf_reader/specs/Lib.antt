@@ -1,10 +1,10 @@
-pub mod CameBefore
+pub mod NamedBefore
 pub mod ClosedRows
 pub mod Codes
 pub mod Few
 pub mod Findings
 pub mod Forms
-pub mod GatheredRows
+pub mod ReadRows
 pub mod Layouts
 pub mod Machine
 pub mod MachineViews
@@ -19,7 +19,6 @@ pub mod RowFindings
 pub mod RowForms
 pub mod RowKeys
 pub mod RowReadings
-pub mod RowViews
 pub mod StrokeFindings
 pub mod TableKeys
 pub mod TransferText

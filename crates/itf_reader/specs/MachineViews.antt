@@ -8,7 +8,7 @@ use Rattle.itf_reader.specs.Forms.{TableRows, TopicRows}
 use Rattle.itf_reader.specs.Machine.{InTopic, InTable, InRow, start, free, title, model, topics, tables, objects, strokes, vertices, arc, last, done}
 use Rattle.itf_reader.specs.Refusals.{fault_of}
 use Rattle.itf_reader.specs.RowFeeds.{Standing, standing, stopped}
-use Rattle.itf_reader.specs.RowViews.{vertices_of, strokes_of}
+use Rattle.itf_reader.specs.Views.{vertices_of, strokes_of}
 
 -- a topic of which nothing but the number is kept
 abbrev pub topic_alone : ℕ → TopicRows
@@ -24,7 +24,7 @@ abbrev pub tables_alone : List ℕ → List TableRows
 tables_alone numbers = map table_alone numbers
 
 abbrev pub in_topic : Frame → InTopic
-in_topic f = record { came = topics_alone f.topics; number = f.topic; tables = tables_alone f.tables }
+in_topic f = record { earlier = topics_alone f.topics; number = f.topic; tables = tables_alone f.tables }
 
 abbrev pub in_table : Frame → InTable
 in_table f = record { inside = in_topic f; number = f.table; lines = f.lines; rows = [] }
@@ -47,6 +47,6 @@ at_in states.BeforeEnde m = standing (last (topics_alone m.frame.topics))
 at_in states.Done m = standing (done (topics_alone m.frame.topics))
 at_in (states.Stopped number code) m = stopped number (fault_of code)
 
--- where the machine stands
+-- the state of the machine
 abbrev pub at_of : Machine → Standing
 at_of m = at_in m.frame.state m

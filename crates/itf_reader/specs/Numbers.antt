@@ -1,4 +1,4 @@
--- Numbers that came, with a flag for each.
+-- A set of numbers, with a flag for each.
 use Rattle.std.specs.Prelude.{◌≡◌, ℕ, Bool, true, false, List, [], ◌∷◌, if◌then◌else◌, nat_eq, get_or}
 
 -- the number is one of these

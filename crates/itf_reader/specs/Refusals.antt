@@ -1,4 +1,4 @@
--- What a refusal of the code tells.
+-- What a refusal of the code means.
 use Rattle.itf_lines.specs.LogicalLines.{LogicalLines}
 use Rattle.itf_reader.specs.declared.transfer.Structure.{Structure}
 use Rattle.itf_reader.specs.declared.transfer.Structure.TheVariants as codes
@@ -17,7 +17,7 @@ fault_of codes.End = End
 fault_of codes.Continue = Continue
 fault_of codes.Cont = Cont
 
--- the lines are refused at that line with that code; want of memory tells nothing
+-- the lines are refused at that line with that code; out of memory says nothing of them
 abbrev pub Refuses : Form → LogicalLines → ReadRefusal → Type 0
-Refuses form found (refusals.At line code) = IsRefused form found line (fault_of code)
-Refuses form found refusals.Memory = Unit {0}
+Refuses form given (refusals.At line code) = IsRefused form given line (fault_of code)
+Refuses form given refusals.Memory = Unit {0}

@@ -8,32 +8,32 @@ use Rattle.itf_reader.specs.Machine.{InTopic, State, tables, objects, strokes, C
 use Rattle.itf_reader.specs.Readings.{Structure, OfLine}
 use Rattle.itf_reader.specs.ClosedRows.{closes}
 
--- in front of a line, or stopped by a line at fault: its number and its code
+-- before a line, or stopped by a line at fault: its number and its code
 pub data Standing : Type 0 where
   standing : State → Standing
   stopped : ℕ → Structure → Standing
 
 abbrev pub without_tables : InTopic → InTopic
-without_tables t = record { came = t.came; number = t.number; tables = [] }
+without_tables t = record { earlier = t.earlier; number = t.number; tables = [] }
 
--- what is let go in front of a line of that word: an object that it closes, and the tables of a topic that it closes
-abbrev pub let_go : State → LineWord → State
-let_go (strokes r) Obje = objects r.inside
-let_go (strokes r) Etab = objects r.inside
-let_go (tables t) Etop = tables (without_tables t)
-let_go state word = state
+-- the state without what a line of that word closes: an object, or the tables of a topic
+abbrev pub forget_closed : State → LineWord → State
+forget_closed (strokes r) Obje = objects r.inside
+forget_closed (strokes r) Etab = objects r.inside
+forget_closed (tables t) Etop = tables (without_tables t)
+forget_closed state word = state
 
-abbrev pub moved : ℕ → Result State Code → Standing
-moved number (Ok state) = standing state
-moved number (Err code) = stopped number (OfLine code)
+abbrev pub standing_by : ℕ → Result State Code → Standing
+standing_by number (Ok state) = standing state
+standing_by number (Err code) = stopped number (OfLine code)
 
 -- where a line leads
-abbrev pub taken : Form → State → LogicalLine → Standing
-taken f s l = moved l.number (step f (let_go s l.word) l)
+abbrev pub after_line : Form → State → LogicalLine → Standing
+after_line f s l = standing_by l.number (step f (forget_closed s l.word) l)
 
--- and behind a line at fault to nowhere
+-- and after a line at fault to nowhere
 abbrev pub next : Form → Standing → LogicalLine → Standing
-next f (standing s) l = taken f s l
+next f (standing s) l = after_line f s l
 next f (stopped number code) l = stopped number code
 
 -- and where some lines lead
@@ -62,15 +62,15 @@ Shows [] row = ⊤
 Shows (p ∷ ps) row = row ≡ p.1
 
 -- a row of that table, or none
-abbrev pub shown : Option ℕ → Row → List (ℕ × Row)
-shown None row = []
-shown (Some table) row = (table, row) ∷ []
+abbrev pub shown_row : Option ℕ → Row → List (ℕ × Row)
+shown_row None row = []
+shown_row (Some table) row = (table, row) ∷ []
 
 -- an object without strokes
 abbrev pub row_opened : ℕ → List (List ℕ) → Row
 row_opened number fields = record { line = number; fields = fields; strokes = [] }
 
--- What a RowFeed is seen as: whether a call ran out of memory, of which nothing else is said then; where it stands; and
+-- What a RowFeed is seen as: whether a call ran out of memory, of which nothing else is said then; its state; and
 -- the row that was closed last.
 pub record RowState : Type 0 where
   pub failed : Bool

@@ -35,7 +35,7 @@ columns_findings codes line number [] words = []
 columns_findings codes line number (c ∷ cs) words =
     finding_at line number (column_code codes c (take (width c.form) words)) ++ columns_findings codes line (number + 1) cs (drop (width c.form) words)
 
--- a line of an object that stands in that line of the transfer; an undefined one has no vertices
+-- a polyline of an object in that line of the transfer; an undefined one has no vertices
 abbrev pub line_findings : Role → ℕ → ℕ → LineForm → List Vertex → List Finding
 line_findings role line number l [] = finding_at line number (code_if (not l.optional) Undefined)
 line_findings role line number l (v ∷ vs) = stroke_findings role l number (v ∷ vs)

@@ -1,4 +1,4 @@
--- What a row stands for, as far as its words and vertices are read.
+-- What is read of a row: what its words and vertices stand for.
 use Rattle.std.specs.Prelude.{◌≡◌, ℕ, ℤ, Bool, true, false, IsTrue, IsFalse, ◌&&◌, if◌then◌else◌, List, [], ◌∷◌, ◌++◌, length, take, drop, map, Result, Ok, Err}
 use Rattle.std.specs.List.{list_all, flat_map}
 use Rattle.ili_grammar.specs.Syntax.{Codes}
@@ -8,7 +8,7 @@ use Rattle.field_values.specs.declared.value.ValueFault.{ValueFault}
 use Rattle.field_values.specs.Fields.{is_undefined, width}
 use Rattle.field_values.specs.Places.{place_view}
 use Rattle.field_values.specs.Readings.{Value, Numbers, Bytes, column_reading}
-use Rattle.field_values.specs.Values.{value_view}
+use Rattle.field_values.specs.Views.{value_view}
 use Rattle.itf_reader.specs.declared.rows.values.Cell.{Cell as CodeCell}
 use Rattle.itf_reader.specs.declared.rows.values.Cell.TheVariants as cells
 use Rattle.itf_reader.specs.declared.rows.values.ReadVertex.{ReadVertex}
@@ -16,12 +16,12 @@ use Rattle.itf_reader.specs.declared.rows.values.StrokeRead.{StrokeRead as CodeS
 use Rattle.itf_reader.specs.declared.rows.values.StrokeRead.TheVariants as strokes
 use Rattle.itf_reader.specs.declared.rows.values.RowValues.{RowValues}
 use Rattle.itf_reader.specs.Forms.{Vertex, Row}
-use Rattle.itf_reader.specs.RowViews.{kind_of}
+use Rattle.itf_reader.specs.Views.{kind_of}
 use Rattle.itf_reader.specs.RowFindings.{is_counted}
 use Rattle.itf_reader.specs.StrokeFindings.{Seen, seen, heights_of, is_clean, is_whole, is_sound_stroke}
 
 -- ---- columns
--- a column: its value, of which a word that stands for itself is left out; none where it is undefined, as an optional one may be; or at fault
+-- a column: its value, without the bytes of a word that stands for itself; undefined, as an optional one may be; or at fault
 pub data Cell : Type 0 where
   Sound : Value → Cell
   Undefined Faulty : Cell

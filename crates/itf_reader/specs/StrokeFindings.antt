@@ -73,7 +73,7 @@ heights_of l v = drop 2 (numbers_on (line_axes l) v.fields)
 abbrev pub is_bad_arc : Seen → Seen → Seen → Bool
 is_bad_arc s m e = is_on_arc m.kind && is_no_arc s.at m.at e.at
 
--- three vertices that follow each other: an arc is told at the one that ends it
+-- three vertices that follow each other: a bad arc is reported at the one that ends it
 abbrev pub arc_finding : ℕ → Seen → Seen → Seen → List Finding
 arc_finding column s m e = finding_at e.line column (code_if (is_bad_arc s m e) Arc)
 
@@ -106,7 +106,7 @@ abbrev pub is_short : Role → List Seen → Bool
 is_short role [] = false
 is_short role (v ∷ vs) = is_of_area role && is_one_place (v ∷ vs)
 
--- it is told at the vertex that begins the line
+-- it is reported at the vertex that begins the line
 abbrev pub short_finding : Role → ℕ → List Seen → List Finding
 short_finding role column [] = []
 short_finding role column (v ∷ vs) = finding_at v.line column (code_if (is_short role (v ∷ vs)) Short)

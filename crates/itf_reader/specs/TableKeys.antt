@@ -15,7 +15,7 @@ abbrev pub entry_at : List LayoutTable → Option ℕ → Option (ℕ × ℕ)
 entry_at ts None = None
 entry_at ts (Some place) = option_map (λ t. (place, length t.lines)) (slice_get ts place)
 
--- the number of a topic in eight bytes, and a name behind it
+-- the number of a topic in eight bytes, and a name after it
 abbrev pub table_key : ℕ → List ℕ → List ℕ
 table_key topic name = to_be_bytes w64 topic ++ name
 

@@ -3,13 +3,13 @@ use Rattle.std.specs.Prelude.{◌≡◌, ◌≤◌, ℕ, Bool, true, false, List
 use Rattle.itf_lines.specs.declared.word.LineWord.{LineWord}
 use Rattle.itf_lines.specs.declared.word.LineWord.TheVariants.{Scnt, Slashes, Mtid, Modl, Topi, Tabl, Obje, Stpt, Lipt, Arcp, Elin, Etab, Etop, Emod, Ende}
 use Rattle.itf_lines.specs.LogicalLines.{LogicalLine}
-use Rattle.itf_reader.specs.Forms.{Table, Form, Start, Straight, OnArc, Vertex, vertex, Row, TableRows, TopicRows, names, table_named, topic_named, table_came, topic_came, filled, placed}
+use Rattle.itf_reader.specs.Forms.{Table, Form, Start, Straight, OnArc, Vertex, vertex, Row, TableRows, TopicRows, names, table_named, topic_named, has_table, has_topic, fill_strokes, rows_by_form}
 
 -- a line with that word
 abbrev pub line : LineWord → ℕ → List (List ℕ) → LogicalLine
 line word number fields = record { number = number; word = word; fields = fields }
 
--- In each relation the first list of lines begins with what is told, and the second one is left behind it.
+-- In each relation the first list of lines begins with what is related, and the second one is left after it.
 
 -- { LIPT | ARCP, LIPT }
 pub data IsVertices : List Vertex → List LogicalLine → List LogicalLine → Type 0 where
@@ -35,23 +35,23 @@ pub data IsObjects (lines : ℕ) : List Row → List LogicalLine → List Logica
   no_object : (r : List LogicalLine) → IsObjects lines [] r r
   more_objects : (n : ℕ) (fs : List (List ℕ)) (ss : List (List Vertex)) (rows : List Row) (w u r : List LogicalLine)
       → IsStrokes ss w u → length ss ≤ lines → IsObjects lines rows u r
-      → IsObjects lines (record { line = n; fields = fs; strokes = filled lines ss } ∷ rows) (line Obje n fs ∷ w) r
+      → IsObjects lines (record { line = n; fields = fs; strokes = fill_strokes lines ss } ∷ rows) (line Obje n fs ∷ w) r
 
--- { TABL name { Object } ETAB }, behind the tables that came before; none comes twice
+-- { TABL name { Object } ETAB }, after the earlier tables; none comes twice
 pub data IsTables (form : Form) (topic : ℕ) : List TableRows → List TableRows → List LogicalLine → List LogicalLine → Type 0 where
-  no_table : (came : List TableRows) (r : List LogicalLine) → IsTables form topic came [] r r
-  more_tables : (came : List TableRows) (n m i : ℕ) (fs gs : List (List ℕ)) (t : Table) (rows : List Row) (ts : List TableRows) (w u r : List LogicalLine)
-      → table_named 0 topic fs form.tables ≡ Some (i, t) → table_came i came ≡ false
-      → IsObjects t.lines rows w (line Etab m gs ∷ u) → IsTables form topic (came ++ record { table = i; rows = rows } ∷ []) ts u r
-      → IsTables form topic came (record { table = i; rows = rows } ∷ ts) (line Tabl n fs ∷ w) r
+  no_table : (earlier : List TableRows) (r : List LogicalLine) → IsTables form topic earlier [] r r
+  more_tables : (earlier : List TableRows) (n m i : ℕ) (fs gs : List (List ℕ)) (t : Table) (rows : List Row) (ts : List TableRows) (w u r : List LogicalLine)
+      → table_named 0 topic fs form.tables ≡ Some (i, t) → has_table i earlier ≡ false
+      → IsObjects t.lines rows w (line Etab m gs ∷ u) → IsTables form topic (earlier ++ record { table = i; rows = rows } ∷ []) ts u r
+      → IsTables form topic earlier (record { table = i; rows = rows } ∷ ts) (line Tabl n fs ∷ w) r
 
--- { TOPI name { Table } ETOP }, behind the topics that came before; none comes twice
+-- { TOPI name { Table } ETOP }, after the earlier topics; none comes twice
 pub data IsTopics (form : Form) : List TopicRows → List TopicRows → List LogicalLine → List LogicalLine → Type 0 where
-  no_topic : (came : List TopicRows) (r : List LogicalLine) → IsTopics form came [] r r
-  more_topics : (came : List TopicRows) (n m i : ℕ) (fs gs : List (List ℕ)) (tables : List TableRows) (ts : List TopicRows) (w u r : List LogicalLine)
-      → topic_named 0 fs form.topics ≡ Some i → topic_came i came ≡ false
-      → IsTables form i [] tables w (line Etop m gs ∷ u) → IsTopics form (came ++ record { topic = i; tables = tables } ∷ []) ts u r
-      → IsTopics form came (record { topic = i; tables = tables } ∷ ts) (line Topi n fs ∷ w) r
+  no_topic : (earlier : List TopicRows) (r : List LogicalLine) → IsTopics form earlier [] r r
+  more_topics : (earlier : List TopicRows) (n m i : ℕ) (fs gs : List (List ℕ)) (tables : List TableRows) (ts : List TopicRows) (w u r : List LogicalLine)
+      → topic_named 0 fs form.topics ≡ Some i → has_topic i earlier ≡ false
+      → IsTables form i [] tables w (line Etop m gs ∷ u) → IsTopics form (earlier ++ record { topic = i; tables = tables } ∷ []) ts u r
+      → IsTopics form earlier (record { topic = i; tables = tables } ∷ ts) (line Topi n fs ∷ w) r
 
 -- any word but that of the line of four slashes
 abbrev pub is_free : LineWord → Bool
@@ -72,12 +72,12 @@ pub data IsText (form : Form) : List TopicRows → List LogicalLine → Type 0 w
 
 -- the lines are the text of that transfer: the rows of each table, in the order of the form
 abbrev pub TransferText : Form → List LogicalLine → List (List Row) → Type 0
-TransferText form lines transfer = (ts : List TopicRows) × IsText form ts lines × (transfer ≡ placed form ts)
+TransferText form lines transfer = (ts : List TopicRows) × IsText form ts lines × (transfer ≡ rows_by_form form ts)
 
 -- what some text begins with
 abbrev pub Begins : Form → List LogicalLine → Type 0
 Begins form lines = (more : List LogicalLine) × (ts : List TopicRows) × IsText form ts (lines ++ more)
 
--- the lines in front begin a text, and with the next one they begin none
+-- the lines before it begin a text, and with this one they begin none
 abbrev pub IsFaultAt : Form → List LogicalLine → LogicalLine → Type 0
 IsFaultAt form front l = Begins form front × (Begins form (front ++ l ∷ []) → ⊥)

@@ -1,2 +1,43 @@
--- Values of the code, without where they lie in memory.
-pub use Rattle.itf_reader.specs.RowViews.{kind_of, vertex_of, vertices_of, stroke_of, strokes_of, row_of, rows_of, table_seen, tables_seen, transfer_of}
+-- Rows of the code, without where they lie in memory.
+use Rattle.std.specs.Prelude.{List, map}
+use Rattle.itf_reader.specs.declared.transfer.VertexKind.{VertexKind}
+use Rattle.itf_reader.specs.declared.transfer.VertexKind.TheVariants as kinds
+use Rattle.itf_reader.specs.declared.transfer.Vertex.{Vertex as CodeVertex}
+use Rattle.itf_reader.specs.declared.transfer.Stroke.{Stroke as CodeStroke}
+use Rattle.itf_reader.specs.declared.transfer.Row.{Row as CodeRow}
+use Rattle.itf_reader.specs.declared.transfer.TableRows.{TableRows as CodeTableRows}
+use Rattle.itf_reader.specs.declared.transfer.Transfer.{Transfer}
+use Rattle.itf_reader.specs.Forms.{Kind, Start, Straight, OnArc, Vertex, Row}
+
+abbrev pub kind_of : VertexKind → Kind
+kind_of kinds.Start = Start
+kind_of kinds.Straight = Straight
+kind_of kinds.OnArc = OnArc
+
+abbrev pub vertex_of : CodeVertex → Vertex
+vertex_of v = record { line = v.line; kind = kind_of v.kind; fields = v.fields.items }
+
+abbrev pub vertices_of : List CodeVertex → List Vertex
+vertices_of vs = map vertex_of vs
+
+abbrev pub stroke_of : CodeStroke → List Vertex
+stroke_of s = vertices_of s.vertices.items
+
+abbrev pub strokes_of : List CodeStroke → List (List Vertex)
+strokes_of ss = map stroke_of ss
+
+abbrev pub row_of : CodeRow → Row
+row_of r = record { line = r.line; fields = r.fields.items; strokes = strokes_of r.strokes.items }
+
+abbrev pub rows_of : List CodeRow → List Row
+rows_of rows = map row_of rows
+
+abbrev pub table_rows_of : CodeTableRows → List Row
+table_rows_of t = rows_of t.rows.items
+
+abbrev pub tables_rows_of : List CodeTableRows → List (List Row)
+tables_rows_of ts = map table_rows_of ts
+
+-- the rows of each table
+abbrev pub transfer_of : Transfer → List (List Row)
+transfer_of t = tables_rows_of t.tables.items

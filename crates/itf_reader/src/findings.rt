@@ -1,7 +1,7 @@
 // What is wrong with a row, a column or a vertex of a transfer that was read.
 use itf_lines::Field;
 
-/// Which rule a row, a column or a vertex breaks. The codes stand in the order of the report.
+/// Which rule a row, a column or a vertex breaks. The codes are in the order of the report.
 #[derive(Clone, Copy, Debug, PartialEq, Eq)]
 pub enum Code {
     /// The line of the object has another number of fields than its table needs.
@@ -24,13 +24,13 @@ pub enum Code {
     Coord,
     /// A vertex on an arc, where the line may have none.
     Arcs,
-    /// Three vertices that lie on no circle in their order.
+    /// No arc leads over three vertices in their order.
     Arc,
     /// A line of one distinct point.
     Short,
-    /// The identification stands already in the table.
+    /// An earlier row of the table has the identification.
     Tid,
-    /// The values of a list that tells rows apart stand already in the table.
+    /// An earlier row of the table has the values of an IDENT list.
     Ident,
     /// A reference that names no row of its table.
     Reference,
@@ -45,7 +45,7 @@ pub struct Finding {
     pub other: Other,
 }
 
-/// What a finding names besides its place: the line that came first, or the word that names
+/// What a finding names besides its place: the line of the earlier row, or the word that names
 /// nothing.
 #[derive(Drop)]
 pub enum Other {

@@ -5,7 +5,7 @@ ghost use Rattle.itf_reader.specs.Forms.{Form, Row, TopicRows};
 ghost use Rattle.itf_reader.specs.TransferText.{IsText, TransferText, Begins, IsFaultAt};
 ghost use Rattle.itf_reader.specs.Machine.{State, start, done, Code, Twice, run, step};
 ghost use Rattle.itf_reader.specs.Codes.{HasCode};
-ghost use Rattle.itf_reader.specs.CameBefore.{CameBefore};
+ghost use Rattle.itf_reader.specs.NamedBefore.{NamedBefore};
 ghost use Rattle.itf_reader.specs.ClosedRows.{by_table, closed_rows};
 ghost use Rattle.itf_reader.specs.RowForms.{EachRow, IsCounted, HasForm};
 ghost use Rattle.itf_reader.specs.Readings.{Structure, IsRead, IsRefused, HasAnswer};
@@ -51,12 +51,12 @@ pub fn machine_stops()
 
 /// Some lines are read or refused, never both, and they are refused at one line with one code.
 pub fn one_answer()
-    ensures some { (form : Form) (found : LogicalLines) → HasAnswer form found }
-    ensures never_both { (form : Form) (found : LogicalLines) (transfer : List (List Row)) (n : ℕ)
-        (code : Structure) → IsRead form found transfer
-        → IsRefused form found n code → ⊥ }
-    ensures one_refusal { (form : Form) (found : LogicalLines) (n m : ℕ) (code other : Structure)
-        → IsRefused form found n code → IsRefused form found m other
+    ensures some { (form : Form) (given : LogicalLines) → HasAnswer form given }
+    ensures never_both { (form : Form) (given : LogicalLines) (transfer : List (List Row)) (n : ℕ)
+        (code : Structure) → IsRead form given transfer
+        → IsRefused form given n code → ⊥ }
+    ensures one_refusal { (form : Form) (given : LogicalLines) (n m : ℕ) (code other : Structure)
+        → IsRefused form given n code → IsRefused form given m other
         → (n ≡ m) × (code ≡ other) }
 {}
 
@@ -70,32 +70,32 @@ pub fn strokes_counted()
 {}
 
 /// The rows that the lines of a text close one after another, each with the number of its table,
-/// are all rows of its transfer: those of one table stand in their order. So who takes each row
-/// when it is closed, and keeps none, misses nothing.
+/// are all rows of its transfer, those of one table in their order. So a caller that takes each
+/// row when it is closed, and keeps none, misses nothing.
 pub fn rows_by_table()
     ensures { (form : Form) (lines : List LogicalLine) (transfer : List (List Row))
         → TransferText form lines transfer
         → transfer ≡ by_table form (closed_rows form lines) }
 {}
 
-/// A feed that begins in front of a text and takes all of its lines, and their end, gives the
+/// A feed that begins before a text and takes all of its lines, and their end, gives the
 /// transfer of these lines, or the line at fault with its code. The rows that it shows on the way
 /// are all that the lines close, though no closed row is kept.
 pub fn from_the_opening()
-    ensures reads { (form : Form) (found : LogicalLines) (transfer : List (List Row))
-        → read_from form opening found.lines (end_of found) ≡ read transfer
-        → IsRead form found transfer }
-    ensures refuses { (form : Form) (found : LogicalLines) (n : ℕ) (code : Structure)
-        → read_from form opening found.lines (end_of found) ≡ refused n code
-        → IsRefused form found n code }
+    ensures reads { (form : Form) (given : LogicalLines) (transfer : List (List Row))
+        → read_from form opening given.lines (end_of given) ≡ read transfer
+        → IsRead form given transfer }
+    ensures refuses { (form : Form) (given : LogicalLines) (n : ℕ) (code : Structure)
+        → read_from form opening given.lines (end_of given) ≡ refused n code
+        → IsRefused form given n code }
     ensures shows { (form : Form) (lines : List LogicalLine)
         → shown_rows form (standing start) lines ≡ closed_rows form lines }
 {}
 
-/// A line with the code `twice` names a topic that a line TOPI behind the head named before, or a
+/// A line with the code `twice` names a topic that a line TOPI after the head named before, or a
 /// table that a line TABL named since the last line TOPI.
-pub fn twice_came()
+pub fn named_before()
     ensures { (form : Form) (front : List LogicalLine) (l : LogicalLine)
         → IsFaultAt form front l → HasCode form front l Twice
-        → CameBefore form front l.word l.fields }
+        → NamedBefore form front l.word l.fields }
 {}

@@ -11,18 +11,18 @@
 //!   end exactly with a text (`machine_reads`), and stops at the first line with which no text
 //!   begins, with the first code that fits it (`machine_stops`). So each list of lines, with its
 //!   fault of continuation, is read or refused, never both, and refused at one line with one code
-//!   (`one_answer`). What a code means is said of the lines alone (`HasCode`): whether a line of
-//!   that word may stand there at all is asked with names put aside, of the form with further
-//!   topics and tables, so that a line TOPI is no wrong word where every topic came.
+//!   (`one_answer`). What a code means is a relation of the lines alone (`HasCode`): whether a
+//!   line of that word may come there at all is asked of the form with further topics and tables,
+//!   so that a line TOPI is no wrong word where every topic was read.
 //! - **Rows.** Each row has as many strokes as its table has lines (`strokes_counted`), and the
 //!   rows that lines close one after another are those of the transfer (`rows_by_table`). A line
-//!   with the code `twice` names what an earlier line named (`twice_came`).
+//!   with the code `twice` names what an earlier line named (`named_before`).
 //! - **Reading.** `read_transfer` takes the lines of a text one after another, by the names of a
 //!   layout, and keeps what is open between two of them. It gives the rows of each table in the
-//!   order of the layout, none for a table that did not come, each row with as many strokes as
-//!   its table has lines; or the line at fault and its code. Its answer is exact: it is a
+//!   order of the layout, none for a table that is not in the text, each row with as many strokes
+//!   as its table has lines; or the line at fault and its code. Its answer is exact: it is a
 //!   transfer only where the lines are its text, and a refusal only where they are refused at
-//!   that line with that code. The only other answer is want of memory.
+//!   that line with that code. The only other answer is out of memory.
 //! - **In pieces.** A `TransferFeed` takes the lines in pieces: whatever follows them, the answer
 //!   is that from its new state on, so that the cut does not matter. A `RowFeed` takes one line
 //!   after another, shows each row when it is closed, and keeps none but that. From the opening
@@ -35,13 +35,13 @@
 //! - **Not here:** how many fields a line must have, beside those that name a model, a topic or a
 //!   table, and what fields mean.
 //! - **Degenerate cases:** a text may have no topic, a topic no table, a table no object. Before
-//!   the line of four slashes each word may stand, and behind ENDE none.
+//!   the line of four slashes each word may come, and after ENDE none.
 //!
 //! Cost: `Names` sorts the names of a layout, n log n for every layout, and each line TOPI or TABL
 //! looks one up by binary search. A feed goes over the lines once and copies their fields. A
 //! `RowFeed` holds the open row and the one that was closed last, whose room is used again, and the
-//! numbers of what came. A `TransferFeed` holds all rows, each moved out of the feed below, and
-//! sorts the names anew for each piece.
+//! numbers of the topics and tables so far. A `TransferFeed` holds all rows, each moved out of the
+//! feed below, and sorts the names anew for each piece.
 #![tactic(auto)]
 
 mod findings;
@@ -52,15 +52,13 @@ mod reading;
 mod refusal;
 mod row_feed;
 mod rows;
-#[cfg(test)]
-mod tests;
 mod transfer;
 mod transfer_feed;
 
 pub use findings::{Code, Finding, Other};
 pub use laws::{
-    from_the_opening, machine_begins, machine_reads, machine_stops, one_answer, one_transfer,
-    rows_by_table, strokes_counted, twice_came,
+    from_the_opening, machine_begins, machine_reads, machine_stops, named_before, one_answer,
+    one_transfer, rows_by_table, strokes_counted,
 };
 pub use machine::Names;
 pub use order::sort_findings;

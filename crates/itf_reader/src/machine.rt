@@ -1,20 +1,20 @@
-// The machine that takes the lines of a transfer one after another. It keeps the names that came,
-// the open object and the one that was closed last, and no other row.
+// The machine that takes the lines of a transfer one after another. It keeps the numbers of the
+// topics and tables so far, the open object and the one that was closed last, and no other row.
 ghost use Rattle.std.specs.Prelude.{◌≡◌, OnOk};
 ghost use Rattle.table_layout.specs.Values.{id_view};
-ghost use Rattle.itf_lines.specs.Views.{line_seen};
+ghost use Rattle.itf_lines.specs.Views.{line_view};
 ghost use Rattle.itf_reader.specs.Names.{form_in};
-ghost use Rattle.itf_reader.specs.RowViews.{row_of};
+ghost use Rattle.itf_reader.specs.Views.{row_of};
 ghost use Rattle.itf_reader.specs.Readings.{OfLine};
 ghost use Rattle.itf_reader.specs.RowFeeds.{standing, stopped, next, shows, Shows, number_shown};
 ghost use Rattle.itf_reader.specs.Machine.{start, refusal};
 ghost use Rattle.itf_reader.specs.MachineViews.{at_of};
 ghost use Rattle.itf_reader.specs.Refusals.{fault_of};
 
-mod came;
 mod frame;
 mod head;
 mod names;
+mod number_set;
 mod objects;
 mod polylines;
 mod rows;
@@ -23,10 +23,10 @@ mod state;
 mod topics;
 
 use super::transfer::{Row, Structure, Vertex};
-use came::Came;
 use frame::Frame;
 use itf_lines::{Line, LineWord};
 pub use names::Names;
+use number_set::NumberSet;
 use ports::Memory;
 pub use rows::no_row;
 use spare::Spare;
@@ -44,11 +44,11 @@ pub struct Machine {
     /// The vertices of the open polyline.
     pub polyline: Vec<Vertex>,
     pub closed: Row,
-    /// Room of objects that were let go.
+    /// Room of earlier objects.
     pub spare: Spare,
 }
 
-// The code of a word that may not stand where it does, in front of ENDE.
+// The code of a word that may not come next, before ENDE.
 fn refusal(word: LineWord) -> Structure
     ensures { fault_of result ≡ OfLine (refusal word) }
 {
@@ -59,7 +59,7 @@ fn refusal(word: LineWord) -> Structure
 }
 
 impl Machine {
-    /// In front of a text.
+    /// Before a text.
     pub fn new(alloc: Global) -> Machine
         ensures { at_of result ≡ standing start }
     {
@@ -67,9 +67,9 @@ impl Machine {
             alloc,
             frame: Frame {
                 state: State::BeforeScnt,
-                topics: Came::new(alloc),
+                topics: NumberSet::new(alloc),
                 topic: 0,
-                tables: Came::new(alloc),
+                tables: NumberSet::new(alloc),
                 table: 0,
                 lines: 0,
             },
@@ -87,7 +87,7 @@ impl Machine {
         self.frame.state = State::Stopped(line.number, code);
     }
 
-    // Stops at a line whose word may not stand there.
+    // Stops at a line whose word may not come next.
     fn refuse(&mut self, line: &Line)
         ensures { at_of self.new ≡ stopped line.now.number (OfLine (refusal line.now.word)) }
     {
@@ -110,7 +110,7 @@ impl Machine {
     /// Takes a line. Where one was at fault, nothing changes.
     pub fn step(&mut self, names: &Names, line: &Line) -> Result<(), Memory>
         ensures at { OnOk result (at_of self.new ≡ next (form_in names.now) (at_of self.old)
-            (line_seen line.now)) }
+            (line_view line.now)) }
         // The object that it closes is shown.
         ensures row { OnOk result (Shows (shows (at_of self.old) line.now.word)
             (row_of self.new.closed)) }

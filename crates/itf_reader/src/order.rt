@@ -40,7 +40,7 @@ fn compare(a: &Finding, b: &Finding) -> Ordering
 
 /// Puts findings into the order of the report: by the line, on one line by the column, in one
 /// column by the code. Findings at one place with one code keep their order. The only error is
-/// want of memory. It takes time linear in the findings where few stand out of order, and else
+/// out of memory. It takes time linear in the findings where few are out of order, and else
 /// n log n.
 pub fn sort_findings(findings: &mut Vec<Finding>) -> Result<(), Memory>
     ensures { OnOk result (findings_of findings.new.items ≡ in_order

@@ -5,8 +5,8 @@ ghost use Rattle.itf_reader.specs.declared.refusal.ReadRefusal.TheVariants.{Memo
 use super::transfer::Structure;
 use ports::Memory;
 
-/// The first line at fault and its code, or want of memory. Where the text ends too soon, the
-/// line is the one behind the last.
+/// The first line at fault and its code, or out of memory. Where the text ends too soon, the
+/// line is the one after the last.
 #[derive(Clone, Copy, Debug, PartialEq, Eq)]
 pub enum ReadRefusal {
     At { line: u32, code: Structure },

@@ -1,13 +1,13 @@
 // The rows of a transfer whose lines come one after another.
 ghost use Rattle.std.specs.Prelude.{◌≡◌, ◌<◌, true, false, IfOk, OnOk, OnErr, Err};
 ghost use Rattle.table_layout.specs.Values.{id_view};
-ghost use Rattle.itf_lines.specs.Views.{line_seen};
+ghost use Rattle.itf_lines.specs.Views.{line_view};
 ghost use Rattle.itf_reader.specs.declared.refusal.ReadRefusal.TheVariants.{Memory as OutOfMemory};
 ghost use Rattle.itf_reader.specs.Machine.{start};
 ghost use Rattle.itf_reader.specs.Names.{form_in};
-ghost use Rattle.itf_reader.specs.Reads.{fault_at, fault_behind, Tells};
-ghost use Rattle.itf_reader.specs.RowFeeds.{standing, next, shows, shown};
-ghost use Rattle.itf_reader.specs.RowViews.{row_of};
+ghost use Rattle.itf_reader.specs.Reads.{fault_at, fault_after, Tells};
+ghost use Rattle.itf_reader.specs.RowFeeds.{standing, next, shows, shown_row};
+ghost use Rattle.itf_reader.specs.Views.{row_of};
 
 use super::machine::{Machine, Names, State, no_row};
 use super::refusal::ReadRefusal;
@@ -29,7 +29,7 @@ pub struct RowFeed {
 
 impl Model for RowFeed {
     ghost use Rattle.itf_reader.specs.RowFeeds.{RowState};
-    ghost use Rattle.itf_reader.specs.RowViews.{row_of};
+    ghost use Rattle.itf_reader.specs.Views.{row_of};
     ghost use Rattle.itf_reader.specs.MachineViews.{at_of};
 
     ghost Value = { RowState };
@@ -41,10 +41,10 @@ impl Model for RowFeed {
     } };
 }
 
-// The end of a text whose lines were all taken, where ENDE has come or has not.
-fn end_behind(end: LineEnd, ended: bool) -> Result<(), ReadRefusal>
+// The answer at the end of a text whose lines were all taken, by whether ENDE was read.
+fn end_after(end: LineEnd, ended: bool) -> Result<(), ReadRefusal>
     requires { end.total < 4294967295 }
-    ensures { Tells (fault_behind end.fault ended end.total) result }
+    ensures { Tells (fault_after end.fault ended end.total) result }
 {
     match end.fault {
         Some(LineFault::OpenContinue(line)) => Err(ReadRefusal::At {
@@ -64,7 +64,7 @@ fn end_behind(end: LineEnd, ended: bool) -> Result<(), ReadRefusal>
 }
 
 impl RowFeed {
-    /// In front of a text.
+    /// Before a text.
     pub fn new(alloc: Global) -> RowFeed
         ensures at { result.at ≡ standing start }
         ensures sound { result.failed ≡ false }
@@ -76,15 +76,15 @@ impl RowFeed {
     }
 
     /// Takes a line by the names of a layout: the table whose row it closes, where it closes one.
-    /// The row is then `closed`, up to the next line. Behind the first line at fault nothing is
+    /// The row is then `closed`, up to the next line. After the first line at fault nothing is
     /// taken, and no row is closed.
     ///
     /// Cost: time and memory in proportion to the line. The rooms of the row before are used again.
     pub fn take(&mut self, names: &Names, line: &Line) -> Result<Option<TableId>, Memory>
         ensures at { OnOk result
-            (self.new.at ≡ next (form_in names.now) self.old.at (line_seen line.now)) }
+            (self.new.at ≡ next (form_in names.now) self.old.at (line_view line.now)) }
         ensures closed { IfOk result (λ table.
-            shown (id_view table) self.new.closed ≡ shows self.old.at line.now.word) }
+            shown_row (id_view table) self.new.closed ≡ shows self.old.at line.now.word) }
         // The only error is out of memory, after which each call has it.
         ensures sound { OnOk result ((self.old.failed ≡ false) × (self.new.failed ≡ false)) }
         ensures failed { OnErr result (self.new.failed ≡ true) }
@@ -118,8 +118,8 @@ impl RowFeed {
     }
 
     /// The text ends here. `Ok`: its lines are those of a transfer. Else the first line at fault,
-    /// which is the one of the fault of continuation where all lines before it may stand, and the
-    /// one behind the last where the text ends before ENDE. A feed that failed has `Memory`.
+    /// which is the one of the fault of continuation where no line before it is at fault, and the
+    /// one after the last where the text ends before ENDE. A feed that failed has `Memory`.
     pub fn finish(self, end: LineEnd) -> Result<(), ReadRefusal>
         requires { self.failed ≡ false → end.total < 4294967295 }
         ensures sound { self.failed ≡ false → Tells (fault_at self.at end) result }
@@ -130,8 +130,8 @@ impl RowFeed {
         }
         match self.machine.frame.state {
             State::Stopped(line, code) => Err(ReadRefusal::At { line, code }),
-            State::Done => end_behind(end, true),
-            _ => end_behind(end, false),
+            State::Done => end_after(end, true),
+            _ => end_after(end, false),
         }
     }
 }

@@ -49,13 +49,13 @@ pub struct Transfer {
 /// Why a text is no transfer.
 #[derive(Clone, Copy, Debug, PartialEq, Eq)]
 pub enum Structure {
-    /// The word may not stand there.
+    /// The word may not come there.
     Word,
-    /// MOTR in front of ENDE.
+    /// MOTR before ENDE.
     Motr,
     /// MODL, TOPI or TABL has not exactly one field, or it names nothing.
     Name,
-    /// The topic, or the table of the topic, came before.
+    /// The topic, or the table of the topic, was read before.
     Twice,
     /// The text ends before ENDE.
     End,

@@ -5,24 +5,24 @@ ghost use Rattle.table_layout.specs.Valid.{IsValid};
 ghost use Rattle.table_layout.specs.Values.{layout_view};
 ghost use Rattle.itf_lines.specs.declared.logical.LineEnd.{LineEnd};
 ghost use Rattle.itf_lines.specs.LogicalLines.{LogicalLine};
-ghost use Rattle.itf_lines.specs.Views.{line_seen, lines_seen};
+ghost use Rattle.itf_lines.specs.Views.{line_view, lines_view};
 ghost use Rattle.itf_reader.specs.declared.refusal.ReadRefusal.TheVariants.{Memory as OutOfMemory};
 ghost use Rattle.itf_reader.specs.Layouts.{form_of};
 ghost use Rattle.itf_reader.specs.Names.{form_in};
 ghost use Rattle.itf_reader.specs.Reads.{opening, read_from, Gives};
 ghost use Rattle.itf_reader.specs.RowFeeds.{next, shows, after_lines, shown_rows};
 
-mod gathered;
 mod placing;
+mod read_tables;
 
 use super::machine::Names;
 use super::refusal::ReadRefusal;
 use super::row_feed::RowFeed;
 use super::transfer::Transfer;
-use gathered::Gathered;
 use itf_lines::{Line, LineEnd};
-use placing::placed;
+use placing::transfer_by_layout;
 use ports::Memory;
+use read_tables::ReadTables;
 use std::alloc::Global;
 use std::marker::Model;
 use table_layout::Layout;
@@ -32,25 +32,25 @@ use table_layout::Layout;
 pub struct TransferFeed {
     alloc: Global,
     feed: RowFeed,
-    gathered: Gathered,
+    tables: ReadTables,
     failed: bool,
 }
 
 impl Model for TransferFeed {
     ghost use Rattle.itf_reader.specs.Reads.{TransferState};
-    ghost use Rattle.itf_reader.specs.GatheredRows.{gathered_rows};
+    ghost use Rattle.itf_reader.specs.ReadRows.{read_rows};
 
     ghost Value = { TransferState };
 
     ghost view = { λ feed. record {
       failed = feed.failed;
-      rows = gathered_rows feed.gathered;
+      rows = read_rows feed.tables;
       at = feed.feed.at;
     } };
 }
 
 impl TransferFeed {
-    /// In front of a text that is read by a layout. It takes no memory yet.
+    /// Before a text that is read by a layout. It takes no memory yet.
     pub fn new(alloc: Global, _layout: &Layout) -> Result<TransferFeed, Memory>
         ensures opening { IfOk result (λ feed. feed ≡ opening) }
         ensures free { IsOk result }
@@ -58,7 +58,7 @@ impl TransferFeed {
         Ok(TransferFeed {
             alloc,
             feed: RowFeed::new(alloc),
-            gathered: Gathered::new(alloc),
+            tables: ReadTables::new(alloc),
             failed: false,
         })
     }
@@ -66,14 +66,14 @@ impl TransferFeed {
     // Takes a line, and the row that it closes.
     fn take_line(&mut self, names: &Names, line: &Line) -> Result<(), Memory>
         ensures at { OnOk result
-            (self.new.at ≡ next (form_in names.now) self.old.at (line_seen line.now)) }
+            (self.new.at ≡ next (form_in names.now) self.old.at (line_view line.now)) }
         ensures rows { OnOk result
             (self.new.rows ≡ self.old.rows ++ shows self.old.at line.now.word) }
         ensures failed { self.new.failed ≡ self.old.failed }
     {
         if let Some(table) = self.feed.take(names, line)? {
             let row = self.feed.take_closed();
-            self.gathered.add(table, row)?;
+            self.tables.add(table, row)?;
         }
         Ok(())
     }
@@ -81,15 +81,16 @@ impl TransferFeed {
     /// Takes lines by the names of their layout.
     pub fn take_lines(&mut self, names: &Names, lines: &[Line]) -> Result<(), Memory>
         ensures at { OnOk result (self.new.at ≡ after_lines (form_in names.now) self.old.at
-            (lines_seen lines.now)) }
+            (lines_view lines.now)) }
         ensures rows { OnOk result (self.new.rows ≡ self.old.rows ++
-            shown_rows (form_in names.now) self.old.at (lines_seen lines.now)) }
+            shown_rows (form_in names.now) self.old.at (lines_view lines.now)) }
         ensures sound { OnOk result ((self.old.failed ≡ false) × (self.new.failed ≡ false)) }
         ensures failed { OnErr result (self.new.failed ≡ true) }
     {
         if self.failed {
             return Err(Memory);
         }
+        // Set up to the end, so that each early return leaves it set.
         self.failed = true;
         for line in lines {
             self.take_line(names, line)?;
@@ -104,7 +105,7 @@ impl TransferFeed {
         // Whatever follows these lines: the answer is that from here on.
         ensures lines { OnOk result ((more : List LogicalLine) (end : LineEnd)
             → read_from (form_of (layout_view layout.now)) self.old
-            (lines_seen lines.items ++ more) end
+            (lines_view lines.items ++ more) end
             ≡ read_from (form_of (layout_view layout.now)) self.new more end) }
         // The only error is out of memory, after which each call has it.
         ensures sound { OnOk result ((self.old.failed ≡ false) × (self.new.failed ≡ false)) }
@@ -131,6 +132,6 @@ impl TransferFeed {
             return Err(ReadRefusal::Memory);
         }
         self.feed.finish(end)?;
-        Ok(placed(self.alloc, layout, self.gathered)?)
+        Ok(transfer_by_layout(self.alloc, layout, self.tables)?)
     }
 }

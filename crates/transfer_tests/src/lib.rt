@@ -1,9 +1,11 @@
 //! Tests of the crates that read a transfer, by their public items alone: files and outputs,
-//! logical lines, and the values of rows.
+//! logical lines, whole transfers, the values of rows, and their keys.
 //!
-//! They stand in a crate of their own since a library with tests is proved once more with them.
+//! They are in a crate of their own since a library with tests is proved once more with them.
 #![tactic(auto)]
 
+#[cfg(test)]
+mod keys;
 #[cfg(test)]
 mod layouts;
 #[cfg(test)]
@@ -12,5 +14,7 @@ mod lines;
 mod rows;
 #[cfg(test)]
 mod shelves;
+#[cfg(test)]
+mod transfers;
 #[cfg(test)]
 mod words;

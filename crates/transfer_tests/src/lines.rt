@@ -1,17 +1,12 @@
 // Logical lines: words, fields, continuation and faults.
 ghost use Rattle.std.specs.Prelude.{◌≤◌, ◌<◌, length};
 
+use super::layouts::CODES;
 use ili_grammar::Codes;
 use itf_lines::{Field, Line, LineFault, LineFeed, LineWord, Lines, logical_lines};
 use ports::Memory;
 use std::alloc::Global;
 use std::process::Abort;
-
-const CODES: Codes = Codes {
-    blank: b'_',
-    undefined: b'@',
-    continued: b'\\',
-};
 
 fn lines_of(rt: &impl Abort, alloc: Global, code: u8, text: &[u8]) -> Lines {
     let codes = Codes {
@@ -26,7 +21,7 @@ fn lines_of(rt: &impl Abort, alloc: Global, code: u8, text: &[u8]) -> Lines {
     }
 }
 
-// Each line as its number, its word and its fields with a blank in front of each, then a LF.
+// Each line as its number, its word and its fields with a blank before each, then a LF.
 fn shown(rt: &impl Abort, alloc: Global, lines: &Lines) -> String {
     let mut text = String::new(alloc);
     for line in &lines.lines {
@@ -42,7 +37,7 @@ fn shown(rt: &impl Abort, alloc: Global, lines: &Lines) -> String {
     text
 }
 
-// A text behind the lines `SCNT` and `////`, the lines that it adds, the fault, and the total.
+// A text after the lines `SCNT` and `////`, the lines that it adds, the fault, and the total.
 type Row = (&'static [u8], &'static str, Option<LineFault>, u32);
 
 fn passes(rt: &impl Abort, alloc: Global, code: u8, head: &str, rows: &[Row]) {
@@ -249,7 +244,7 @@ const EACH_WORD: [Row; 1] = [(
 )];
 
 #[test]
-fn each_word_is_told(rt: HostRuntime) {
+fn each_word_is_recognized(rt: HostRuntime) {
     passes(&rt, rt.alloc(), b'\\', HEAD, &EACH_WORD);
 }
 
@@ -328,14 +323,14 @@ fn a_field_keeps_its_bytes(rt: HostRuntime) {
     }
 }
 
-// Adds so many times the piece.
+// Adds the piece that many times.
 fn repeat(rt: &impl Abort, text: &mut Vec<u8>, piece: &[u8], times: u32) {
     for _ in 0..times {
         text.extend_from_slice(piece).expect(rt, "memory");
     }
 }
 
-// A text that is repeated 100,000 times behind the head, the lines then, and the total.
+// A text that is repeated 100,000 times after the head, the lines then, and the total.
 const MANY: [(&[u8], usize, u32); 4] = [
     (b"OBJE 1 2600020.000 1200000.000\n", 100002, 100002),
     (b"\n", 2, 100002),

@@ -2,12 +2,10 @@
 ghost use Rattle.table_layout.specs.Valid.{IsValid};
 ghost use Rattle.table_layout.specs.Values.{layout_view};
 
-use super::layouts::laid;
+use super::layouts::{CODES, layout_of, read};
 use domain_rules::check_values;
 use field_values::{is_undefined, width};
-use ili_grammar::Codes;
-use itf_lines::logical_lines;
-use itf_reader::{Finding, Transfer, is_counted, is_sound_line, read_transfer};
+use itf_reader::{Finding, Transfer, is_counted, is_sound_line};
 use resolver::{Form, Limits, Window};
 use std::alloc::Global;
 use std::process::Abort;
@@ -15,12 +13,6 @@ use table_layout::Layout;
 
 // A parcel has a number, an optional place, an AREA with arcs, a way, which is a line with
 // heights, and an optional path, which is a line with arcs.
-
-const CODES: Codes = Codes {
-    blank: b'_',
-    undefined: b'@',
-    continued: b'\\',
-};
 
 // From 0.0 to 10.0.
 const TENTHS: Limits = Limits {
@@ -41,21 +33,8 @@ const MODEL: &str = "TRANSFER One; \
     Path: OPTIONAL POLYLINE WITH (ARCS) VERTEX K; NO IDENT END Parcel; END Cover. END Land. \
     FORMAT FREE; CODE BLANK = DEFAULT, UNDEFINED = DEFAULT, CONTINUE = DEFAULT; TID = ANY; END.";
 
-// Line 6 is the first of the text.
-fn read(rt: &impl Abort, alloc: Global, layout: &Layout, text: &str) -> Transfer
-    requires { IsValid (layout_view layout.now) }
-{
-    let head = "SCNT\n////\nMTID x\nMODL Land\nTOPI Cover\n";
-    let whole = format!(in alloc; "{head}{text}ETAB\nETOP\nEMOD\nENDE\n").expect(rt, "memory");
-    assert!(rt; whole.len() <= 268_435_456);
-    match logical_lines(alloc, whole.as_bytes(), &CODES) {
-        Ok(lines) => match read_transfer(alloc, layout, &lines) {
-            Ok(transfer) => transfer,
-            Err(refusal) => panic!(rt; "{:?} for {}", refusal, text),
-        },
-        Err(_) => panic!(rt; "memory"),
-    }
-}
+// Line 6 is the first after it.
+const HEAD: &str = "SCNT\n////\nMTID x\nMODL Land\nTOPI Cover\n";
 
 // Line, column and code of each finding.
 fn shown(rt: &impl Abort, alloc: Global, findings: &[Finding]) -> String {
@@ -71,11 +50,11 @@ fn shown(rt: &impl Abort, alloc: Global, findings: &[Finding]) -> String {
 // Some lines of a transfer, and what is wrong with their values.
 type Case = (&'static str, &'static str);
 
-fn told(rt: &impl Abort, alloc: Global, front: &str, cases: &[Case]) {
-    let layout = laid(rt, alloc, MODEL);
+fn reports(rt: &impl Abort, alloc: Global, front: &str, cases: &[Case]) {
+    let layout = layout_of(rt, alloc, MODEL);
     for (text, want) in cases {
         let text = format!(in alloc; "{front}{text}").expect(rt, "memory");
-        let transfer = read(rt, alloc, &layout, &text);
+        let transfer = read(rt, alloc, &layout, HEAD, &text);
         has_findings(rt, alloc, &layout, &transfer, &text, want);
     }
 }
@@ -128,7 +107,7 @@ const COLUMNS: [Case; 9] = [
 
 #[test]
 fn columns_are_judged_by_their_words(rt: HostRuntime) {
-    told(&rt, rt.alloc(), "TABL Parcel\n", &COLUMNS);
+    reports(&rt, rt.alloc(), "TABL Parcel\n", &COLUMNS);
 }
 
 const WAYS: [Case; 3] = [
@@ -153,8 +132,8 @@ const PATHS: [Case; 2] = [
 
 #[test]
 fn vertices_are_judged_field_by_field(rt: HostRuntime) {
-    told(&rt, rt.alloc(), "TABL Parcel\nOBJE 1 5 @ @ 1 1\n", &WAYS);
-    told(
+    reports(&rt, rt.alloc(), "TABL Parcel\nOBJE 1 5 @ @ 1 1\n", &WAYS);
+    reports(
         &rt,
         rt.alloc(),
         "TABL Parcel\nOBJE 1 5 @ @ 1 1\nSTPT 1 1 5\nELIN\n",
@@ -181,7 +160,7 @@ const ARCS: [Case; 8] = [
 
 #[test]
 fn an_arc_leads_over_its_middle(rt: HostRuntime) {
-    told(&rt, rt.alloc(), "TABL Parcel_Form\nOBJE 1\n", &ARCS);
+    reports(&rt, rt.alloc(), "TABL Parcel_Form\nOBJE 1\n", &ARCS);
 }
 
 const AREA_LINES: [Case; 6] = [
@@ -203,15 +182,15 @@ const TWO_TABLES: [Case; 1] = [(
 
 #[test]
 fn a_line_of_an_area_has_two_points(rt: HostRuntime) {
-    told(&rt, rt.alloc(), "TABL Parcel_Form\nOBJE 1\n", &AREA_LINES);
-    told(&rt, rt.alloc(), "", &TWO_TABLES);
+    reports(&rt, rt.alloc(), "TABL Parcel_Form\nOBJE 1\n", &AREA_LINES);
+    reports(&rt, rt.alloc(), "", &TWO_TABLES);
 }
 
 // Whether each row has its words, and whether nothing is wrong with its lines.
 fn sound(rt: &impl Abort, alloc: Global, layout: &Layout, transfer: &Transfer) -> String {
     let mut text = String::new(alloc);
-    for (table, came) in layout.tables.iter().zip(&transfer.tables) {
-        for row in &came.rows {
+    for (table, table_rows) in layout.tables.iter().zip(&transfer.tables) {
+        for row in &table_rows.rows {
             let one = format!(in alloc; "{}", is_counted(table, row)).expect(rt, "memory");
             text.push_str(&one).expect(rt, "memory");
             for (form, stroke) in table.lines.iter().zip(&row.strokes) {
@@ -234,8 +213,8 @@ const SIX_ROWS: &str = "TABL Parcel_Form\nOBJE 1\nOBJE\nSTPT 1 1\nLIPT 1 1.0\nEL
 #[test]
 fn a_row_and_its_lines_are_sound(rt: HostRuntime) {
     let alloc = rt.alloc();
-    let layout = laid(&rt, alloc, MODEL);
-    let transfer = read(&rt, alloc, &layout, SIX_ROWS);
+    let layout = layout_of(&rt, alloc, MODEL);
+    let transfer = read(&rt, alloc, &layout, HEAD, SIX_ROWS);
     let want = "true true\nfalse false\nfalse true\ntrue true false\nfalse false true\n";
     assert_eq!(rt; sound(&rt, alloc, &layout, &transfer).as_str(), want);
 }

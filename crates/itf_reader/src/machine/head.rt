@@ -1,10 +1,10 @@
-// The lines in front of the topics and behind them.
+// The lines before the topics and after them.
 ghost use Rattle.std.specs.Prelude.{◌≡◌};
-ghost use Rattle.itf_lines.specs.Views.{line_seen};
+ghost use Rattle.itf_lines.specs.Views.{line_view};
 ghost use Rattle.itf_reader.specs.Forms.{Form};
 ghost use Rattle.itf_reader.specs.Machine.{start, free, title, model, last};
 ghost use Rattle.itf_reader.specs.Names.{form_in};
-ghost use Rattle.itf_reader.specs.RowFeeds.{taken};
+ghost use Rattle.itf_reader.specs.RowFeeds.{after_line};
 ghost use Rattle.itf_reader.specs.MachineViews.{at_of, topics_alone};
 
 use super::Machine;
@@ -16,7 +16,7 @@ use itf_lines::{Line, LineWord};
 impl Machine {
     // The first line.
     pub fn before_scnt(&mut self, line: &Line)
-        ensures { (form : Form) → at_of self.new ≡ taken form start (line_seen line.now) }
+        ensures { (form : Form) → at_of self.new ≡ after_line form start (line_view line.now) }
     {
         match line.word {
             LineWord::Scnt => self.frame.state = State::InHead,
@@ -24,9 +24,9 @@ impl Machine {
         }
     }
 
-    // Between the first line and that of four slashes.
+    // Between the first line and the line of four slashes.
     pub fn in_head(&mut self, line: &Line)
-        ensures { (form : Form) → at_of self.new ≡ taken form free (line_seen line.now) }
+        ensures { (form : Form) → at_of self.new ≡ after_line form free (line_view line.now) }
     {
         match line.word {
             LineWord::Slashes => self.frame.state = State::BeforeMtid,
@@ -34,9 +34,9 @@ impl Machine {
         }
     }
 
-    // Behind the line of four slashes.
+    // After the line of four slashes.
     pub fn before_mtid(&mut self, line: &Line)
-        ensures { (form : Form) → at_of self.new ≡ taken form title (line_seen line.now) }
+        ensures { (form : Form) → at_of self.new ≡ after_line form title (line_view line.now) }
     {
         match line.word {
             LineWord::Mtid => self.frame.state = State::BeforeModl,
@@ -44,9 +44,9 @@ impl Machine {
         }
     }
 
-    // Behind MTID.
+    // After MTID.
     pub fn before_modl(&mut self, names: &Names, line: &Line)
-        ensures { at_of self.new ≡ taken (form_in names.now) model (line_seen line.now) }
+        ensures { at_of self.new ≡ after_line (form_in names.now) model (line_view line.now) }
     {
         match line.word {
             LineWord::Modl => {
@@ -61,10 +61,10 @@ impl Machine {
         }
     }
 
-    // Behind EMOD.
+    // After EMOD.
     pub fn before_ende(&mut self, line: &Line)
-        ensures { (form : Form) → at_of self.new ≡ taken form
-            (last (topics_alone self.old.frame.topics)) (line_seen line.now) }
+        ensures { (form : Form) → at_of self.new ≡ after_line form
+            (last (topics_alone self.old.frame.topics)) (line_view line.now) }
     {
         match line.word {
             LineWord::Ende => self.frame.state = State::Done,

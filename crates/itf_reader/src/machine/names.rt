@@ -21,9 +21,9 @@ pub struct Names<'a> {
     topics: SortedKeys,
     keys: Vec<Name>,
     tables: SortedKeys,
-    ghost topics_told: { IsSortedKeys (name_keys layout.now.topics.items) topics },
-    ghost tables_told: { IsSortedKeys (name_keys keys.items) tables },
-    ghost keys_told: { keys.items ≡ table_keys (tables_view layout.now.tables.items) },
+    ghost topics_sorted: { IsSortedKeys (name_keys layout.now.topics.items) topics },
+    ghost tables_sorted: { IsSortedKeys (name_keys keys.items) tables },
+    ghost keys_given: { keys.items ≡ table_keys (tables_view layout.now.tables.items) },
     ghost small: { AreSmall (tables_view layout.now.tables.items) },
     ghost few: { length layout.now.tables.items ≤ 4194304 },
 }

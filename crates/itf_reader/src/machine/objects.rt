@@ -1,11 +1,11 @@
 // The lines of a table: its objects and their strokes.
 ghost use Rattle.std.specs.Prelude.{◌≡◌, OnOk};
-ghost use Rattle.itf_lines.specs.Views.{line_seen};
+ghost use Rattle.itf_lines.specs.Views.{line_view};
 ghost use Rattle.itf_reader.specs.Forms.{Form};
 ghost use Rattle.itf_reader.specs.Machine.{objects, strokes, opened_row, has_room};
 ghost use Rattle.itf_reader.specs.ClosedRows.{row_closed, closes};
-ghost use Rattle.itf_reader.specs.RowViews.{row_of};
-ghost use Rattle.itf_reader.specs.RowFeeds.{taken, standing, Shows};
+ghost use Rattle.itf_reader.specs.Views.{row_of};
+ghost use Rattle.itf_reader.specs.RowFeeds.{after_line, standing, Shows};
 ghost use Rattle.itf_reader.specs.MachineViews.{at_of, in_table, in_row};
 
 use super::Machine;
@@ -16,10 +16,10 @@ use ports::Memory;
 use std::mem::swap;
 
 impl Machine {
-    // Behind TABL, where no object has come.
+    // After TABL, before the first object.
     pub fn in_table(&mut self, line: &Line) -> Result<(), Memory>
-        ensures { (form : Form) → OnOk result (at_of self.new ≡ taken form
-            (objects (in_table self.old.frame)) (line_seen line.now)) }
+        ensures { (form : Form) → OnOk result (at_of self.new ≡ after_line form
+            (objects (in_table self.old.frame)) (line_view line.now)) }
     {
         match line.word {
             LineWord::Obje => self.start_object(line),
@@ -44,7 +44,7 @@ impl Machine {
         Ok(())
     }
 
-    // Closes the open object: strokes that did not come are undefined.
+    // Closes the open object: missing strokes are undefined.
     fn close_row(&mut self) -> Result<(), Memory>
         ensures row { OnOk result (row_of self.new.closed ≡ row_closed (in_row self.old)) }
         ensures frame { self.new.frame ≡ self.old.frame }
@@ -61,10 +61,10 @@ impl Machine {
         self.open.strokes.len() < self.frame.lines
     }
 
-    // Behind the line of an object or one of its strokes.
+    // After the line of an object or one of its strokes.
     pub fn in_object(&mut self, line: &Line) -> Result<(), Memory>
-        ensures at { (form : Form) → OnOk result (at_of self.new ≡ taken form
-            (strokes (in_row self.old)) (line_seen line.now)) }
+        ensures at { (form : Form) → OnOk result (at_of self.new ≡ after_line form
+            (strokes (in_row self.old)) (line_view line.now)) }
         ensures row { OnOk result (Shows (closes (strokes (in_row self.old)) line.now.word)
             (row_of self.new.closed)) }
     {

@@ -1,10 +1,10 @@
 // The lines of a polyline.
 ghost use Rattle.std.specs.Prelude.{◌≡◌, ◌++◌, ◌∷◌, [], OnOk};
-ghost use Rattle.itf_lines.specs.Views.{line_seen};
+ghost use Rattle.itf_lines.specs.Views.{line_view};
 ghost use Rattle.itf_reader.specs.Forms.{Form, Start, vertex};
 ghost use Rattle.itf_reader.specs.Machine.{strokes, vertices, arc, with_stroke};
-ghost use Rattle.itf_reader.specs.RowViews.{kind_of, vertices_of};
-ghost use Rattle.itf_reader.specs.RowFeeds.{taken, standing};
+ghost use Rattle.itf_reader.specs.Views.{kind_of, vertices_of};
+ghost use Rattle.itf_reader.specs.RowFeeds.{after_line, standing};
 ghost use Rattle.itf_reader.specs.MachineViews.{at_of, in_row};
 
 use super::Machine;
@@ -64,11 +64,11 @@ impl Machine {
         Ok(())
     }
 
-    // Behind a vertex that is no ARCP.
+    // After a vertex that is no ARCP.
     pub fn in_polyline(&mut self, line: &Line) -> Result<(), Memory>
-        ensures { (form : Form) → OnOk result (at_of self.new ≡ taken form
+        ensures { (form : Form) → OnOk result (at_of self.new ≡ after_line form
             (vertices (in_row self.old) (vertices_of self.old.polyline.items))
-            (line_seen line.now)) }
+            (line_view line.now)) }
     {
         match line.word {
             LineWord::Lipt => {
@@ -85,11 +85,11 @@ impl Machine {
         Ok(())
     }
 
-    // Behind ARCP.
+    // After ARCP.
     pub fn after_arc_point(&mut self, line: &Line) -> Result<(), Memory>
-        ensures { (form : Form) → OnOk result (at_of self.new ≡ taken form
+        ensures { (form : Form) → OnOk result (at_of self.new ≡ after_line form
             (arc (in_row self.old) (vertices_of self.old.polyline.items))
-            (line_seen line.now)) }
+            (line_view line.now)) }
     {
         match line.word {
             LineWord::Lipt => {

@@ -1,7 +1,7 @@
 // Objects, built up line by line.
 ghost use Rattle.std.specs.Prelude.{◌≡◌, [], OnOk};
-ghost use Rattle.itf_reader.specs.Forms.{filled};
-ghost use Rattle.itf_reader.specs.RowViews.{strokes_of, row_of};
+ghost use Rattle.itf_reader.specs.Forms.{fill_strokes};
+ghost use Rattle.itf_reader.specs.Views.{strokes_of, row_of};
 ghost use Rattle.itf_reader.specs.RowFeeds.{row_opened};
 
 use crate::transfer::{Row, Stroke};
@@ -9,7 +9,7 @@ use itf_lines::{Field, Line};
 use ports::Memory;
 use std::alloc::Global;
 
-/// Puts copies of some fields in place of others.
+/// Replaces some fields by copies of others.
 pub fn refill(alloc: Global, into: &mut Vec<Field>, fields: &[Field]) -> Result<(), Memory>
     ensures { OnOk result (into.new.items ≡ fields.now) }
 {
@@ -41,9 +41,9 @@ pub fn open_row(alloc: Global, row: &mut Row, lines: usize, line: &Line) -> Resu
     refill(alloc, &mut row.fields, &line.fields)
 }
 
-/// Adds undefined strokes, up to so many in all.
+/// Adds undefined strokes, up to one for each line of the table.
 pub fn fill(alloc: Global, strokes: &mut Vec<Stroke>, lines: usize) -> Result<(), Memory>
-    ensures { OnOk result (strokes_of strokes.new.items ≡ filled lines
+    ensures { OnOk result (strokes_of strokes.new.items ≡ fill_strokes lines
         (strokes_of strokes.old.items)) }
 {
     while strokes.len() < lines {

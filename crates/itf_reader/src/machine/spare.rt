@@ -1,7 +1,7 @@
-// Room of objects that were let go.
+// Room of earlier objects.
 ghost use Rattle.std.specs.Prelude.{◌≡◌, [], IfOk, OnOk};
 ghost use Rattle.itf_reader.specs.Forms.{vertex};
-ghost use Rattle.itf_reader.specs.RowViews.{kind_of, vertex_of};
+ghost use Rattle.itf_reader.specs.Views.{kind_of, vertex_of};
 
 use super::rows::refill;
 use crate::transfer::{Stroke, Vertex, VertexKind};
@@ -9,11 +9,11 @@ use itf_lines::Line;
 use ports::Memory;
 use std::alloc::Global;
 
-// As many vertices are kept, and those of one polyline. Longer ones are rare, and their room goes
-// back, so that no long polyline is paid for twice.
+// At most this many vertices are kept, and those of one more polyline. Longer ones are rare, and
+// their room is given back, so that a long polyline does not hold memory twice.
 const MOST: usize = 4096;
 
-/// Vertices of objects that were let go, and the lists that held them, whose room is used again,
+/// Vertices of earlier objects, and the lists that held them, whose room is used again,
 /// since a transfer has millions of vertices of two short words.
 #[derive(Drop)]
 pub struct Spare {

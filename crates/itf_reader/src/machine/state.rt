@@ -1,22 +1,22 @@
-// Where the machine stands between two lines.
+// The state of the machine between two lines.
 use crate::transfer::Structure;
 
-/// Where the machine stands, named by what it is in, or by the word that must come next.
+/// A state between two lines, named by what is open, or by the word that must come next.
 #[derive(Clone, Copy, Debug, PartialEq, Eq)]
 pub enum State {
     BeforeScnt,
-    /// Behind SCNT, in front of the line of four slashes.
+    /// After SCNT, before the line of four slashes.
     InHead,
     BeforeMtid,
     BeforeModl,
     InModel,
     InTopic,
-    /// In a table, where no object has come.
+    /// In a table, before its first object.
     InTable,
-    /// In an object, behind its line or one of its polylines.
+    /// In an object, after its line or one of its polylines.
     InObject,
     InPolyline,
-    /// In a polyline, behind ARCP.
+    /// In a polyline, after ARCP.
     AfterArcPoint,
     BeforeEnde,
     Done,

@@ -1,11 +1,11 @@
 // The lines of topics, and those that open and close their tables.
 ghost use Rattle.std.specs.Prelude.{◌≡◌, OnOk};
-ghost use Rattle.itf_lines.specs.Views.{line_seen};
+ghost use Rattle.itf_lines.specs.Views.{line_view};
 ghost use Rattle.itf_reader.specs.Forms.{topic_named, table_named};
 ghost use Rattle.itf_reader.specs.Machine.{topics, tables, named_topic, named_table, closed_table};
 ghost use Rattle.itf_reader.specs.Machine.{closed_topic};
 ghost use Rattle.itf_reader.specs.Names.{form_in};
-ghost use Rattle.itf_reader.specs.RowFeeds.{standing, taken, moved, without_tables};
+ghost use Rattle.itf_reader.specs.RowFeeds.{standing, after_line, standing_by, without_tables};
 ghost use Rattle.itf_reader.specs.MachineViews.{at_of, topics_alone, in_topic, in_table};
 
 use super::Machine;
@@ -18,7 +18,7 @@ use ports::Memory;
 impl Machine {
     // Opens the topic that a line names.
     fn open_topic(&mut self, names: &Names, line: &Line)
-        ensures { at_of self.new ≡ moved line.now.number
+        ensures { at_of self.new ≡ standing_by line.now.number
             (named_topic (topics_alone self.old.frame.topics)
             (topic_named 0 line.now.fields.items (form_in names.now).topics)) }
     {
@@ -38,8 +38,8 @@ impl Machine {
 
     // Between topics.
     pub fn in_model(&mut self, names: &Names, line: &Line)
-        ensures { at_of self.new ≡ taken (form_in names.now)
-            (topics (topics_alone self.old.frame.topics)) (line_seen line.now) }
+        ensures { at_of self.new ≡ after_line (form_in names.now)
+            (topics (topics_alone self.old.frame.topics)) (line_view line.now) }
     {
         match line.word {
             LineWord::Topi => self.open_topic(names, line),
@@ -50,7 +50,7 @@ impl Machine {
 
     // Opens the table that a line names.
     fn open_table(&mut self, names: &Names, line: &Line) -> Result<(), Memory>
-        ensures { OnOk result (at_of self.new ≡ moved line.now.number
+        ensures { OnOk result (at_of self.new ≡ standing_by line.now.number
             (named_table (in_topic self.old.frame)
             (table_named 0 self.old.frame.topic line.now.fields.items
             (form_in names.now).tables))) }
@@ -82,8 +82,8 @@ impl Machine {
 
     // Between the tables of a topic.
     pub fn in_topic(&mut self, names: &Names, line: &Line) -> Result<(), Memory>
-        ensures { OnOk result (at_of self.new ≡ taken (form_in names.now)
-            (tables (in_topic self.old.frame)) (line_seen line.now)) }
+        ensures { OnOk result (at_of self.new ≡ after_line (form_in names.now)
+            (tables (in_topic self.old.frame)) (line_view line.now)) }
     {
         match line.word {
             LineWord::Tabl => self.open_table(names, line),

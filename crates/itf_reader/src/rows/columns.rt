@@ -7,7 +7,7 @@ ghost use Rattle.resolver.specs.Values.{form_of};
 ghost use Rattle.table_layout.specs.Values.{column_view, columns_view};
 ghost use Rattle.field_values.specs.Fields.{is_undefined, width};
 ghost use Rattle.field_values.specs.Readings.{column_reading};
-ghost use Rattle.itf_reader.specs.Findings.{findings_of};
+ghost use Rattle.itf_reader.specs.Findings.{AddsFindings};
 ghost use Rattle.itf_reader.specs.RowFindings.{column_code, columns_findings, field_code, widths};
 ghost use Rattle.itf_reader.specs.RowReadings.{cell_by, cell_of, cell_view, cells_of, cells_view};
 ghost use Rattle.itf_reader.specs.StrokeFindings.{finding_at};
@@ -61,17 +61,18 @@ fn add_column(
     column: &Column,
     words: &[Field],
     cells: &mut Vec<Cell>,
-    found: &mut Vec<Finding>,
+    findings: &mut Vec<Finding>,
 ) -> Result<(), Memory>
     requires { length words.now ≡ width (form_of column.now.form) }
     ensures cells { OnOk result (cells_view cells.new.items ≡ cells_view cells.old.items ++ cell_of
         (codes_of codes.now) (column_view column.now) words.now ∷ []) }
-    ensures found { OnOk result (findings_of found.new.items ≡ findings_of found.old.items ++
-        finding_at line number (column_code (codes_of codes.now) (column_view column.now) words.now)) }
+    ensures findings { OnOk result (AddsFindings findings.old.items findings.new.items
+        (finding_at line number
+        (column_code (codes_of codes.now) (column_view column.now) words.now))) }
 {
     let (cell, failed) = read_cell(codes, column, words);
     cells.push(cell)?;
-    report(found, line, number, failed)
+    report(findings, line, number, failed)
 }
 
 /// Reads all columns of a row in that line, and adds what is wrong with them.
@@ -81,20 +82,20 @@ pub fn read_columns(
     columns: &[Column],
     words: &[Field],
     cells: &mut Vec<Cell>,
-    found: &mut Vec<Finding>,
+    findings: &mut Vec<Finding>,
 ) -> Result<(), Memory>
     requires counted { length words.now ≡ widths (columns_view columns.now) }
     requires few { length columns.now ≤ 4194306 }
     ensures cells { OnOk result (cells_view cells.new.items ≡ cells_view cells.old.items ++ cells_of
         (codes_of codes.now) (columns_view columns.now) words.now) }
-    ensures found { OnOk result (findings_of found.new.items ≡ findings_of found.old.items ++
-        columns_findings (codes_of codes.now) line 1 (columns_view columns.now) words.now) }
+    ensures findings { OnOk result (AddsFindings findings.old.items findings.new.items
+        (columns_findings (codes_of codes.now) line 1 (columns_view columns.now) words.now)) }
 {
     let mut number = 1;
     let mut rest = words;
     for column in columns {
         let (own, after) = rest.split_at(width(&column.form));
-        add_column(codes, line, number, column, own, cells, found)?;
+        add_column(codes, line, number, column, own, cells, findings)?;
         number += 1;
         rest = after;
     }

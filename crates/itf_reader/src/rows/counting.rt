@@ -2,7 +2,7 @@
 ghost use Rattle.std.specs.Prelude.{◌≡◌, ◌==◌};
 ghost use Rattle.table_layout.specs.Values.{columns_view, table_view};
 ghost use Rattle.itf_reader.specs.RowFindings.{widths, is_counted};
-ghost use Rattle.itf_reader.specs.RowViews.{row_of};
+ghost use Rattle.itf_reader.specs.Views.{row_of};
 
 use crate::transfer::Row;
 use field_values::width;
@@ -19,7 +19,7 @@ pub fn is_counted(table: &Table, row: &Row) -> bool
     }
 }
 
-// The columns have so many words in all.
+// The columns have that many words in all.
 fn are_wide(columns: &[Column], words: usize) -> bool
     ensures { result ≡ (words == widths (columns_view columns.now)) }
 {

@@ -2,11 +2,16 @@
 ghost use Rattle.std.specs.Prelude.{◌≡◌, ◌≤◌, ◌+◌, ◌++◌, ◌∷◌, [], drop, length, IfOk, OnOk};
 ghost use Rattle.resolver.specs.Values.{line_of};
 ghost use Rattle.table_layout.specs.Values.{role_view, lines_view};
-ghost use Rattle.itf_reader.specs.Findings.{findings_of};
+ghost use Rattle.itf_reader.specs.Findings.{AddsFindings};
 ghost use Rattle.itf_reader.specs.RowFindings.{line_findings, lines_findings};
-ghost use Rattle.itf_reader.specs.RowReadings.{is_sound_read, line_of as line_read, lines_heights, lines_of, lines_vertices, sound_heights, sound_vertices, stroke_of as stroke_read, stroke_view, strokes_view, vertices_view, whole_stroke};
-ghost use Rattle.itf_reader.specs.RowViews.{stroke_of, strokes_of, vertices_of};
-ghost use Rattle.itf_reader.specs.StrokeFindings.{arc_findings, is_sound_stroke, short_finding, stroke_findings};
+ghost use Rattle.itf_reader.specs.RowReadings.{is_sound_read, line_of as line_read, lines_heights};
+ghost use Rattle.itf_reader.specs.RowReadings.{lines_of, lines_vertices, sound_heights};
+ghost use Rattle.itf_reader.specs.RowReadings.{sound_vertices, stroke_of as stroke_read};
+ghost use Rattle.itf_reader.specs.RowReadings.{stroke_view, strokes_view, vertices_view};
+ghost use Rattle.itf_reader.specs.RowReadings.{whole_stroke};
+ghost use Rattle.itf_reader.specs.Views.{stroke_of, strokes_of, vertices_of};
+ghost use Rattle.itf_reader.specs.StrokeFindings.{arc_findings, is_sound_stroke, short_finding};
+ghost use Rattle.itf_reader.specs.StrokeFindings.{stroke_findings};
 
 use super::report::report;
 use super::strokes::{is_bad_arc, is_short, is_whole};
@@ -19,8 +24,8 @@ use resolver::LineForm;
 use std::alloc::Global;
 use table_layout::Role;
 
-/// Reads the lines of a row in that line of the transfer, and adds what is wrong with them. The
-/// first of them has that column.
+/// Reads the polylines of the row at `line` of the transfer, and adds what is wrong with them. The
+/// first of them has the column `first`.
 pub fn read_lines(
     role: Role,
     line: u32,
@@ -28,7 +33,7 @@ pub fn read_lines(
     forms: &[LineForm],
     strokes: &[Stroke],
     values: &mut RowValues,
-    found: &mut Vec<Finding>,
+    findings: &mut Vec<Finding>,
 ) -> Result<(), Memory>
     requires { first + length forms.now ≤ 4294967295 }
     ensures cells { OnOk result (values.new.cells.items ≡ values.old.cells.items) }
@@ -36,15 +41,17 @@ pub fn read_lines(
         values.old.strokes.items ++ lines_of (role_view role) (lines_view forms.now)
         (strokes_of strokes.now)) }
     ensures vertices { OnOk result (vertices_view values.new.vertices.items ≡ vertices_view
-        values.old.vertices.items ++ lines_vertices (lines_view forms.now) (strokes_of strokes.now)) }
+        values.old.vertices.items ++ lines_vertices (lines_view forms.now)
+        (strokes_of strokes.now)) }
     ensures heights { OnOk result (values.new.heights.items ≡ values.old.heights.items ++
         lines_heights (lines_view forms.now) (strokes_of strokes.now)) }
-    ensures found { OnOk result (findings_of found.new.items ≡ findings_of found.old.items ++
-        lines_findings (role_view role) line first (lines_view forms.now) (strokes_of strokes.now)) }
+    ensures findings { OnOk result (AddsFindings findings.old.items findings.new.items
+        (lines_findings (role_view role) line first (lines_view forms.now)
+        (strokes_of strokes.now))) }
 {
     let mut column = first;
     for (form, stroke) in forms.iter().zip(strokes) {
-        read_line(role, line, column, form, stroke, values, found)?;
+        read_line(role, line, column, form, stroke, values, findings)?;
         column += 1;
     }
     Ok(())
@@ -58,7 +65,7 @@ fn read_line(
     form: &LineForm,
     stroke: &Stroke,
     values: &mut RowValues,
-    found: &mut Vec<Finding>,
+    findings: &mut Vec<Finding>,
 ) -> Result<(), Memory>
     ensures cells { OnOk result (values.new.cells.items ≡ values.old.cells.items) }
     ensures strokes { OnOk result (strokes_view values.new.strokes.items ≡ strokes_view
@@ -68,8 +75,8 @@ fn read_line(
         values.old.vertices.items ++ sound_vertices (line_of form.now) (stroke_of stroke.now)) }
     ensures heights { OnOk result (values.new.heights.items ≡ values.old.heights.items ++
         sound_heights (line_of form.now) (stroke_of stroke.now)) }
-    ensures found { OnOk result (findings_of found.new.items ≡ findings_of found.old.items ++
-        line_findings (role_view role) line column (line_of form.now) (stroke_of stroke.now)) }
+    ensures findings { OnOk result (AddsFindings findings.old.items findings.new.items
+        (line_findings (role_view role) line column (line_of form.now) (stroke_of stroke.now))) }
 {
     if stroke.vertices.is_empty() {
         let missing = if form.optional {
@@ -77,11 +84,11 @@ fn read_line(
         } else {
             Some(Code::Undefined)
         };
-        report(found, line, column, missing)?;
+        report(findings, line, column, missing)?;
         values.strokes.push(StrokeRead::Undefined)?;
         return Ok(());
     }
-    let read = read_stroke(role, column, form, &stroke.vertices, values, found)?;
+    let read = read_stroke(role, column, form, &stroke.vertices, values, findings)?;
     values.strokes.push(read)?;
     Ok(())
 }
@@ -97,8 +104,8 @@ pub fn is_sound_line(
         (vertices_of vertices.now)) }
 {
     let mut values = RowValues::new(alloc);
-    let mut found = Vec::new(alloc);
-    let read = read_stroke(role, 0, form, vertices, &mut values, &mut found)?;
+    let mut findings = Vec::new(alloc);
+    let read = read_stroke(role, 0, form, vertices, &mut values, &mut findings)?;
     Ok(is_sound(read))
 }
 
@@ -118,7 +125,7 @@ fn read_stroke(
     form: &LineForm,
     vertices: &[Vertex],
     values: &mut RowValues,
-    found: &mut Vec<Finding>,
+    findings: &mut Vec<Finding>,
 ) -> Result<StrokeRead, Memory>
     ensures stroke { IfOk result (λ read. stroke_view read ≡ stroke_read (role_view role)
         (line_of form.now) (vertices_of vertices.now)) }
@@ -128,16 +135,16 @@ fn read_stroke(
         values.old.vertices.items ++ sound_vertices (line_of form.now) (vertices_of vertices.now)) }
     ensures heights { OnOk result (values.new.heights.items ≡ values.old.heights.items ++
         sound_heights (line_of form.now) (vertices_of vertices.now)) }
-    ensures found { OnOk result (findings_of found.new.items ≡ findings_of found.old.items ++
-        stroke_findings (role_view role) (line_of form.now) column (vertices_of vertices.now)) }
+    ensures findings { OnOk result (AddsFindings findings.old.items findings.new.items
+        (stroke_findings (role_view role) (line_of form.now) column (vertices_of vertices.now))) }
 {
     let start = values.vertices.len();
-    let clean = add_vertices(form, column, vertices, values, found)?;
+    let clean = add_vertices(form, column, vertices, values, findings)?;
     let own = from(&values.vertices, start);
     if !clean {
         return Ok(StrokeRead::Faulty(own.len()));
     }
-    let read = judge(role, column, own, found)?;
+    let read = judge(role, column, own, findings)?;
     Ok(read)
 }
 
@@ -157,50 +164,50 @@ fn judge(
     role: Role,
     column: u32,
     vertices: &[ReadVertex],
-    found: &mut Vec<Finding>,
+    findings: &mut Vec<Finding>,
 ) -> Result<StrokeRead, Memory>
     ensures stroke { IfOk result (λ read. stroke_view read ≡ whole_stroke (role_view role)
         (vertices_view vertices.now)) }
-    ensures found { OnOk result (findings_of found.new.items ≡ findings_of found.old.items ++ (
-        short_finding (role_view role) column (vertices_view vertices.now) ++ arc_findings column
-        (vertices_view vertices.now))) }
+    ensures findings { OnOk result (AddsFindings findings.old.items findings.new.items
+        (short_finding (role_view role) column (vertices_view vertices.now)
+        ++ arc_findings column (vertices_view vertices.now))) }
 {
     if is_whole(role, vertices) {
         return Ok(StrokeRead::Sound(vertices.len()));
     }
-    add_short(role, column, vertices, found)?;
-    add_arcs(column, vertices, found)?;
+    add_short(role, column, vertices, findings)?;
+    add_arcs(column, vertices, findings)?;
     Ok(StrokeRead::Faulty(vertices.len()))
 }
 
-// A line of one distinct point is told where it begins.
+// A line of one distinct point is reported where it begins.
 fn add_short(
     role: Role,
     column: u32,
     vertices: &[ReadVertex],
-    found: &mut Vec<Finding>,
+    findings: &mut Vec<Finding>,
 ) -> Result<(), Memory>
-    ensures { OnOk result (findings_of found.new.items ≡ findings_of found.old.items ++
-        short_finding (role_view role) column (vertices_view vertices.now)) }
+    ensures { OnOk result (AddsFindings findings.old.items findings.new.items
+        (short_finding (role_view role) column (vertices_view vertices.now))) }
 {
     let Some(first) = vertices.first() else {
         return Ok(());
     };
     if is_short(role, vertices) {
-        return report(found, first.line, column, Some(Code::Short));
+        return report(findings, first.line, column, Some(Code::Short));
     }
     Ok(())
 }
 
-// A bad arc is told where it ends.
-fn add_arcs(column: u32, vertices: &[ReadVertex], found: &mut Vec<Finding>) -> Result<(), Memory>
-    ensures { OnOk result (findings_of found.new.items ≡ findings_of found.old.items ++ arc_findings
-        column (vertices_view vertices.now)) }
+// A bad arc is reported where it ends.
+fn add_arcs(column: u32, vertices: &[ReadVertex], findings: &mut Vec<Finding>) -> Result<(), Memory>
+    ensures { OnOk result (AddsFindings findings.old.items findings.new.items
+        (arc_findings column (vertices_view vertices.now))) }
 {
     let mut rest = vertices;
     while let [s, m, e, ..] = rest {
         if is_bad_arc(s, m, e) {
-            report(found, e.line, column, Some(Code::Arc))?;
+            report(findings, e.line, column, Some(Code::Arc))?;
         }
         rest = &rest[1..];
     }

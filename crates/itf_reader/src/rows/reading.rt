@@ -1,12 +1,12 @@
 // The values of a row.
-ghost use Rattle.std.specs.Prelude.{◌≡◌, ◌++◌, IfOk, OnOk};
+ghost use Rattle.std.specs.Prelude.{◌≡◌, IfOk, OnOk};
 ghost use Rattle.ili_grammar.specs.Values.{codes_of};
 ghost use Rattle.table_layout.specs.Values.{table_view};
 ghost use Rattle.itf_reader.specs.Few.{HasFew};
-ghost use Rattle.itf_reader.specs.Findings.{findings_of};
+ghost use Rattle.itf_reader.specs.Findings.{AddsFindings};
 ghost use Rattle.itf_reader.specs.RowFindings.{is_counted, row_findings};
 ghost use Rattle.itf_reader.specs.RowReadings.{Reads};
-ghost use Rattle.itf_reader.specs.RowViews.{row_of};
+ghost use Rattle.itf_reader.specs.Views.{row_of};
 
 use super::columns::read_columns;
 use super::counting::is_counted;
@@ -21,26 +21,26 @@ use table_layout::Table;
 
 /// Reads the words and vertices of a row, each once, adds what is wrong with them, and answers
 /// whether the row has as many words as its table needs. With another number of words nothing is
-/// read, and it has no other finding. The only error is want of memory. It takes time linear in
+/// read, and it has no other finding. The only error is out of memory. It takes time linear in
 /// the row, and no memory beside its values and findings.
 pub fn read_row(
     codes: &Codes,
     table: &Table,
     row: &Row,
     values: &mut RowValues,
-    found: &mut Vec<Finding>,
+    findings: &mut Vec<Finding>,
 ) -> Result<bool, Memory>
     requires { HasFew (table_view table.now) }
     ensures counted { IfOk result (λ counted. counted ≡ is_counted (table_view table.now)
         (row_of row.now)) }
     ensures values { OnOk result (Reads (codes_of codes.now) (table_view table.now) (row_of row.now)
         values.new) }
-    ensures found { OnOk result (findings_of found.new.items ≡ findings_of found.old.items ++
-        row_findings (codes_of codes.now) (table_view table.now) (row_of row.now)) }
+    ensures findings { OnOk result (AddsFindings findings.old.items findings.new.items
+        (row_findings (codes_of codes.now) (table_view table.now) (row_of row.now))) }
 {
     values.clear();
     if !is_counted(table, row) {
-        report(found, row.line, 0, Some(Code::Count))?;
+        report(findings, row.line, 0, Some(Code::Count))?;
         return Ok(false);
     }
     let words = &row.fields[1..];
@@ -50,7 +50,7 @@ pub fn read_row(
         &table.columns,
         words,
         &mut values.cells,
-        found,
+        findings,
     )?;
     let first = 1 + table.columns.len() as u32;
     read_lines(
@@ -60,7 +60,7 @@ pub fn read_row(
         &table.lines,
         &row.strokes,
         values,
-        found,
+        findings,
     )?;
     Ok(true)
 }

@@ -1,7 +1,7 @@
 // Findings of values.
-ghost use Rattle.std.specs.Prelude.{◌≡◌, ◌++◌};
+ghost use Rattle.std.specs.Prelude.{◌≡◌};
 ghost use Rattle.std.specs.Result.{OnOk};
-ghost use Rattle.itf_reader.specs.Findings.{findings_of};
+ghost use Rattle.itf_reader.specs.Findings.{AddsFindings};
 ghost use Rattle.itf_reader.specs.StrokeFindings.{code_of, finding_at};
 
 use crate::findings::{Code, Finding, Other};
@@ -10,16 +10,16 @@ use ports::Memory;
 
 /// Adds a finding, if a test failed.
 pub fn report(
-    found: &mut Vec<Finding>,
+    findings: &mut Vec<Finding>,
     line: u32,
     column: u32,
     failed: Option<Code>,
 ) -> Result<(), Memory>
-    ensures { OnOk result (findings_of found.new.items ≡ findings_of found.old.items ++ finding_at
-        line column failed) }
+    ensures { OnOk result (AddsFindings findings.old.items findings.new.items
+        (finding_at line column failed)) }
 {
     if let Some(code) = failed {
-        found.push(Finding {
+        findings.push(Finding {
             line,
             column,
             code,

@@ -4,9 +4,10 @@ ghost use Rattle.std.specs.List.{flat_map};
 ghost use Rattle.std.specs.Option.{option_to_list};
 ghost use Rattle.resolver.specs.Values.{line_of};
 ghost use Rattle.field_values.specs.Places.{place_view};
-ghost use Rattle.itf_reader.specs.Findings.{findings_of};
-ghost use Rattle.itf_reader.specs.RowReadings.{sound_height, sound_heights, sound_vertex, sound_vertices, vertices_view};
-ghost use Rattle.itf_reader.specs.RowViews.{kind_of, vertex_of, vertices_of};
+ghost use Rattle.itf_reader.specs.Findings.{AddsFindings};
+ghost use Rattle.itf_reader.specs.RowReadings.{sound_height, sound_heights, sound_vertex};
+ghost use Rattle.itf_reader.specs.RowReadings.{sound_vertices, vertices_view};
+ghost use Rattle.itf_reader.specs.Views.{kind_of, vertex_of, vertices_of};
 ghost use Rattle.itf_reader.specs.StrokeFindings.{are_clean, is_clean, is_on_arc, vertex_finding};
 ghost use Rattle.itf_reader.specs.VertexReadings.{vertex_reading, value_reading};
 
@@ -48,17 +49,18 @@ fn add_vertex(
     column: u32,
     vertex: &Vertex,
     values: &mut RowValues,
-    found: &mut Vec<Finding>,
+    findings: &mut Vec<Finding>,
 ) -> Result<bool, Memory>
-    ensures clean { IfOk result (λ clean. clean ≡ is_clean (line_of form.now) (vertex_of vertex.now)) }
+    ensures clean { IfOk result (λ clean. clean
+        ≡ is_clean (line_of form.now) (vertex_of vertex.now)) }
     ensures vertices { OnOk result (vertices_view values.new.vertices.items ≡ vertices_view
         values.old.vertices.items ++ sound_vertex (line_of form.now) (vertex_of vertex.now)) }
     ensures heights { OnOk result (values.new.heights.items ≡ values.old.heights.items ++
         sound_height (line_of form.now) (vertex_of vertex.now)) }
     ensures cells { OnOk result (values.new.cells.items ≡ values.old.cells.items) }
     ensures strokes { OnOk result (values.new.strokes.items ≡ values.old.strokes.items) }
-    ensures found { OnOk result (findings_of found.new.items ≡ findings_of found.old.items ++
-        vertex_finding (line_of form.now) column (vertex_of vertex.now)) }
+    ensures findings { OnOk result (AddsFindings findings.old.items findings.new.items
+        (vertex_finding (line_of form.now) column (vertex_of vertex.now))) }
 {
     match value_of(form, vertex) {
         Ok(value) => {
@@ -66,7 +68,7 @@ fn add_vertex(
             Ok(true)
         }
         Err(code) => {
-            report(found, vertex.line, column, Some(code))?;
+            report(findings, vertex.line, column, Some(code))?;
             Ok(false)
         }
     }
@@ -105,7 +107,7 @@ pub fn add_vertices(
     column: u32,
     vertices: &[Vertex],
     values: &mut RowValues,
-    found: &mut Vec<Finding>,
+    findings: &mut Vec<Finding>,
 ) -> Result<bool, Memory>
     ensures clean { IfOk result (λ clean. clean ≡ are_clean (line_of form.now)
         (vertices_of vertices.now)) }
@@ -115,12 +117,12 @@ pub fn add_vertices(
         sound_heights (line_of form.now) (vertices_of vertices.now)) }
     ensures cells { OnOk result (values.new.cells.items ≡ values.old.cells.items) }
     ensures strokes { OnOk result (values.new.strokes.items ≡ values.old.strokes.items) }
-    ensures found { OnOk result (findings_of found.new.items ≡ findings_of found.old.items ++
-        flat_map (vertex_finding (line_of form.now) column) (vertices_of vertices.now)) }
+    ensures findings { OnOk result (AddsFindings findings.old.items findings.new.items
+        (flat_map (vertex_finding (line_of form.now) column) (vertices_of vertices.now))) }
 {
     let mut clean = true;
     for vertex in vertices {
-        let sound = add_vertex(form, column, vertex, values, found)?;
+        let sound = add_vertex(form, column, vertex, values, findings)?;
         clean = clean && sound;
     }
     Ok(clean)

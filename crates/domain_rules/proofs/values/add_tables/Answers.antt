@@ -18,8 +18,8 @@ loop-table-preserved c =
       can_next = (tt, tt);
       is_finite = tt;
       few = others_few _ c.in-Some.table.now (iter_rest (zip_first c.next.new.self)) more.0 c.loop-table.invariant.few;
-      found = tables_step (codes_of c.args.codes.now) _ c.in-Some.table.now (iter_rest (zip_first c.next.new.self)) _ c.in-Some.objects.now (iter_rest (zip_second c.next.new.self)) c.deref.result.now (findings_of c.loop-table.found.items) (findings_of c.add_rows.new.found.items) _ more.0 more.1 c.deref.ensures.value c.in_ok-add_rows.ensures c.loop-table.invariant.found;
+      findings = tables_step (codes_of c.args.codes.now) _ c.in-Some.table.now (iter_rest (zip_first c.next.new.self)) _ c.in-Some.objects.now (iter_rest (zip_second c.next.new.self)) c.deref.result.now (findings_of c.loop-table.findings.items) (findings_of c.add_rows.new.findings.items) _ more.0 more.1 c.deref.ensures.value c.in_ok-add_rows.ensures c.loop-table.invariant.findings;
     }
 
 pub returns : goal.returns
-returns c = all_found _ _ _ (tables_end (codes_of c.args.codes.now) (iter_rest (zip_first c.loop-table.table-iterator)) (iter_rest (zip_second c.loop-table.table-iterator)) (either_empty_from_Zip c.loop-table.table-iterator c.next.new.self c.next.result c.in-None.is c.next.ensures.steps)) c.loop-table.invariant.found
+returns c = all_found _ _ _ (tables_end (codes_of c.args.codes.now) (iter_rest (zip_first c.loop-table.table-iterator)) (iter_rest (zip_second c.loop-table.table-iterator)) (either_empty_from_Zip c.loop-table.table-iterator c.next.new.self c.next.result c.in-None.is c.next.ensures.steps)) c.loop-table.invariant.findings

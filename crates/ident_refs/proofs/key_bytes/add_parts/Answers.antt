@@ -1,4 +1,4 @@
-use Rattle.ident_refs.specs.Compared.{value_view}
+use Rattle.ident_refs.specs.ValueViews.{value_view}
 use Rattle.ident_refs.specs.KeyBytes.{part_code}
 use Rattle.ident_refs.proofs.FlatSteps.{flat_step}
 use Rattle.ident_refs.proofs.key_bytes.add_parts.Goals as goal

@@ -1,6 +1,6 @@
 use Rattle.std.proofs.Common.{◌≡◌, ◌++◌, drop, map}
 use Rattle.std.specs.List.{flat_map}
-use Rattle.ident_refs.specs.Compared.{value_view}
+use Rattle.ident_refs.specs.ValueViews.{value_view}
 use Rattle.ident_refs.specs.KeyBytes.{part_code}
 use Rattle.ident_refs.proofs.key_bytes.add_parts.Given as goal
 

@@ -10,6 +10,6 @@ pub loop-place-preserved : goal.loop-place-preserved
 loop-place-preserved c = record {
   count = still_counted c.loop-place.lists c.loop-place.place _ c.add_key.new.list c.loop-place.invariant.count;
   done =
-      keys_step (with_key (codes_of c.args.sheet.now.codes.now) (table_view c.args.sheet.now.table.now) (row_of c.args.row.now)) c.loop-place.place c.loop-place.lists c.args.lists.now c.index-lists-place.result c.add_key.new.list
+      keys_step (with_key (codes_of c.args.reader.now.codes.now) (table_view c.args.reader.now.table.now) (row_of c.args.row.now)) c.loop-place.place c.loop-place.lists c.args.lists.now c.index-lists-place.result c.add_key.new.list
       (omega (arith, c.loop-place-test.true, c.loop-place.invariant.count)) c.in_ok-add_key.ensures c.loop-place.invariant.done;
 }

@@ -11,5 +11,5 @@ invariant-loop-place l = record {
   count : length l.lists ≡ length l.fn.lists;
   done :
       lists_view l.lists
-      ≡ map (with_key (codes_of l.sheet.codes.now) (table_view l.sheet.table.now) (row_of l.row)) (take l.place (lists_view l.fn.lists)) ++ drop l.place (lists_view l.fn.lists);
+      ≡ map (with_key (codes_of l.reader.codes.now) (table_view l.reader.table.now) (row_of l.row)) (take l.place (lists_view l.fn.lists)) ++ drop l.place (lists_view l.fn.lists);
 }

@@ -3,7 +3,7 @@ use Rattle.ili_grammar.specs.Values.{codes_of}
 use Rattle.resolver.specs.Values.{form_of}
 use Rattle.field_values.specs.Fields.{field_fault}
 use Rattle.field_values.specs.Readings.{value_of}
-use Rattle.field_values.specs.Values.{value_view}
+use Rattle.field_values.specs.Views.{value_view}
 use Rattle.ident_refs.specs.ListValues.{Value}
 use Rattle.ident_refs.proofs.SoundVertices.{value_ok, value_err}
 use Rattle.ident_refs.proofs.values.form_value.Goals as goal

@@ -1,6 +1,6 @@
 use Rattle.std.proofs.Common.{[], ap}
 use Rattle.table_layout.specs.Values.{layout_view}
-use Rattle.itf_lines.specs.Views.{seen, lines_seen}
+use Rattle.itf_lines.specs.Views.{logical_view, lines_view}
 use Rattle.itf_reader.specs.Layouts.{form_of}
 use Rattle.itf_reader.specs.Names.{form_in}
 use Rattle.itf_reader.specs.Reads.{read_from, end_of}
@@ -10,15 +10,15 @@ use Rattle.itf_reader.proofs.reading.read_transfer.Goals as goal
 pub returns-clause-read : goal.returns-clause-read
 returns-clause-read c =
     let f = form_of (layout_view c.args.layout.now) in
-    let found = seen c.args.lines.now in
-    let whole = whole_took f (form_in c.in_ok-names.names) found c.in_ok-feed.feed c.take_lines.new.self (lines_seen c.deref.result.now) c.in_ok-names.ensures c.in_ok-feed.ensures.opening (ap lines_seen c.deref.ensures.value)
+    let found = logical_view c.args.lines.now in
+    let whole = whole_took f (form_in c.in_ok-names.names) found c.in_ok-feed.feed c.take_lines.new.self (lines_view c.deref.result.now) c.in_ok-names.ensures c.in_ok-feed.ensures.opening (ap lines_view c.deref.ensures.value)
     c.in_ok-take_lines.ensures.at c.in_ok-take_lines.ensures.rows in
     gives_read f found (read_from f c.take_lines.new.self [] (end_of found)) c.finish.result whole (c.finish.ensures.gives c.in_ok-take_lines.ensures.sound.1)
 
 pub returns-clause-refused : goal.returns-clause-refused
 returns-clause-refused c =
     let f = form_of (layout_view c.args.layout.now) in
-    let found = seen c.args.lines.now in
-    let whole = whole_took f (form_in c.in_ok-names.names) found c.in_ok-feed.feed c.take_lines.new.self (lines_seen c.deref.result.now) c.in_ok-names.ensures c.in_ok-feed.ensures.opening (ap lines_seen c.deref.ensures.value)
+    let found = logical_view c.args.lines.now in
+    let whole = whole_took f (form_in c.in_ok-names.names) found c.in_ok-feed.feed c.take_lines.new.self (lines_view c.deref.result.now) c.in_ok-names.ensures c.in_ok-feed.ensures.opening (ap lines_view c.deref.ensures.value)
     c.in_ok-take_lines.ensures.at c.in_ok-take_lines.ensures.rows in
     gives_refused f found (read_from f c.take_lines.new.self [] (end_of found)) c.finish.result whole (c.finish.ensures.gives c.in_ok-take_lines.ensures.sound.1)

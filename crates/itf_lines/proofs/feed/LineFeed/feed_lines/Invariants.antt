@@ -1,5 +1,5 @@
 use Rattle.std.proofs.Common.{◌+◌, ◌-◌, ◌≤◌, length, drop}
-use Rattle.itf_lines.specs.Views.{lines_seen}
+use Rattle.itf_lines.specs.Views.{lines_view}
 use Rattle.itf_lines.specs.Feeds.{Adds}
 use Rattle.itf_lines.proofs.feed.LineFeed.feed_lines.Given as goal
 
@@ -7,7 +7,7 @@ use Rattle.itf_lines.proofs.feed.LineFeed.feed_lines.Given as goal
 abbrev pub invariant-loop-line : goal.invariant-loop-line
 invariant-loop-line l = record {
   within : l.at ≤ length l.piece;
-  adds : Adds (lines_seen l.fn.into.items) l.fn.self l.piece (lines_seen l.into.items) l.self (drop l.at l.piece);
+  adds : Adds (lines_view l.fn.into.items) l.fn.self l.piece (lines_view l.into.items) l.self (drop l.at l.piece);
   few : l.self.ended ≤ l.fn.self.ended + l.at;
 }
 

@@ -2,8 +2,8 @@ use Rattle.std.proofs.Common.{◌≡◌, ◌+◌, [], length, subst, refl, sym, 
 use Rattle.std.proofs.lemmas.Bool.{eqb-true}
 use Rattle.std.proofs.lemmas.List.{nil_from_length}
 use Rattle.itf_lines.specs.contracts.feed.LineFeed.{the_view}
-use Rattle.itf_lines.specs.Pass.{place_of, step}
-use Rattle.itf_lines.specs.Views.{line_seen}
+use Rattle.itf_lines.specs.Pass.{state_view, step}
+use Rattle.itf_lines.specs.Views.{line_view}
 use Rattle.itf_lines.specs.Feeds.{Takes}
 use Rattle.itf_lines.specs.FeedStates.{FeedState, has_no_lf}
 use Rattle.itf_lines.proofs.FeedLaws.{ends_plain, ends_open, same_front, some_bytes}
@@ -22,7 +22,7 @@ returns-clause-ends c =
     let n = some_bytes (vec_len c.self.inside.begun) (sym c.if-is_empty.ensures) in
     let o = c.self.inside.begun.ok in
     let l = ap length b in
-    ends_open c.args.self (the_view c.self.inside) c.in_ok-whole.whole (line_seen c.take.new.line) (place_of c.take.new.self) c.fault-2.result (c.self.inside.ended + 1)
+    ends_open c.args.self (the_view c.self.inside) c.in_ok-whole.whole (line_view c.take.new.line) (state_view c.take.new.self) c.fault-2.result (c.self.inside.ended + 1)
     (same_front c.args.self (the_view c.self.inside) (sym c.self.view_is)) (ap has_no_lf b ∙ c.self.invariant.1) (omega (arith, n, o, l))
-    (subst (λ (text : List ℕ). Takes (step c.self.inside.pass.code (c.self.inside.ended + 1) text (place_of c.self.inside.pass)) c.in_ok-whole.whole (line_seen c.take.new.line) (place_of c.take.new.self)) (c.deref.ensures.value ∙ sym b) c.in_ok-whole.ensures.next)
+    (subst (λ (text : List ℕ). Takes (step c.self.inside.pass.code (c.self.inside.ended + 1) text (state_view c.self.inside.pass)) c.in_ok-whole.whole (line_view c.take.new.line) (state_view c.take.new.self)) (c.deref.ensures.value ∙ sym b) c.in_ok-whole.ensures.next)
     c.fault-2.ensures refl

@@ -13,7 +13,7 @@ invariant-loop-column l = record {
   cells :
       cells_view l.cells.items ++ cells_of (codes_of l.codes) (columns_view (drop l.column-index l.columns)) l.rest
       ≡ cells_view l.fn.cells.items ++ cells_of (codes_of l.codes) (columns_view l.columns) l.words;
-  found :
-      findings_of l.found.items ++ columns_findings (codes_of l.codes) l.line l.number (columns_view (drop l.column-index l.columns)) l.rest
-      ≡ findings_of l.fn.found.items ++ columns_findings (codes_of l.codes) l.line 1 (columns_view l.columns) l.words;
+  findings :
+      findings_of l.findings.items ++ columns_findings (codes_of l.codes) l.line l.number (columns_view (drop l.column-index l.columns)) l.rest
+      ≡ findings_of l.fn.findings.items ++ columns_findings (codes_of l.codes) l.line 1 (columns_view l.columns) l.words;
 }

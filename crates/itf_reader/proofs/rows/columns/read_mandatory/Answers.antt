@@ -3,7 +3,7 @@ use Rattle.ili_grammar.specs.Values.{codes_of}
 use Rattle.resolver.specs.Values.{form_of}
 use Rattle.field_values.specs.Fields.{field_fault}
 use Rattle.field_values.specs.Readings.{value_of}
-use Rattle.field_values.specs.Values.{value_view}
+use Rattle.field_values.specs.Views.{value_view}
 use Rattle.itf_reader.specs.declared.findings.Code.{Code}
 use Rattle.itf_reader.proofs.VertexLaws.{code_ok, code_err}
 use Rattle.itf_reader.proofs.rows.columns.read_mandatory.Goals as goal

@@ -2,7 +2,7 @@ use Rattle.std.proofs.Common.{length, ◌∙◌}
 use Rattle.resolver.specs.Values.{line_of}
 use Rattle.table_layout.specs.Values.{role_view}
 use Rattle.itf_reader.specs.RowReadings.{sound_vertices, stroke_view}
-use Rattle.itf_reader.specs.RowViews.{vertices_of}
+use Rattle.itf_reader.specs.Views.{vertices_of}
 use Rattle.itf_reader.specs.StrokeFindings.{is_sound_stroke}
 use Rattle.itf_reader.proofs.VertexLaws.{sound_by}
 use Rattle.itf_reader.proofs.rows.lines.is_sound_line.Goals as goal

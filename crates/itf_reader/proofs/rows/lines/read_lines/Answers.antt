@@ -20,7 +20,7 @@ returns-clause-heights c =
     let none = either_empty_from_Zip c.loop-form.form-iterator c.next.new.self c.next.result c.in-None.is c.next.ensures.steps in
     all_done _ _ _ (heights_end (iter_rest (zip_first c.loop-form.form-iterator)) (iter_rest (zip_second c.loop-form.form-iterator)) none) c.loop-form.invariant.heights
 
-pub returns-clause-found : goal.returns-clause-found
-returns-clause-found c =
+pub returns-clause-findings : goal.returns-clause-findings
+returns-clause-findings c =
     let none = either_empty_from_Zip c.loop-form.form-iterator c.next.new.self c.next.result c.in-None.is c.next.ensures.steps in
-    all_done _ _ _ (findings_end (role_view c.args.role) c.args.line c.loop-form.column (iter_rest (zip_first c.loop-form.form-iterator)) (iter_rest (zip_second c.loop-form.form-iterator)) none) c.loop-form.invariant.found
+    all_done _ _ _ (findings_end (role_view c.args.role) c.args.line c.loop-form.column (iter_rest (zip_first c.loop-form.form-iterator)) (iter_rest (zip_second c.loop-form.form-iterator)) none) c.loop-form.invariant.findings

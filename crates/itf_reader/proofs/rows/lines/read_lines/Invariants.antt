@@ -5,7 +5,7 @@ use Rattle.table_layout.specs.Values.{role_view, lines_view}
 use Rattle.itf_reader.specs.Findings.{findings_of}
 use Rattle.itf_reader.specs.RowFindings.{lines_findings}
 use Rattle.itf_reader.specs.RowReadings.{lines_heights, lines_of, lines_vertices, strokes_view, vertices_view}
-use Rattle.itf_reader.specs.RowViews.{strokes_of}
+use Rattle.itf_reader.specs.Views.{strokes_of}
 use Rattle.itf_reader.proofs.rows.lines.read_lines.Given as goal
 
 abbrev pub invariant-loop-form : goal.invariant-loop-form
@@ -20,7 +20,7 @@ invariant-loop-form l =
       strokes : strokes_view l.values.strokes.items ++ lines_of (role_view l.role) forms rest ≡ strokes_view l.fn.values.strokes.items ++ lines_of (role_view l.role) (lines_view l.forms) (strokes_of l.strokes);
       vertices : vertices_view l.values.vertices.items ++ lines_vertices forms rest ≡ vertices_view l.fn.values.vertices.items ++ lines_vertices (lines_view l.forms) (strokes_of l.strokes);
       heights : l.values.heights.items ++ lines_heights forms rest ≡ l.fn.values.heights.items ++ lines_heights (lines_view l.forms) (strokes_of l.strokes);
-      found :
-          findings_of l.found.items ++ lines_findings (role_view l.role) l.line l.column forms rest
-          ≡ findings_of l.fn.found.items ++ lines_findings (role_view l.role) l.line l.first (lines_view l.forms) (strokes_of l.strokes);
+      findings :
+          findings_of l.findings.items ++ lines_findings (role_view l.role) l.line l.column forms rest
+          ≡ findings_of l.fn.findings.items ++ lines_findings (role_view l.role) l.line l.first (lines_view l.forms) (strokes_of l.strokes);
     }

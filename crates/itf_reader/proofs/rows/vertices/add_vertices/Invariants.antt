@@ -3,7 +3,7 @@ use Rattle.std.specs.List.{flat_map}
 use Rattle.resolver.specs.Values.{line_of}
 use Rattle.itf_reader.specs.Findings.{findings_of}
 use Rattle.itf_reader.specs.RowReadings.{sound_heights, sound_vertices, vertices_view}
-use Rattle.itf_reader.specs.RowViews.{vertices_of}
+use Rattle.itf_reader.specs.Views.{vertices_of}
 use Rattle.itf_reader.specs.StrokeFindings.{are_clean, vertex_finding}
 use Rattle.itf_reader.proofs.rows.vertices.add_vertices.Given as goal
 
@@ -18,5 +18,5 @@ invariant-loop-vertex l =
       heights : l.values.heights.items ++ sound_heights line rest ≡ l.fn.values.heights.items ++ sound_heights line all;
       cells : l.values.cells.items ≡ l.fn.values.cells.items;
       strokes : l.values.strokes.items ≡ l.fn.values.strokes.items;
-      found : findings_of l.found.items ++ flat_map (vertex_finding line l.column) rest ≡ findings_of l.fn.found.items ++ flat_map (vertex_finding line l.column) all;
+      findings : findings_of l.findings.items ++ flat_map (vertex_finding line l.column) rest ≡ findings_of l.fn.findings.items ++ flat_map (vertex_finding line l.column) all;
     }

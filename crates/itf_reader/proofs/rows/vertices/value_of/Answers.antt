@@ -2,8 +2,8 @@ use Rattle.std.proofs.Common.{sym, ◌∙◌, List, ℤ}
 use Rattle.std.specs.Option.{option_to_list}
 use Rattle.resolver.specs.Values.{line_of}
 use Rattle.field_values.specs.Places.{Place, place_view}
-use Rattle.field_values.specs.Values.{numbers_of}
-use Rattle.itf_reader.specs.RowViews.{vertex_of}
+use Rattle.field_values.specs.Views.{numbers_of}
+use Rattle.itf_reader.specs.Views.{vertex_of}
 use Rattle.itf_reader.proofs.VertexLaws.{ok_at, barred_at, err_at, err_same}
 use Rattle.itf_reader.proofs.rows.vertices.value_of.Goals as goal
 

@@ -1,8 +1,0 @@
-use Rattle.std.proofs.Common.{◌≡◌, ◌+◌, ◌-◌, ℕ, length, false, get_or}
-use Rattle.itf_reader.proofs.machine.came.grow.Given as goal
-
-abbrev pub invariant-loop-flags : goal.invariant-loop-flags
-invariant-loop-flags l = (n : ℕ) → get_or l.flags.items n false ≡ get_or l.fn.flags.items n false
-
-abbrev pub decreases-loop-flags : goal.decreases-loop-flags
-decreases-loop-flags l = l.number + 1 - length l.flags.items
