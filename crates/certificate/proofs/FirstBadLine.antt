@@ -23,7 +23,7 @@ use Rattle.certificate.proofs.PartLaws.{decimal_digits, each_digit, some_is}
 use Rattle.certificate.proofs.FormLaws.{size_words, FitsSizes, version_gave, version_is, areas_gave, areas_is, title_gave, title_is, sizes_gave, sizes_is, event_gave, event_is, edge_gave, edge_is, place_gave, place_is, end_gave, end_is}
 use Rattle.certificate.proofs.TextLaws.{from, then_ok, ok_is, line_is, line_some, IsRead, event_read, edge_read, place_read, same_sizes, many_is, certificate_read, list_is}
 use Rattle.certificate.proofs.FirstLines.{AreLines, IsInner, inner_lines, last_line}
-use Rattle.certificate.proofs.Stops.{IsTold, told_line, told_number, told_short, Stopped, Went, Det, det_of_read, then_err, ok_no_err, err_is, line_stops, line_went, both_texts, Both, first_stops, second_stops, map_stops, both_went, map_went, both_det, AreSo, all_same, many_stops, many_went}
+use Rattle.certificate.proofs.Stops.{IsReported, reported_line, reported_number, reported_short, Stopped, Went, Det, det_of_read, then_err, ok_no_err, err_is, line_stops, line_went, both_texts, Both, first_stops, second_stops, map_stops, both_went, map_went, both_det, AreSo, all_same, many_stops, many_went}
 
 -- ---- each kind of line is one line
 
@@ -430,15 +430,15 @@ certificate_det = det_of_read certificate_at certificate_text Fits certificate_r
 top_det : Det top_text GoodTop
 top_det = both_det version_text list_text IsFirstVersion (λ x. GoodList) version_det (λ v. both_det areas_text (flat_map certificate_text) IsShortNumber (AreSo Fits) areas_det list_det)
 
--- no more stands behind a whole list
+-- no more stands after a whole list
 no_more : (cs ds : List Plain) (z : List ℕ) → AreSpelt cs → AreSpelt ds → spelling ds ≡ spelling cs ++ z → z ≡ []
 no_more cs ds z p q e =
     let a = spelt_back ds q in
     let b = spelt_back cs p in
     sym (top_det a.0 b.0 [] z a.1 b.1 (ap (λ (x : List ℕ). x ++ []) a.2 ∙ append-nil (spelling ds) ∙ e ∙ ap (λ (x : List ℕ). x ++ z) (sym b.2))).1
 
-told_fault : (bytes : List ℕ) (e : CertFault) → list_of bytes ≡ Err e → Stopped spelling AreSpelt (from bytes 1) e → IsFault bytes e
-told_fault bytes e h (k, s, told) = by_told e told h
+reported_fault : (bytes : List ℕ) (e : CertFault) → list_of bytes ≡ Err e → Stopped spelling AreSpelt (from bytes 1) e → IsFault bytes e
+reported_fault bytes e h (k, s, told) = by_report e told h
   where
     begin : Begin (first_lines k bytes)
     begin = record { list = s.some; spelt = s.good; rest = s.rest; is = s.begins }
@@ -446,10 +446,10 @@ told_fault bytes e h (k, s, told) = by_told e told h
     first : length (first_lines k bytes) < length bytes → IsFirstBad bytes k
     first g = record { whole = s.whole; begin = begin; there = g; bad = λ l b. s.none l b.list b.spelt [] b.rest (append-nil (spelling b.list) ∙ b.is) }
 
-    by_told : (d : CertFault) → IsTold bytes k 1 d → list_of bytes ≡ Err d → IsFault bytes d
-    by_told d (told_line m f g) j = let i : suc k ≡ m = omega (arith, f) in subst (λ (n : ℕ). IsFault bytes (faults.Line n)) i (bad_line k (first g))
-    by_told d (told_number m f g) j = let i : suc k ≡ m = omega (arith, f) in subst (λ (n : ℕ). IsFault bytes (faults.Number n)) i (bad_number k (first g))
-    by_told d (told_short m f g) j =
+    by_report : (d : CertFault) → IsReported bytes k 1 d → list_of bytes ≡ Err d → IsFault bytes d
+    by_report d (reported_line m f g) j = let i : suc k ≡ m = omega (arith, f) in subst (λ (n : ℕ). IsFault bytes (faults.Line n)) i (bad_line k (first g))
+    by_report d (reported_number m f g) j = let i : suc k ≡ m = omega (arith, f) in subst (λ (n : ℕ). IsFault bytes (faults.Number n)) i (bad_number k (first g))
+    by_report d (reported_short m f g) j =
         let i : suc k ≡ m = omega (arith, f) in
         subst (λ (n : ℕ). IsFault bytes (faults.Short n)) i (too_short k (record {
           whole = s.whole;
@@ -458,7 +458,7 @@ told_fault bytes e h (k, s, told) = by_told e told h
           unfinished = λ list spelt o. ok_no_err list d ⊥ (sym (ap list_of o ∙ list_is list spelt) ∙ j);
         }))
 
--- what stands behind a whole list is a bad line
+-- what stands after a whole list is a bad line
 surplus : (bytes : List ℕ) (cs : List Plain) (u : Text) (e : CertFault) → Went spelling AreSpelt (from bytes 1) cs u → if_ended cs u ≡ Err e → IsFault bytes e
 surplus bytes cs u e w h = by_rest u.rest refl
   where
@@ -488,7 +488,7 @@ first_bad : (bytes : List ℕ) (e : CertFault) → list_of bytes ≡ Err e → I
 unfolding list_of spelt_there
 first_bad bytes e h =
     let t = from bytes 1 in
-    let told : Stopped top_text GoodTop t e → IsFault bytes e = λ s. told_fault bytes e h (map_stops top_text spelling GoodTop AreSpelt spelt_there spelt_back t e s) in
+    let told : Stopped top_text GoodTop t e → IsFault bytes e = λ s. reported_fault bytes e h (map_stops top_text spelling GoodTop AreSpelt spelt_there spelt_back t e s) in
     then_err (line_at version_at t) _ e _ h (λ i. told (first_stops version_text list_text IsFirstVersion (λ x. GoodList) (λ x p. some_list) t e (version_stops t e i))) (λ version i1 e1.
     let w1 = version_went t version.0 version.1 i1 in
     then_err (line_at areas_at version.1) _ e _ e1

@@ -4,7 +4,7 @@ use Rattle.std.specs.List.{AllByRecursion}
 use Rattle.std.proofs.lemmas.List.{append-nil}
 use Rattle.certificate.specs.FirstBad.{lf_count, first_lines}
 
--- what stands behind the first lines
+-- what stands after the first lines
 pub behind_lines : (n : ℕ) (bytes : List ℕ) → (rest : List ℕ) × (bytes ≡ first_lines n bytes ++ rest)
 behind_lines zero bytes = (bytes, refl)
 behind_lines (suc n) [] = ([], refl)

@@ -9,12 +9,12 @@ use Rattle.certificate.specs.declared.notes.PointPlace.{PointPlace}
 use Rattle.certificate.specs.declared.notes.PointPlace.TheVariants.{Cell, Tube}
 use Rattle.certificate.specs.declared.forms.Counts.{Counts}
 use Rattle.certificate.specs.Spelling.{line, IsName, FitsEdge, FitsPlace, event_line, edge_line, place_line, side_word, link_word}
-use Rattle.certificate.specs.Parts.{◌>>=◌, Line, behind, name_at, number_at, half_at, both_notes, edge_at, numbered_at, event_at, side_at, tube, tube_at, cell, cell_at, place_behind, place_at, Title, title_at, counts_of, if_level, sizes_at, if_first, version_at, areas_at, end_at}
+use Rattle.certificate.specs.Parts.{◌>>=◌, Line, after_word, name_at, number_at, half_at, both_notes, edge_at, numbered_at, event_at, side_at, tube, tube_at, cell, cell_at, place_after, place_at, Title, title_at, counts_of, if_level, sizes_at, if_first, version_at, areas_at, end_at}
 use Rattle.std.specs.Char.{is_ascii_digit}
 use Rattle.std.specs.Str.{all_ascii_digits}
 use Rattle.std.proofs.lemmas.Fmt.{decimal_digit, decimal_nonempty}
 use Rattle.certificate.proofs.Digits.{both_true}
-use Rattle.certificate.proofs.PartLaws.{pair_is, no_value, decimal_digits, then, some_is, chose, behind_gave, behind_is, name_gave, name_is, number_gave, number_is, half_onto, half_gave, half_is, side_gave, side_is}
+use Rattle.certificate.proofs.PartLaws.{pair_is, no_value, decimal_digits, then, some_is, chose, after_word_gave, after_word_is, name_gave, name_is, number_gave, number_is, half_onto, half_gave, half_is, side_gave, side_is}
 
 -- words, and what follows their line
 abbrev pub line_onto : List (List ℕ) → List ℕ → List ℕ
@@ -30,24 +30,24 @@ line_then (word ∷ next ∷ words) rest = append_assoc word (32 ∷ line (next 
 pub with_line : (bytes : List ℕ) (words : List (List ℕ)) (rest : List ℕ) → bytes ≡ line_onto words rest → bytes ≡ line words ++ rest
 with_line bytes words rest e = e ∙ sym (line_then words rest)
 
--- ---- a number behind a word
+-- ---- a number after a word
 
 numbered_gave : (word bytes : List ℕ) (n : ℕ) (rest : List ℕ) → numbered_at word bytes ≡ Some (Some n, rest) → (bytes ≡ word ++ (decimal n ++ (10 ∷ rest))) × (n < 2 ^ 32)
 unfolding numbered_at
 numbered_gave word bytes n rest e =
-    then (behind word bytes) _ (Some n, rest) _ e (λ a i1 e1.
+    then (after_word word bytes) _ (Some n, rest) _ e (λ a i1 e1.
     then (number_at a) _ (Some n, rest) _ e1 (λ m i2 e2.
-    then (behind (codes "\n") m.1) _ (Some n, rest) _ e2 (λ b i3 e3.
+    then (after_word (codes "\n") m.1) _ (Some n, rest) _ e2 (λ b i3 e3.
     let p = some_is (m.0, b) (Some n, rest) e3 in
     let ends : b ≡ rest = ap (λ (x : Option ℕ × List ℕ). x.1) p in
-    let g1 = behind_gave word bytes a i1 in
+    let g1 = after_word_gave word bytes a i1 in
     let g2 = number_gave a n m.1 (i2 ∙ ap (λ (x : Option ℕ × List ℕ). Some (x.0, m.1)) p) in
-    let g3 = behind_gave (codes "\n") m.1 b i3 in
+    let g3 = after_word_gave (codes "\n") m.1 b i3 in
     (cc (g1, g2.0, g3, ends), g2.1))))
 
 numbered_is : (word : List ℕ) (n : ℕ) (rest : List ℕ) → n < 2 ^ 32 → numbered_at word (word ++ (decimal n ++ (10 ∷ rest))) ≡ Some (Some n, rest)
 unfolding numbered_at
-numbered_is word n rest f = rw (behind_is word (decimal n ++ (10 ∷ rest)), number_is n 10 rest f refl) refl
+numbered_is word n rest f = rw (after_word_is word (decimal n ++ (10 ∷ rest)), number_is n 10 rest f refl) refl
 
 -- ---- events
 
@@ -80,19 +80,19 @@ both_made below above e h =
 pub edge_gave : (bytes : List ℕ) (e : HalfNote × HalfNote) (rest : List ℕ) → edge_at bytes ≡ Some (Some e, rest) → (bytes ≡ edge_line e ++ rest) × FitsEdge e
 unfolding edge_at
 edge_gave bytes e rest h =
-    then (behind (codes "E ") bytes) _ (Some e, rest) _ h (λ a i1 e1.
+    then (after_word (codes "E ") bytes) _ (Some e, rest) _ h (λ a i1 e1.
     then (half_at a) _ (Some e, rest) _ e1 (λ below i2 e2.
-    then (behind (codes " ") below.1) _ (Some e, rest) _ e2 (λ b i3 e3.
+    then (after_word (codes " ") below.1) _ (Some e, rest) _ e2 (λ b i3 e3.
     then (half_at b) _ (Some e, rest) _ e3 (λ above i4 e4.
-    then (behind (codes "\n") above.1) _ (Some e, rest) _ e4 (λ c i5 e5.
+    then (after_word (codes "\n") above.1) _ (Some e, rest) _ e4 (λ c i5 e5.
     let p = some_is (both_notes below.0 above.0, c) (Some e, rest) e5 in
     let ends : c ≡ rest = ap (λ (x : Option (HalfNote × HalfNote) × List ℕ). x.1) p in
     let m = both_made below.0 above.0 e (ap (λ (x : Option (HalfNote × HalfNote) × List ℕ). x.0) p) in
-    let g1 = behind_gave (codes "E ") bytes a i1 in
+    let g1 = after_word_gave (codes "E ") bytes a i1 in
     let g2 = half_gave a e.0 below.1 (i2 ∙ ap (λ (x : Option HalfNote). Some (x, below.1)) m.0) in
-    let g3 = behind_gave (codes " ") below.1 b i3 in
+    let g3 = after_word_gave (codes " ") below.1 b i3 in
     let g4 = half_gave b e.1 above.1 (i4 ∙ ap (λ (x : Option HalfNote). Some (x, above.1)) m.1) in
-    let g5 = behind_gave (codes "\n") above.1 c i5 in
+    let g5 = after_word_gave (codes "\n") above.1 c i5 in
     (with_line bytes (edge_words e) rest (cc (g1, g2.0, g3, g4.0, g5, ends)), (g2.1, g4.1)))))))
 
 pub edge_is : (e : HalfNote × HalfNote) (rest : List ℕ) → FitsEdge e → edge_at (edge_line e ++ rest) ≡ Some (Some e, rest)
@@ -132,27 +132,27 @@ tube_gave : (bytes start : List ℕ) (p : PointPlace) (rest : List ℕ) → byte
 unfolding tube_at
 tube_gave bytes start p rest w e =
     then (number_at start) _ (Some p, rest) _ e (λ curve i1 e1.
-    then (behind (codes " ") curve.1) _ (Some p, rest) _ e1 (λ a i2 e2.
+    then (after_word (codes " ") curve.1) _ (Some p, rest) _ e1 (λ a i2 e2.
     then (side_at a) _ (Some p, rest) _ e2 (λ side i3 e3.
-    then (behind (codes "\n") side.1) _ (Some p, rest) _ e3 (λ b i4 e4.
+    then (after_word (codes "\n") side.1) _ (Some p, rest) _ e3 (λ b i4 e4.
     let q = some_is (tube curve.0 side.0, b) (Some p, rest) e4 in
     let k = tube_made curve.0 side.0 p (ap (λ (x : Option PointPlace × List ℕ). x.0) q) in
     let ends : b ≡ rest = ap (λ (x : Option PointPlace × List ℕ). x.1) q in
     let g1 = number_gave start k.0 curve.1 (i1 ∙ ap (λ (x : Option ℕ). Some (x, curve.1)) k.1) in
-    let g2 = behind_gave (codes " ") curve.1 a i2 in
+    let g2 = after_word_gave (codes " ") curve.1 a i2 in
     let g3 = side_gave a side.0 side.1 i3 in
-    let g4 = behind_gave (codes "\n") side.1 b i4 in
+    let g4 = after_word_gave (codes "\n") side.1 b i4 in
     subst (λ (x : PointPlace). (bytes ≡ place_line x ++ rest) × FitsPlace x) k.2 (with_line bytes (tube_words k.0 side.0) rest (cc (w, g1.0, g2, g3, g4, ends)), g1.1)))))
 
-place_by : (bytes : List ℕ) (o : Option (List ℕ)) (p : PointPlace) (rest : List ℕ) → behind (codes "P T ") bytes ≡ o → place_behind bytes o ≡ Some (Some p, rest) → (bytes ≡ place_line p ++ rest) × FitsPlace p
+place_by : (bytes : List ℕ) (o : Option (List ℕ)) (p : PointPlace) (rest : List ℕ) → after_word (codes "P T ") bytes ≡ o → place_after bytes o ≡ Some (Some p, rest) → (bytes ≡ place_line p ++ rest) × FitsPlace p
 place_by bytes None p rest o e = cell_gave bytes p rest e
-place_by bytes (Some start) p rest o e = tube_gave bytes start p rest (behind_gave (codes "P T ") bytes start o) e
+place_by bytes (Some start) p rest o e = tube_gave bytes start p rest (after_word_gave (codes "P T ") bytes start o) e
 
 pub place_gave : (bytes : List ℕ) (p : PointPlace) (rest : List ℕ) → place_at bytes ≡ Some (Some p, rest) → (bytes ≡ place_line p ++ rest) × FitsPlace p
-place_gave bytes p rest e = place_by bytes (behind (codes "P T ") bytes) p rest refl e
+place_gave bytes p rest e = place_by bytes (after_word (codes "P T ") bytes) p rest refl e
 
 -- a digit is no T
-no_tube : (ds rest : List ℕ) → all_ascii_digits ds ≡ true → 0 < length ds → behind (codes "P T ") (80 ∷ 32 ∷ (ds ++ rest)) ≡ None
+no_tube : (ds rest : List ℕ) → all_ascii_digits ds ≡ true → 0 < length ds → after_word (codes "P T ") (80 ∷ 32 ∷ (ds ++ rest)) ≡ None
 no_tube [] rest h l = absurd (omega arith)
 no_tube (d ∷ ds) rest h l =
     let k = (both_true (is_ascii_digit d) (all_ascii_digits ds) h).0 in
@@ -170,7 +170,7 @@ tube_is n inside rest f = rw (number_is n 32 (side_word inside ++ (10 ∷ rest))
 pub place_is : (p : PointPlace) (rest : List ℕ) → FitsPlace p → place_at (place_line p ++ rest) ≡ Some (Some p, rest)
 place_is (Cell n) rest f =
     ap place_at (line_then (cell_words n) rest)
-    ∙ ap (place_behind (line_onto (cell_words n) rest)) (no_tube (decimal n) (10 ∷ rest) (decimal_digits n f) (decimal_nonempty n (omega arith)))
+    ∙ ap (place_after (line_onto (cell_words n) rest)) (no_tube (decimal n) (10 ∷ rest) (decimal_digits n f) (decimal_nonempty n (omega arith)))
     ∙ cell_is n rest f
 place_is (Tube n inside) rest f = ap place_at (line_then (tube_words n inside) rest) ∙ tube_is n inside rest f
 
@@ -180,24 +180,24 @@ pub title_gave : (bytes : List ℕ) (t : Title) (rest : List ℕ) → title_at b
     → (bytes ≡ line (codes "AREA" ∷ t.topic ∷ t.table ∷ t.attribute ∷ []) ++ rest) × IsName t.topic × IsName t.table × IsName t.attribute
 unfolding title_at
 title_gave bytes t rest e =
-    then (behind (codes "AREA ") bytes) _ (Some t, rest) _ e (λ a i1 e1.
+    then (after_word (codes "AREA ") bytes) _ (Some t, rest) _ e (λ a i1 e1.
     then (name_at a) _ (Some t, rest) _ e1 (λ topic i2 e2.
-    then (behind (codes " ") topic.1) _ (Some t, rest) _ e2 (λ b i3 e3.
+    then (after_word (codes " ") topic.1) _ (Some t, rest) _ e2 (λ b i3 e3.
     then (name_at b) _ (Some t, rest) _ e3 (λ table i4 e4.
-    then (behind (codes " ") table.1) _ (Some t, rest) _ e4 (λ c i5 e5.
+    then (after_word (codes " ") table.1) _ (Some t, rest) _ e4 (λ c i5 e5.
     then (name_at c) _ (Some t, rest) _ e5 (λ attribute i6 e6.
-    then (behind (codes "\n") attribute.1) _ (Some t, rest) _ e6 (λ d i7 e7.
+    then (after_word (codes "\n") attribute.1) _ (Some t, rest) _ e6 (λ d i7 e7.
     let made : Title = record { topic = topic.0; table = table.0; attribute = attribute.0 } in
     let p = some_is (Some made, d) (Some t, rest) e7 in
     let ends : d ≡ rest = ap (λ (x : Option Title × List ℕ). x.1) p in
     let same : made ≡ t = some_is made t (ap (λ (x : Option Title × List ℕ). x.0) p) in
-    let g1 = behind_gave (codes "AREA ") bytes a i1 in
+    let g1 = after_word_gave (codes "AREA ") bytes a i1 in
     let g2 = name_gave a topic.0 topic.1 i2 in
-    let g3 = behind_gave (codes " ") topic.1 b i3 in
+    let g3 = after_word_gave (codes " ") topic.1 b i3 in
     let g4 = name_gave b table.0 table.1 i4 in
-    let g5 = behind_gave (codes " ") table.1 c i5 in
+    let g5 = after_word_gave (codes " ") table.1 c i5 in
     let g6 = name_gave c attribute.0 attribute.1 i6 in
-    let g7 = behind_gave (codes "\n") attribute.1 d i7 in
+    let g7 = after_word_gave (codes "\n") attribute.1 d i7 in
     subst (λ (x : Title). (bytes ≡ line (codes "AREA" ∷ x.topic ∷ x.table ∷ x.attribute ∷ []) ++ rest) × IsName x.topic × IsName x.table × IsName x.attribute) same
     (with_line bytes (codes "AREA" ∷ topic.0 ∷ table.0 ∷ attribute.0 ∷ []) rest (cc (g1, g2.0, g3, g4.0, g5, g6.0, g7, ends)), g2.1, g4.1, g6.1))))))))
 
@@ -239,26 +239,26 @@ level_made (Some l) (Some c) bytes s rest e =
 pub sizes_gave : (bytes : List ℕ) (s : ℕ × Counts) (rest : List ℕ) → sizes_at bytes ≡ Some (Some s, rest) → (bytes ≡ line (size_words s.0 s.1) ++ rest) × FitsSizes s.0 s.1
 unfolding sizes_at
 sizes_gave bytes s rest h =
-    then (behind (codes "SIZES ") bytes) _ (Some s, rest) _ h (λ a i1 e1.
+    then (after_word (codes "SIZES ") bytes) _ (Some s, rest) _ h (λ a i1 e1.
     then (number_at a) _ (Some s, rest) _ e1 (λ level i2 e2.
-    then (behind (codes " ") level.1) _ (Some s, rest) _ e2 (λ b i3 e3.
+    then (after_word (codes " ") level.1) _ (Some s, rest) _ e2 (λ b i3 e3.
     then (number_at b) _ (Some s, rest) _ e3 (λ edges i4 e4.
-    then (behind (codes " ") edges.1) _ (Some s, rest) _ e4 (λ c i5 e5.
+    then (after_word (codes " ") edges.1) _ (Some s, rest) _ e4 (λ c i5 e5.
     then (number_at c) _ (Some s, rest) _ e5 (λ events i6 e6.
-    then (behind (codes " ") events.1) _ (Some s, rest) _ e6 (λ d i7 e7.
+    then (after_word (codes " ") events.1) _ (Some s, rest) _ e6 (λ d i7 e7.
     then (number_at d) _ (Some s, rest) _ e7 (λ points i8 e8.
-    then (behind (codes "\n") points.1) _ (Some s, rest) _ e8 (λ z i9 e9.
+    then (after_word (codes "\n") points.1) _ (Some s, rest) _ e8 (λ z i9 e9.
     let m = level_made level.0 (counts_of edges.0 events.0 points.0) z s rest e9 in
     let n = counts_made edges.0 events.0 points.0 s.1 m.1 in
-    let g1 = behind_gave (codes "SIZES ") bytes a i1 in
+    let g1 = after_word_gave (codes "SIZES ") bytes a i1 in
     let g2 = number_gave a s.0 level.1 (i2 ∙ ap (λ (x : Option ℕ). Some (x, level.1)) m.0) in
-    let g3 = behind_gave (codes " ") level.1 b i3 in
+    let g3 = after_word_gave (codes " ") level.1 b i3 in
     let g4 = number_gave b s.1.edges edges.1 (i4 ∙ ap (λ (x : Option ℕ). Some (x, edges.1)) n.0) in
-    let g5 = behind_gave (codes " ") edges.1 c i5 in
+    let g5 = after_word_gave (codes " ") edges.1 c i5 in
     let g6 = number_gave c s.1.events events.1 (i6 ∙ ap (λ (x : Option ℕ). Some (x, events.1)) n.1) in
-    let g7 = behind_gave (codes " ") events.1 d i7 in
+    let g7 = after_word_gave (codes " ") events.1 d i7 in
     let g8 = number_gave d s.1.points points.1 (i8 ∙ ap (λ (x : Option ℕ). Some (x, points.1)) n.2) in
-    let g9 = behind_gave (codes "\n") points.1 z i9 in
+    let g9 = after_word_gave (codes "\n") points.1 z i9 in
     let ends : z ≡ rest = m.2 in
     (with_line bytes (size_words s.0 s.1) rest (cc (g1, g2.0, g3, g4.0, g5, g6.0, g7, g8.0, g9, ends)), record { level = m.3; edges = g4.1; events = g6.1; points = g8.1 }))))))))))
 
@@ -303,9 +303,9 @@ version_is rest = ap version_at (first_version rest) ∙ ap (λ (o : Line ℕ). 
 pub end_gave : (bytes : List ℕ) (u : Unit {0}) (rest : List ℕ) → end_at bytes ≡ Some (Some u, rest) → bytes ≡ line (codes "END" ∷ []) ++ rest
 unfolding end_at
 end_gave bytes u rest e =
-    then (behind (codes "END\n") bytes) _ (Some u, rest) _ e (λ a i1 e1.
+    then (after_word (codes "END\n") bytes) _ (Some u, rest) _ e (λ a i1 e1.
     let p = some_is (Some tt, a) (Some u, rest) e1 in
-    behind_gave (codes "END\n") bytes a i1 ∙ ap (λ (x : Option (Unit {0}) × List ℕ). codes "END\n" ++ x.1) p)
+    after_word_gave (codes "END\n") bytes a i1 ∙ ap (λ (x : Option (Unit {0}) × List ℕ). codes "END\n" ++ x.1) p)
 
 pub end_is : (rest : List ℕ) → end_at (line (codes "END" ∷ []) ++ rest) ≡ Some (Some tt, rest)
 unfolding end_at

@@ -1,4 +1,4 @@
--- Reading one line or one certificate behind the other, as a loop does.
+-- Reading one line or one certificate after the other, as a loop does.
 use Rattle.std.proofs.Common.{◌≡◌, ℕ, suc, ◌-◌, ◌+◌, ◌≤◌, ◌<◌, List, [], ◌∷◌, ◌++◌, Ok, Err, refl, sym, ap, ◌∙◌, append_assoc, arith}
 use Rattle.std.proofs.lemmas.List.{append-nil}
 use Rattle.certificate.specs.declared.fault.CertFault.{CertFault}
@@ -7,7 +7,8 @@ use Rattle.std.specs.Prelude.{Option, Some, None}
 use Rattle.std.specs.Option.{option_map}
 use Rattle.std.specs.Borrow.{Bor}
 use Rattle.certificate.specs.Parts.{Line}
-use Rattle.certificate.specs.Reading.{Text, Lines, ◌>>=◌, Fails, Finds, seen, line_of, line_at, many_at}
+use Rattle.certificate.specs.Reading.{Text, Lines, ◌>>=◌, Fails, Finds, line_of, line_at, many_at}
+use Rattle.certificate.specs.Views.{found_view}
 
 -- what was read before, and what is still read
 abbrev pub with_front : {A : Type 0} → List A → Lines (List A) → Lines (List A)
@@ -54,5 +55,5 @@ map_found v None f h = sym h
 map_found v (Some x) f h = sym h
 
 -- the line of a form, where the form was found
-pub same_line : {A : Type 0} (form : List ℕ → Line A) (text : Text) (o : Option (Option A × Bor (List ℕ))) → Finds seen o (form text.rest) → line_of text (option_map seen o) ≡ line_at form text
-same_line form text o h = ap (line_of text) (map_found seen o (form text.rest) h)
+pub same_line : {A : Type 0} (form : List ℕ → Line A) (text : Text) (o : Option (Option A × Bor (List ℕ))) → Finds found_view o (form text.rest) → line_of text (option_map found_view o) ≡ line_at form text
+same_line form text o h = ap (line_of text) (map_found found_view o (form text.rest) h)

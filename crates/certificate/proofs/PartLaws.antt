@@ -18,7 +18,7 @@ use Rattle.certificate.specs.declared.notes.Link.{Link}
 use Rattle.certificate.specs.declared.notes.Link.TheVariants.{Root, Next, Prev, Across}
 use Rattle.certificate.specs.declared.notes.HalfNote.{HalfNote}
 use Rattle.certificate.specs.Spelling.{is_name_byte, IsName, link_word, side_word, FitsLink, FitsHalf}
-use Rattle.certificate.specs.Parts.{◌>>=◌, behind, front_of, name_at, has_leading_zero, number, number_at, across, across_at, link_at, half_note, half_at, side_at}
+use Rattle.certificate.specs.Parts.{◌>>=◌, after_word, front_of, name_at, has_leading_zero, number, number_at, across, across_at, link_at, half_note, half_at, side_at}
 use Rattle.certificate.proofs.Digits.{front_is_digits, both_true}
 
 -- a step that gave something had something before it
@@ -64,14 +64,14 @@ no_value {A = A} a b x e =
 
 -- ---- words
 
-pub behind_gave : (word bytes rest : List ℕ) → behind word bytes ≡ Some rest → bytes ≡ word ++ rest
-behind_gave word bytes rest h =
+pub after_word_gave : (word bytes rest : List ℕ) → after_word word bytes ≡ Some rest → bytes ≡ word ++ rest
+after_word_gave word bytes rest h =
     let k = chose (pointwise nat_eq (take (length word) bytes) word) (drop (length word) bytes) rest h in
     let front : take (length word) bytes ≡ word = (bytes_eq-Decides (take (length word) bytes) word).0 k.0 in
     sym (take-append-drop (length word) bytes) ∙ ap (λ (w : List ℕ). w ++ drop (length word) bytes) front ∙ ap (λ (r : List ℕ). word ++ r) k.1
 
-pub behind_is : (word rest : List ℕ) → behind word (word ++ rest) ≡ Some rest
-behind_is word rest =
+pub after_word_is : (word rest : List ℕ) → after_word word (word ++ rest) ≡ Some rest
+after_word_is word rest =
     rw (take_at word rest (length word) refl, drop_at word rest (length word) refl, (bytes_eq-Decides word word).1 refl) refl
 
 -- ---- runs
@@ -257,16 +257,16 @@ pub half_gave : (bytes : List ℕ) (h : HalfNote) (rest : List ℕ) → half_at 
 unfolding half_at
 half_gave bytes h rest e =
     then (number_at bytes) _ (Some h, rest) _ e (λ label i1 e1.
-    then (behind (codes " ") label.1) _ (Some h, rest) _ e1 (λ a i2 e2.
+    then (after_word (codes " ") label.1) _ (Some h, rest) _ e1 (λ a i2 e2.
     then (link_at a) _ (Some h, rest) _ e2 (λ link i3 e3.
-    then (behind (codes " ") link.1) _ (Some h, rest) _ e3 (λ b i4 e4.
+    then (after_word (codes " ") link.1) _ (Some h, rest) _ e3 (λ b i4 e4.
     then (number_at b) _ (Some h, rest) _ e4 (λ rank i5 e5.
     let p : (let x : Option HalfNote × List ℕ = (half_note label.0 link.0 rank.0, rank.1) in x) ≡ (Some h, rest) = some_is _ _ e5 in
     let m = half_made label.0 link.0 rank.0 h (ap (λ (x : Option HalfNote × List ℕ). x.0) p) in
     let ends : rank.1 ≡ rest = ap (λ (x : Option HalfNote × List ℕ). x.1) p in
     let g1 = number_gave bytes h.label label.1 (i1 ∙ ap (λ (x : Option ℕ). Some (x, label.1)) m.0) in
-    let g2 = behind_gave (codes " ") label.1 a i2 in
+    let g2 = after_word_gave (codes " ") label.1 a i2 in
     let g3 = link_gave a h.link link.1 (i3 ∙ ap (λ (x : Option Link). Some (x, link.1)) m.1) in
-    let g4 = behind_gave (codes " ") link.1 b i4 in
+    let g4 = after_word_gave (codes " ") link.1 b i4 in
     let g5 = number_gave b h.rank rank.1 (i5 ∙ ap (λ (x : Option ℕ). Some (x, rank.1)) m.2) in
     (cc (g1.0, g2, g3.0, g4, g5.0, ends), record { label = g1.1; link = g3.1; rank = g5.1 }))))))

@@ -21,16 +21,16 @@ pub record Stops {A : Type 0} (text : A → List ℕ) (P : A → Type 0) (bytes 
   pub whole : k ≤ lf_count bytes
   pub none : k < lf_count bytes → (y : A) → P y → (more z : List ℕ) → text y ++ more ≡ first_lines (suc k) bytes ++ z → ⊥
 
--- what is told of the line behind the first k ones, where the first has the number n
-pub data IsTold (bytes : List ℕ) (k n : ℕ) : CertFault → Type 0 where
-  told_line : (m : ℕ) → m ≡ n + k → length (first_lines k bytes) < length bytes → IsTold bytes k n (faults.Line m)
-  told_number : (m : ℕ) → m ≡ n + k → length (first_lines k bytes) < length bytes → IsTold bytes k n (faults.Number m)
-  told_short : (m : ℕ) → m ≡ n + k → first_lines k bytes ≡ bytes → IsTold bytes k n (faults.Short m)
+-- what is told of the line after the first k ones, where the first has the number n
+pub data IsReported (bytes : List ℕ) (k n : ℕ) : CertFault → Type 0 where
+  reported_line : (m : ℕ) → m ≡ n + k → length (first_lines k bytes) < length bytes → IsReported bytes k n (faults.Line m)
+  reported_number : (m : ℕ) → m ≡ n + k → length (first_lines k bytes) < length bytes → IsReported bytes k n (faults.Number m)
+  reported_short : (m : ℕ) → m ≡ n + k → first_lines k bytes ≡ bytes → IsReported bytes k n (faults.Short m)
 
 abbrev pub Stopped : {A : Type 0} → (A → List ℕ) → (A → Type 0) → Text → CertFault → Type 0
-Stopped text P t e = (k : ℕ) × Stops text P t.rest k × IsTold t.rest k t.line e
+Stopped text P t e = (k : ℕ) × Stops text P t.rest k × IsReported t.rest k t.line e
 
--- what was read, and where the reading stands behind it
+-- what was read, and where the reading stands after it
 pub record Went {A : Type 0} (text : A → List ℕ) (P : A → Type 0) (t : Text) (x : A) (u : Text) : Type 0 where
   pub parts : t.rest ≡ text x ++ u.rest
   pub good : P x
@@ -68,19 +68,19 @@ some_byte : (bytes : List ℕ) → 0 < lf_count bytes → 0 < length bytes
 some_byte [] h = absurd (omega (arith, h))
 some_byte (c ∷ bytes) h = omega arith
 
-told_at_front : {A : Type 0} (form : List ℕ → Line A) (t : Text) (e : CertFault) → line_at form t ≡ Err e → IsTold t.rest zero t.line e
-told_at_front {A = A} form t e h = by_length (nat_eq (length t.rest) 0) refl h
+reported_at_front : {A : Type 0} (form : List ℕ → Line A) (t : Text) (e : CertFault) → line_at form t ≡ Err e → IsReported t.rest zero t.line e
+reported_at_front {A = A} form t e h = by_length (nat_eq (length t.rest) 0) refl h
   where
     here : t.line ≡ t.line + zero
     here = omega arith
 
-    formed : (o : Line A) → 0 < length t.rest → if_formed t.line o ≡ Err e → IsTold t.rest zero t.line e
-    formed None l k = subst (IsTold t.rest zero t.line) (err_is (A × Text) (faults.Line t.line) e k) (told_line t.line here l)
-    formed (Some (None, rest)) l k = subst (IsTold t.rest zero t.line) (err_is (A × Text) (faults.Number t.line) e k) (told_number t.line here l)
+    formed : (o : Line A) → 0 < length t.rest → if_formed t.line o ≡ Err e → IsReported t.rest zero t.line e
+    formed None l k = subst (IsReported t.rest zero t.line) (err_is (A × Text) (faults.Line t.line) e k) (reported_line t.line here l)
+    formed (Some (None, rest)) l k = subst (IsReported t.rest zero t.line) (err_is (A × Text) (faults.Number t.line) e k) (reported_number t.line here l)
     formed (Some (Some x, rest)) l k = ok_no_err (x, from rest (t.line + 1)) e _ k
 
-    by_length : (b : Bool) → nat_eq (length t.rest) 0 ≡ b → cond b (Err (faults.Short t.line)) (if_formed t.line (form t.rest)) ≡ Err e → IsTold t.rest zero t.line e
-    by_length true l k = subst (IsTold t.rest zero t.line) (err_is (A × Text) (faults.Short t.line) e k) (told_short t.line here (sym (nil_from_length t.rest (eqb-true (length t.rest) 0 l))))
+    by_length : (b : Bool) → nat_eq (length t.rest) 0 ≡ b → cond b (Err (faults.Short t.line)) (if_formed t.line (form t.rest)) ≡ Err e → IsReported t.rest zero t.line e
+    by_length true l k = subst (IsReported t.rest zero t.line) (err_is (A × Text) (faults.Short t.line) e k) (reported_short t.line here (sym (nil_from_length t.rest (eqb-true (length t.rest) 0 l))))
     by_length false l k = formed (form t.rest) (positive (length t.rest) l) k
       where
         positive : (n : ℕ) → nat_eq n 0 ≡ false → 0 < n
@@ -93,7 +93,7 @@ pub line_stops : {A : Type 0} (form : List ℕ → Line A) (text : A → List �
 line_stops {A = A} form text P x p is are t e h = (
   zero,
   record { some = x; good = p; rest = text x; begins = refl; whole = omega arith; none = none },
-  told_at_front form t e h,
+  reported_at_front form t e h,
 )
   where
     none : zero < lf_count t.rest → (y : A) → P y → (more z : List ℕ) → text y ++ more ≡ first_lines 1 t.rest ++ z → ⊥
@@ -145,13 +145,13 @@ first_stops {A = A} {B = B} a b P Q others t e s =
       s.2,
     )
 
-told_later : (rest : List ℕ) (text lines : List ℕ) (a k n m : ℕ) (e : CertFault) → AreLines a lines → text ≡ lines ++ rest → m ≡ n + a → IsTold rest k m e → IsTold text (a + k) n e
-told_later rest text lines a k n m e l h i (told_line j f g) =
-    told_line j (omega (arith, f, i)) (subst (λ (x : List ℕ). length (first_lines (a + k) x) < length x) (sym h) (omega (arith, g, ap length (l.front k (a + k) rest refl), length-append lines (first_lines k rest), length-append lines rest)))
-told_later rest text lines a k n m e l h i (told_number j f g) =
-    told_number j (omega (arith, f, i)) (subst (λ (x : List ℕ). length (first_lines (a + k) x) < length x) (sym h) (omega (arith, g, ap length (l.front k (a + k) rest refl), length-append lines (first_lines k rest), length-append lines rest)))
-told_later rest text lines a k n m e l h i (told_short j f g) =
-    told_short j (omega (arith, f, i)) (ap (first_lines (a + k)) h ∙ l.front k (a + k) rest refl ∙ ap (λ (x : List ℕ). lines ++ x) g ∙ sym h)
+reported_later : (rest : List ℕ) (text lines : List ℕ) (a k n m : ℕ) (e : CertFault) → AreLines a lines → text ≡ lines ++ rest → m ≡ n + a → IsReported rest k m e → IsReported text (a + k) n e
+reported_later rest text lines a k n m e l h i (reported_line j f g) =
+    reported_line j (omega (arith, f, i)) (subst (λ (x : List ℕ). length (first_lines (a + k) x) < length x) (sym h) (omega (arith, g, ap length (l.front k (a + k) rest refl), length-append lines (first_lines k rest), length-append lines rest)))
+reported_later rest text lines a k n m e l h i (reported_number j f g) =
+    reported_number j (omega (arith, f, i)) (subst (λ (x : List ℕ). length (first_lines (a + k) x) < length x) (sym h) (omega (arith, g, ap length (l.front k (a + k) rest refl), length-append lines (first_lines k rest), length-append lines rest)))
+reported_later rest text lines a k n m e l h i (reported_short j f g) =
+    reported_short j (omega (arith, f, i)) (ap (first_lines (a + k)) h ∙ l.front k (a + k) rest refl ∙ ap (λ (x : List ℕ). lines ++ x) g ∙ sym h)
 
 pub second_stops : {A B : Type 0} (a : A → List ℕ) (b : B → List ℕ) (P : A → Type 0) (Q : A → B → Type 0) → Det a P → (t : Text) (x : A) (u : Text) (e : CertFault)
     → Went a P t x u → Stopped b (Q x) u e → Stopped (both_texts a b) (Both P Q) t e
@@ -174,7 +174,7 @@ second_stops {A = A} {B = B} a b P Q det t x u e w s =
             (sym (append_assoc (a y.0) (b y.1) more) ∙ g ∙ ap (λ (v : List ℕ). v ++ z) first ∙ append_assoc (a x) (first_lines (suc k) u.rest) z) in
             s.1.none (omega (arith, l, count)) y.1 (subst (λ (v : A). Q v y.1) d.0 p.1) more z d.1;
       },
-      told_later u.rest t.rest (a x) n k t.line u.line e w.are w.parts w.next s.2,
+      reported_later u.rest t.rest (a x) n k t.line u.line e w.are w.parts w.next s.2,
     )
 
 -- the same, of other values with the same texts
@@ -219,7 +219,7 @@ both_det {A = A} a b P Q first second (x, y) (v, w) m n p q e =
     let f = second v y w m n (subst (λ (z : A). Q z y) d.0 p.1) q.1 d.1 in
     (pair_is (x, y) v w d.0 f.0, f.1)
 
--- ---- so many, one behind the other
+-- ---- so many, one after the other
 
 abbrev pub AreSo : {A : Type 0} → (A → Type 0) → ℕ → List A → Type 0
 AreSo P n xs = (length xs ≡ n) × AllByRecursion P xs

@@ -68,7 +68,7 @@ line_is {A = A} form bytes n x rest l h =
     let e : nat_eq (length bytes) 0 ≡ false = grind (arith, nat_tests) in
     ap (λ (b : Bool). cond b (Err (faults.Short n)) (if_formed n (form bytes))) e ∙ ap (λ (o : Line A). if_formed n o) h
 
--- ---- many, one behind the other
+-- ---- many, one after the other
 
 joined : (a b x y z : List ℕ) → a ≡ x ++ b → b ≡ y ++ z → a ≡ (x ++ y) ++ z
 joined a b x y z e f = e ∙ ap (λ (t : List ℕ). x ++ t) f ∙ sym (append_assoc x y z)
@@ -88,7 +88,7 @@ many_gave {A = A} one text P gave (suc n) t xs u e =
     let whole : t.rest ≡ flat_map text (first.0 ∷ others.0) ++ others.1.rest = rw flat_map-cons (joined t.rest first.1.rest (text first.0) (flat_map text others.0) others.1.rest g.0 h.0) in
     subst (λ (y : List A × Text). (t.rest ≡ flat_map text y.0 ++ y.1.rest) × (length y.0 ≡ suc n) × AllByRecursion P y.0) p (whole, ap suc h.1, (g.1, h.2))))
 
--- it is read, and the reading goes on behind it
+-- it is read, and the reading goes on after it
 abbrev pub IsRead : {A : Type 0} → (Text → Lines A) → List ℕ → ℕ → A → List ℕ → Type 0
 IsRead one bytes n x rest = (m : ℕ) × (one (from bytes n) ≡ Ok (x, from rest m))
 

@@ -1,8 +1,9 @@
 -- What writing in pieces adds to a file.
-use Rattle.std.specs.Prelude.{◌≡◌, ℕ, List, [], ◌++◌, codes, Option, Some, None, Result, Ok, Err, ⊤, ◌⊎◌}
+use Rattle.std.specs.Prelude.{◌≡◌, ◌≤◌, ℕ, List, [], ◌++◌, codes, Option, Some, None, Result, Ok, Err, OnErr, ⊤, ◌⊎◌}
 use Rattle.std.specs.Fmt.{decimal}
 use Rattle.std.specs.FinMap as map
 use Rattle.ports.specs.declared.Failed.{Failed}
+use Rattle.ports.specs.Faults.{NoReadFell, Rose}
 use Rattle.ports.specs.Files.{Files, Gained, bytes_of}
 use Rattle.certificate.specs.declared.words.Word.{Word}
 use Rattle.certificate.specs.declared.words.Word.TheVariants.{Text, Number, Across}
@@ -21,7 +22,7 @@ abbrev pub Added : Option Files → List ℕ → List ℕ → Option Files → T
 Added None name bytes now = ⊤
 Added (Some files) name bytes now = ((bytes ≡ []) × (now ≡ Some files)) ⊎ (now ≡ Some (map.insert files name (bytes_of (map.get files name) ++ bytes)))
 
--- of this text the front was added to the file, and the rest waits
+-- of this text the front was added to the file, and the rest is in the buffer
 pub record Pending (before : Option Files) (name text : List ℕ) (now : Option Files) (waits : List ℕ) : Type 0 where
   pub gained : List ℕ
   pub parts : text ≡ gained ++ waits
@@ -32,6 +33,11 @@ abbrev pub Outcome : Result (Unit {0}) Failed → Option Files → List ℕ → 
 Outcome (Ok u) before name text now waits = Pending before name text now waits
 Outcome (Err e) before name text now waits = Gained before name text now
 
--- a call wrote these bytes behind whatever text was written before it
+-- a call wrote these bytes after whatever text was written before it
 abbrev pub Writes : List ℕ → List ℕ → Option Files → List ℕ → Result (Unit {0}) Failed → Option Files → List ℕ → Type 0
 Writes name bytes held waits result now left = (before : Option Files) (text : List ℕ) → Pending before name text held waits → Outcome result before name (text ++ bytes) now left
+
+-- no count of faults fell, and a call that failed raised that of failed writes
+abbrev pub OnlyWritesFail : (List ℕ → ℕ) → ℕ → Result (Unit {0}) Failed → (List ℕ → ℕ) → ℕ → Type 0
+OnlyWritesFail reads writes result reads_now writes_now =
+    NoReadFell reads reads_now × (writes ≤ writes_now) × OnErr result (Rose writes writes_now)

@@ -22,8 +22,8 @@ pub record Begin (bytes : List ℕ) : Type 0 where
   pub rest : List ℕ
   pub is : spelling list ≡ bytes ++ rest
 
--- Behind the first n lines, which begin the spelling of some list, stands a line that is bad: it has no LF, or with it they begin
--- no spelling.
+-- The first n lines begin the spelling of some list, and the next one is bad: it has no LF, or with it they begin no
+-- spelling.
 pub record IsFirstBad (bytes : List ℕ) (n : ℕ) : Type 0 where
   pub whole : n ≤ lf_count bytes
   pub begin : Begin (first_lines n bytes)

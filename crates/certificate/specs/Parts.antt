@@ -17,17 +17,17 @@ abbrev pub ◌>>=◌ : {A B : Type 0} → Option A → (A → Option B) → Opti
 (Some x) >>= f = f x
 None >>= f = None
 
--- a part at the front, and the bytes behind it; none where no such part stands there
+-- a part at the front, and the bytes after it; none where no such part is there
 abbrev pub Part : Type 0 → Type 0
 Part A = Option (A × List ℕ)
 
--- a line of a form, and the bytes behind it. None: it has not the form. Without a value: it has the form, but one of its numbers is spelt wrong
+-- a line of a form, and the bytes after it. None: it has not the form. Without a value: it has the form, but one of its numbers is spelt wrong
 abbrev pub Line : Type 0 → Type 0
 Line A = Part (Option A)
 
--- the bytes behind a word
-abbrev pub behind : List ℕ → List ℕ → Option (List ℕ)
-behind word bytes = cond (pointwise nat_eq (take (length word) bytes) word) (Some (drop (length word) bytes)) None
+-- the bytes after a word
+abbrev pub after_word : List ℕ → List ℕ → Option (List ℕ)
+after_word word bytes = cond (pointwise nat_eq (take (length word) bytes) word) (Some (drop (length word) bytes)) None
 
 -- the bytes at the front that pass, at least one
 abbrev pub front_of : {A : Type 0} → (List ℕ → A) → ℕ → List ℕ → Part A
@@ -76,9 +76,9 @@ half_note label link rank = do
 unfoldable pub half_at : List ℕ → Line HalfNote
 half_at bytes = do
   label ← number_at bytes
-  a ← behind (codes " ") label.1
+  a ← after_word (codes " ") label.1
   link ← link_at a
-  b ← behind (codes " ") link.1
+  b ← after_word (codes " ") link.1
   rank ← number_at b
   Some (half_note label.0 link.0 rank.0, rank.1)
 
@@ -91,19 +91,19 @@ both_notes below above = do
 -- the line of an edge
 unfoldable pub edge_at : List ℕ → Line (HalfNote × HalfNote)
 edge_at bytes = do
-  a ← behind (codes "E ") bytes
+  a ← after_word (codes "E ") bytes
   below ← half_at a
-  b ← behind (codes " ") below.1
+  b ← after_word (codes " ") below.1
   above ← half_at b
-  c ← behind (codes "\n") above.1
+  c ← after_word (codes "\n") above.1
   Some (both_notes below.0 above.0, c)
 
--- a number behind a word, and the end of the line
+-- a number after a word, and the end of the line
 unfoldable pub numbered_at : List ℕ → List ℕ → Line ℕ
 numbered_at word bytes = do
-  a ← behind word bytes
+  a ← after_word word bytes
   n ← number_at a
-  b ← behind (codes "\n") n.1
+  b ← after_word (codes "\n") n.1
   Some (n.0, b)
 
 -- the line of an event
@@ -123,9 +123,9 @@ tube (Some curve) inside = Some (Tube curve inside)
 unfoldable pub tube_at : List ℕ → Line PointPlace
 tube_at bytes = do
   curve ← number_at bytes
-  a ← behind (codes " ") curve.1
+  a ← after_word (codes " ") curve.1
   side ← side_at a
-  b ← behind (codes "\n") side.1
+  b ← after_word (codes "\n") side.1
   Some (tube curve.0 side.0, b)
 
 abbrev pub cell : Option ℕ → Option PointPlace
@@ -135,13 +135,13 @@ cell (Some position) = Some (Cell position)
 unfoldable pub cell_at : List ℕ → Line PointPlace
 cell_at bytes = numbered_at (codes "P ") bytes >>= λ n. Some (cell n.0, n.1)
 
-abbrev pub place_behind : List ℕ → Option (List ℕ) → Line PointPlace
-place_behind bytes None = cell_at bytes
-place_behind bytes (Some rest) = tube_at rest
+abbrev pub place_after : List ℕ → Option (List ℕ) → Line PointPlace
+place_after bytes None = cell_at bytes
+place_after bytes (Some rest) = tube_at rest
 
 -- the line of a point
 abbrev pub place_at : List ℕ → Line PointPlace
-place_at bytes = place_behind bytes (behind (codes "P T ") bytes)
+place_at bytes = place_after bytes (after_word (codes "P T ") bytes)
 
 -- the names of a certificate
 pub record Title : Type 0 where
@@ -152,13 +152,13 @@ pub record Title : Type 0 where
 -- the line of the names
 unfoldable pub title_at : List ℕ → Line Title
 title_at bytes = do
-  a ← behind (codes "AREA ") bytes
+  a ← after_word (codes "AREA ") bytes
   topic ← name_at a
-  b ← behind (codes " ") topic.1
+  b ← after_word (codes " ") topic.1
   table ← name_at b
-  c ← behind (codes " ") table.1
+  c ← after_word (codes " ") table.1
   attribute ← name_at c
-  d ← behind (codes "\n") attribute.1
+  d ← after_word (codes "\n") attribute.1
   Some (Some (record { topic = topic.0; table = table.0; attribute = attribute.0 }), d)
 
 -- the counts of edges, events and points
@@ -178,15 +178,15 @@ if_level (Some level) (Some counts) bytes = cond (nat_lt level 256) (Some (Some 
 -- the line of the level and the counts
 unfoldable pub sizes_at : List ℕ → Line (ℕ × Counts)
 sizes_at bytes = do
-  a ← behind (codes "SIZES ") bytes
+  a ← after_word (codes "SIZES ") bytes
   level ← number_at a
-  b ← behind (codes " ") level.1
+  b ← after_word (codes " ") level.1
   edges ← number_at b
-  c ← behind (codes " ") edges.1
+  c ← after_word (codes " ") edges.1
   events ← number_at c
-  d ← behind (codes " ") events.1
+  d ← after_word (codes " ") events.1
   points ← number_at d
-  e ← behind (codes "\n") points.1
+  e ← after_word (codes "\n") points.1
   if_level level.0 (counts_of edges.0 events.0 points.0) e
 
 -- no line has a version but 1
@@ -205,5 +205,5 @@ areas_at bytes = numbered_at (codes "AREAS ") bytes
 -- the line that closes a certificate
 unfoldable pub end_at : List ℕ → Line (Unit {0})
 end_at bytes = do
-  a ← behind (codes "END\n") bytes
+  a ← after_word (codes "END\n") bytes
   Some (Some tt, a)

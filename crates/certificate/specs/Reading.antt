@@ -1,15 +1,13 @@
 -- A certificate's text line by line, up to its first bad line.
 use Rattle.std.specs.Prelude.{◌≡◌, ℕ, zero, suc, ◌+◌, cond, nat_eq, List, [], ◌∷◌, length, Option, Some, None, Result, Ok, Err, ⊤}
-use Rattle.std.specs.Borrow.{Bor}
 use Rattle.certificate.specs.declared.notes.HalfNote.{HalfNote}
 use Rattle.certificate.specs.declared.notes.PointPlace.{PointPlace}
 use Rattle.certificate.specs.declared.fault.CertFault.{CertFault}
 use Rattle.certificate.specs.declared.fault.CertFault.TheVariants as faults
-use Rattle.certificate.specs.declared.text.Text.{Text as CodeText}
 use Rattle.certificate.specs.Spelling.{Plain}
 use Rattle.certificate.specs.Parts.{Line, Title, version_at, areas_at, title_at, sizes_at, event_at, edge_at, place_at, end_at}
 
--- what stands from the front of a line on, and that line's number
+-- a text from the front of a line on, and that line's number
 pub record Text : Type 0 where
   pub rest : List ℕ
   pub line : ℕ
@@ -19,7 +17,7 @@ abbrev pub ◌>>=◌ : {A B : Type 0} → Result A CertFault → (A → Result B
 (Ok x) >>= f = f x
 (Err e) >>= f = Err e
 
--- a value, and the text behind its lines
+-- a value, and the text after its lines
 abbrev pub Lines : Type 0 → Type 0
 Lines A = Result (A × Text) CertFault
 
@@ -39,7 +37,7 @@ line_of text found = cond (nat_eq (length text.rest) 0) (Err (faults.Short text.
 abbrev pub line_at : {A : Type 0} → (List ℕ → Line A) → Text → Lines A
 line_at form text = line_of text (form text.rest)
 
--- so many of them, one behind the other
+-- that many of them, one after the other
 unfoldable pub many_at : {A : Type 0} → (Text → Lines A) → ℕ → Text → Lines (List A)
 many_at one zero text = Ok ([], text)
 many_at one (suc n) text = do
@@ -62,7 +60,7 @@ certificate_at text = do
   end ← line_at end_at places.1
   Ok (plain title.0 sizes.0.0 positions.0 edges.0 places.0, end.1)
 
--- nothing stands behind the list
+-- nothing follows the list
 abbrev pub if_ended : List Plain → Text → Result (List Plain) CertFault
 if_ended list text = cond (nat_eq (length text.rest) 0) (Ok list) (Err (faults.Line text.line))
 
@@ -74,14 +72,7 @@ list_of bytes = do
   list ← many_at certificate_at areas.0 areas.1
   if_ended list.0 list.1
 
-abbrev pub text_of : CodeText → Text
-text_of text = record { rest = text.rest.now; line = text.line }
-
--- a value and the bytes behind it
-abbrev pub seen : {A : Type 0} → A × Bor (List ℕ) → A × List ℕ
-seen found = (found.0, found.1.now)
-
--- what a function returned, seen by view, is what stands there, unless memory ran out
+-- what a function returned, seen by view, is what is there, unless memory ran out
 abbrev pub Fails : {Y : Type 0} → CertFault → Result Y CertFault → Type 0
 Fails faults.Memory read = ⊤
 Fails (faults.Line line) read = read ≡ Err (faults.Line line)
@@ -92,7 +83,7 @@ abbrev pub Gives : {X Y : Type 0} → (X → Y) → Result X CertFault → Resul
 Gives view (Ok x) read = read ≡ Ok (view x)
 Gives view (Err e) read = Fails e read
 
--- what a function found at the front of some bytes, seen by view, is what stands there
+-- what a function found at the front of some bytes, seen by view, is what is there
 abbrev pub Finds : {X Y : Type 0} → (X → Y) → Option X → Option Y → Type 0
 Finds view (Some x) found = found ≡ Some (view x)
 Finds view None found = found ≡ None

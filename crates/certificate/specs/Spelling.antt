@@ -19,7 +19,7 @@ pub record Plain : Type 0 where
   pub edges : List (HalfNote × HalfNote)
   pub places : List PointPlace
 
--- words with one blank between two, and LF behind the last
+-- words with one blank between two, and LF after the last
 abbrev pub line : List (List ℕ) → List ℕ
 line [] = codes "\n"
 line (word ∷ []) = word ++ codes "\n"

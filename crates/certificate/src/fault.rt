@@ -19,7 +19,7 @@ pub enum CertFault {
     /// The text ends before this line, which it still asks for.
     #[error("line {0} is missing")]
     Short(u32),
-    /// Want of memory.
+    /// Out of memory.
     #[error("out of memory")]
     Memory,
 }

@@ -9,8 +9,8 @@ pub fn one_list()
     ensures { (a b : List Plain) → AreSpelt a → AreSpelt b → spelling a ≡ spelling b → a ≡ b }
 {}
 
-/// Notes that have partners are told by their pairs, so that a contract that speaks of pairs
-/// speaks of all notes.
+/// Notes that have partners are given by their pairs, so that a contract about pairs is one about
+/// all notes.
 pub fn one_pairing()
     ensures { (a b : List HalfNote) → ArePaired a → ArePaired b → pairs a ≡ pairs b → a ≡ b }
 {}

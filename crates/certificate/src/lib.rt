@@ -1,13 +1,13 @@
 //! The text of certificates, both ways.
 //!
 //! A certificate is what an office files as the proof that the objects of an AREA attribute part
-//! the plane: where the edges stand when a line sweeps over them, what region lies on either side
+//! the plane: the order of the edges when a line sweeps over them, what region lies on either side
 //! of each, and in which region each object's point lies. This crate turns a list of certificates
 //! into the bytes of the public format, version 1, and back. `docs/certificate-format.md` gives
 //! the format and the rules by which a certificate is judged.
 //!
 //! - **The definition.** `specs/Spelling.antt` has the text as a function of the list. Its lines
-//!   are words with one blank between, and LF behind each line.
+//!   are words with one blank between, and LF after each line.
 //! - **`write`** appends exactly that text to the named file and changes no other. It takes no
 //!   memory: bytes are gathered in a page of 4,096 bytes on the stack, a file system's block, so
 //!   that some two hundred lines go out in one call. After a failure the file has a front of the
@@ -15,11 +15,11 @@
 //! - **`read`** gives the one list that the bytes spell, or the first bad line: `Short` where the
 //!   text ends before it, `Number` where it has its form but a number with a leading zero or one
 //!   above 4,294,967,295, `Line` where it has not its form. `specs/Parts.antt` has the forms.
-//! - **Degenerate cases.** The empty list has two lines. A last line without LF, a line behind the
+//! - **Degenerate cases.** The empty list has two lines. A last line without LF, a line after the
 //!   list, a level above 255, a version but 1 and an empty name are bad lines of the kind `Line`.
 //!   An empty text is short of line 1.
 //! - **Not here:** whether a certificate proves anything. A level of 200, names of no area and a
-//!   circle of links are read and written like others.
+//!   cycle of links are read and written like others.
 //! - **Cost.** Both calls are linear in the text. `read` grows its lists by the lines that come,
 //!   never by a count that the text promises, so time and memory are bounded by the text's length
 //!   whatever its counts say. A number is read digit by digit, whatever its length.

@@ -1,37 +1,34 @@
 // Lines that are gathered, and appended to a file a page at a time.
-ghost use Rattle.std.specs.Prelude.{◌≡◌, ◌≤◌, ◌++◌, ◌∷◌, ◌<◌, [], ℕ, List, OnOk, OnErr, map, codes};
+ghost use Rattle.std.specs.Prelude.{◌≡◌, ◌++◌, ◌∷◌, [], OnOk, map, codes};
 ghost use Rattle.std.specs.Fmt.{decimal};
 ghost use Rattle.std.specs.List.{flat_map};
-ghost use Rattle.ports.specs.Faults.{NoReadFell, Rose};
 ghost use Rattle.certificate.specs.Spelling.{line};
-ghost use Rattle.certificate.specs.Appending.{Writes, word_text, next_word};
+ghost use Rattle.certificate.specs.Appending.{OnlyWritesFail, Writes, word_text, next_word};
 
 use crate::page::Page;
 use crate::words::Word;
 use itoa::Buffer;
 use ports::{Failed, Shelf};
 
-/// Appends the bytes that wait.
+/// Appends the buffered bytes to the file.
 pub fn flush<S: Shelf>(shelf: &mut S, name: &str, page: &mut Page) -> Result<(), Failed>
     ensures written { Writes name.now [] (S.held shelf.old) page.old result (S.held shelf.new)
         page.new }
     ensures empty { OnOk result (page.new ≡ []) }
-    ensures reads { NoReadFell (S.read_faults shelf.old) (S.read_faults shelf.new) }
-    ensures writes { S.write_faults shelf.old ≤ S.write_faults shelf.new }
-    ensures cause { OnErr result (Rose (S.write_faults shelf.old) (S.write_faults shelf.new)) }
+    ensures faults { OnlyWritesFail (S.read_faults shelf.old) (S.write_faults shelf.old) result
+        (S.read_faults shelf.new) (S.write_faults shelf.new) }
 {
     shelf.append(name, page.bytes())?;
     page.clear();
     Ok(())
 }
 
-// Adds some bytes; what has no room in a page is appended at once.
+// Adds some bytes; those that have no room in a page are appended at once.
 fn put<S: Shelf>(shelf: &mut S, name: &str, page: &mut Page, bytes: &[u8]) -> Result<(), Failed>
     ensures written { Writes name.now bytes.now (S.held shelf.old) page.old result
         (S.held shelf.new) page.new }
-    ensures reads { NoReadFell (S.read_faults shelf.old) (S.read_faults shelf.new) }
-    ensures writes { S.write_faults shelf.old ≤ S.write_faults shelf.new }
-    ensures cause { OnErr result (Rose (S.write_faults shelf.old) (S.write_faults shelf.new)) }
+    ensures faults { OnlyWritesFail (S.read_faults shelf.old) (S.write_faults shelf.old) result
+        (S.read_faults shelf.new) (S.write_faults shelf.new) }
 {
     if page.add(bytes) {
         return Ok(());
@@ -52,9 +49,8 @@ fn put_number<S: Shelf>(
 ) -> Result<(), Failed>
     ensures written { Writes name.now (decimal number) (S.held shelf.old) page.old result
         (S.held shelf.new) page.new }
-    ensures reads { NoReadFell (S.read_faults shelf.old) (S.read_faults shelf.new) }
-    ensures writes { S.write_faults shelf.old ≤ S.write_faults shelf.new }
-    ensures cause { OnErr result (Rose (S.write_faults shelf.old) (S.write_faults shelf.new)) }
+    ensures faults { OnlyWritesFail (S.read_faults shelf.old) (S.write_faults shelf.old) result
+        (S.read_faults shelf.new) (S.write_faults shelf.new) }
 {
     let mut digits = Buffer::new();
     put(shelf, name, page, digits.format(number).as_bytes())
@@ -64,9 +60,8 @@ fn put_number<S: Shelf>(
 fn put_across<S: Shelf>(shelf: &mut S, name: &str, page: &mut Page, half: u64) -> Result<(), Failed>
     ensures written { Writes name.now (codes "C" ++ decimal half) (S.held shelf.old) page.old result
         (S.held shelf.new) page.new }
-    ensures reads { NoReadFell (S.read_faults shelf.old) (S.read_faults shelf.new) }
-    ensures writes { S.write_faults shelf.old ≤ S.write_faults shelf.new }
-    ensures cause { OnErr result (Rose (S.write_faults shelf.old) (S.write_faults shelf.new)) }
+    ensures faults { OnlyWritesFail (S.read_faults shelf.old) (S.write_faults shelf.old) result
+        (S.read_faults shelf.new) (S.write_faults shelf.new) }
 {
     put(shelf, name, page, b"C")?;
     put_number(shelf, name, page, half)
@@ -81,9 +76,8 @@ fn put_word<S: Shelf>(
 ) -> Result<(), Failed>
     ensures written { Writes name.now (word_text word.now) (S.held shelf.old) page.old result
         (S.held shelf.new) page.new }
-    ensures reads { NoReadFell (S.read_faults shelf.old) (S.read_faults shelf.new) }
-    ensures writes { S.write_faults shelf.old ≤ S.write_faults shelf.new }
-    ensures cause { OnErr result (Rose (S.write_faults shelf.old) (S.write_faults shelf.new)) }
+    ensures faults { OnlyWritesFail (S.read_faults shelf.old) (S.write_faults shelf.old) result
+        (S.read_faults shelf.new) (S.write_faults shelf.new) }
 {
     match *word {
         Word::Text(bytes) => put(shelf, name, page, bytes),
@@ -101,9 +95,8 @@ fn put_next<S: Shelf>(
 ) -> Result<(), Failed>
     ensures written { Writes name.now (next_word word.now) (S.held shelf.old) page.old result
         (S.held shelf.new) page.new }
-    ensures reads { NoReadFell (S.read_faults shelf.old) (S.read_faults shelf.new) }
-    ensures writes { S.write_faults shelf.old ≤ S.write_faults shelf.new }
-    ensures cause { OnErr result (Rose (S.write_faults shelf.old) (S.write_faults shelf.new)) }
+    ensures faults { OnlyWritesFail (S.read_faults shelf.old) (S.write_faults shelf.old) result
+        (S.read_faults shelf.new) (S.write_faults shelf.new) }
 {
     put(shelf, name, page, b" ")?;
     put_word(shelf, name, page, word)
@@ -118,9 +111,8 @@ fn put_words<S: Shelf>(
 ) -> Result<(), Failed>
     ensures written { Writes name.now (flat_map next_word words.now) (S.held shelf.old) page.old
         result (S.held shelf.new) page.new }
-    ensures reads { NoReadFell (S.read_faults shelf.old) (S.read_faults shelf.new) }
-    ensures writes { S.write_faults shelf.old ≤ S.write_faults shelf.new }
-    ensures cause { OnErr result (Rose (S.write_faults shelf.old) (S.write_faults shelf.new)) }
+    ensures faults { OnlyWritesFail (S.read_faults shelf.old) (S.write_faults shelf.old) result
+        (S.read_faults shelf.new) (S.write_faults shelf.new) }
 {
     for word in words {
         put_next(shelf, name, page, word)?;
@@ -138,9 +130,8 @@ pub fn put_line<S: Shelf>(
 ) -> Result<(), Failed>
     ensures written { Writes name.now (line (first.now ∷ map word_text words.now))
         (S.held shelf.old) page.old result (S.held shelf.new) page.new }
-    ensures reads { NoReadFell (S.read_faults shelf.old) (S.read_faults shelf.new) }
-    ensures writes { S.write_faults shelf.old ≤ S.write_faults shelf.new }
-    ensures cause { OnErr result (Rose (S.write_faults shelf.old) (S.write_faults shelf.new)) }
+    ensures faults { OnlyWritesFail (S.read_faults shelf.old) (S.write_faults shelf.old) result
+        (S.read_faults shelf.new) (S.write_faults shelf.new) }
 {
     put(shelf, name, page, first)?;
     put_words(shelf, name, page, words)?;

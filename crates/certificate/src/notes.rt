@@ -1,4 +1,4 @@
-// What a certificate says.
+// What a certificate claims.
 use ports::Name;
 
 /// How a half-edge leads on to another one, up to a root.
@@ -27,7 +27,7 @@ pub struct HalfNote {
 /// Where an object's point lies.
 #[derive(Clone, Copy, Debug, PartialEq, Eq)]
 pub enum PointPlace {
-    /// In the cell above so many edges of the live list.
+    /// In the cell above that many edges of the live list.
     Cell(u32),
     /// In the tube of the curve of that number.
     Tube { curve: u32, inside: bool },
@@ -40,7 +40,7 @@ pub struct Certificate {
     pub table: Name,
     pub attribute: Name,
     pub level: u8,
-    /// For each event where its edges stand in the live list.
+    /// For each event the place of its edges in the live list.
     pub positions: Vec<u32>,
     /// Two notes for each edge: of its half-edge below, then of that above. A last note without a
     /// partner is in no text.

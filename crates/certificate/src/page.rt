@@ -1,4 +1,4 @@
-// Bytes that wait to be appended to a file.
+// The buffer of a file that is appended to.
 ghost use Rattle.std.specs.Prelude.{◌≡◌, ◌++◌, [], IsTrue, IsFalse};
 
 use std::marker::Model;
@@ -7,7 +7,7 @@ use std::marker::Model;
 // two hundred lines go out in one call, and the stack holds it with ease.
 const SIZE: usize = 4096;
 
-/// Bytes that wait to be appended, seen as a list.
+/// The bytes that are still to be appended, seen as a list.
 #[derive(Drop)]
 pub struct Page {
     bytes: [u8; SIZE],
@@ -25,7 +25,7 @@ impl Model for Page {
 }
 
 impl Page {
-    /// Nothing waits.
+    /// An empty buffer.
     pub fn new() -> Page
         ensures { result ≡ [] }
     {
@@ -35,7 +35,7 @@ impl Page {
         }
     }
 
-    /// The bytes that wait.
+    /// The buffered bytes.
     pub fn bytes(&self) -> &[u8]
         ensures { result.now ≡ self.now }
     {
@@ -56,7 +56,7 @@ impl Page {
         true
     }
 
-    /// Lets the bytes go.
+    /// Empties the buffer.
     pub fn clear(&mut self)
         ensures { self.new ≡ [] }
     {

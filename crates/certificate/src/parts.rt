@@ -1,18 +1,28 @@
-// The parts of a line, from left to right.
+// The parts of a line, from left to right: each function finds one at the front of some bytes.
 ghost use Rattle.std.specs.Prelude.{◌≡◌, ◌<◌, ◌≤◌, ◌^◌, ◌+◌, min, length, IfSome, true};
 ghost use Rattle.std.specs.List.{prefix_len};
 ghost use Rattle.std.specs.Char.{is_ascii_digit};
 ghost use Rattle.std.specs.Str.{all_ascii_digits};
 ghost use Rattle.std.specs.Str.Parse.{digits_value};
 ghost use Rattle.certificate.specs.Spelling.{is_name_byte};
-ghost use Rattle.certificate.specs.Reading.{Finds, seen};
-ghost use Rattle.certificate.specs.Parts.{behind, name_at, number, number_at, link_at, half_note, half_at, has_leading_zero, side_at};
+ghost use Rattle.certificate.specs.Reading.{Finds};
+ghost use Rattle.certificate.specs.Views.{found_view};
+ghost use Rattle.certificate.specs.Parts.{after_word, name_at, number, number_at, link_at};
+ghost use Rattle.certificate.specs.Parts.{half_note, half_at, has_leading_zero, side_at};
 
 use crate::notes::{HalfNote, Link};
 
-// The bytes behind a word at the front.
-pub fn behind<'a>(bytes: &'a [u8], word: &[u8]) -> Option<&'a [u8]>
-    ensures value { Finds (λ rest. rest.now) result (behind word.now bytes.now) }
+/// What a function finds at the front of some bytes, and the bytes after it; none where it is not
+/// there. An `Option`, so that `?` leads from one part of a line to the next.
+pub type Part<'a, T> = Option<(T, &'a [u8])>;
+
+/// A part or a line with numbers: it has no value where it has its form, but one of its numbers is
+/// spelt wrong.
+pub type Spelt<'a, T> = Part<'a, Option<T>>;
+
+// The bytes after a word at the front.
+pub fn after_word<'a>(bytes: &'a [u8], word: &[u8]) -> Option<&'a [u8]>
+    ensures value { Finds (λ rest. rest.now) result (after_word word.now bytes.now) }
     ensures shorter { IfSome result (λ rest. length rest.now + length word.now ≤ length bytes.now) }
 {
     bytes.strip_prefix(word)
@@ -31,10 +41,10 @@ fn name_len(bytes: &[u8]) -> usize
     bytes.len()
 }
 
-// A name at the front, and the bytes behind it.
-pub fn name_at(bytes: &[u8]) -> Option<(&[u8], &[u8])>
-    ensures value { Finds (λ found. (found.0.now, found.1.now)) result (name_at bytes.now) }
-    ensures shorter { IfSome result (λ found. length found.1.now < length bytes.now) }
+// A name at the front.
+pub fn name_at(bytes: &[u8]) -> Part<'_, &[u8]>
+    ensures value { Finds (λ part. (part.0.now, part.1.now)) result (name_at bytes.now) }
+    ensures shorter { IfSome result (λ part. length part.1.now < length bytes.now) }
 {
     let length = name_len(bytes);
     if length == 0 {
@@ -89,11 +99,11 @@ fn number(digits: &[u8]) -> Option<u32>
     Some(value as u32)
 }
 
-// A run of digits at the front, read as a number, and the bytes behind it.
+// A run of digits at the front, read as a number.
 #[tactic(auto, using(crate::proofs::Digits::front_is_digits))]
-pub fn number_at(bytes: &[u8]) -> Option<(Option<u32>, &[u8])>
-    ensures value { Finds seen result (number_at bytes.now) }
-    ensures shorter { IfSome result (λ found. length found.1.now < length bytes.now) }
+pub fn number_at(bytes: &[u8]) -> Spelt<'_, u32>
+    ensures value { Finds found_view result (number_at bytes.now) }
+    ensures shorter { IfSome result (λ part. length part.1.now < length bytes.now) }
 {
     let length = digits_len(bytes);
     if length == 0 {
@@ -103,10 +113,10 @@ pub fn number_at(bytes: &[u8]) -> Option<(Option<u32>, &[u8])>
     Some((number(digits), rest))
 }
 
-// A link at the front, and the bytes behind it.
-fn link_at(bytes: &[u8]) -> Option<(Option<Link>, &[u8])>
-    ensures value { Finds seen result (link_at bytes.now) }
-    ensures shorter { IfSome result (λ found. length found.1.now < length bytes.now) }
+// A link at the front.
+fn link_at(bytes: &[u8]) -> Spelt<'_, Link>
+    ensures value { Finds found_view result (link_at bytes.now) }
+    ensures shorter { IfSome result (λ part. length part.1.now < length bytes.now) }
 {
     match bytes {
         [b'R', rest @ ..] => Some((Some(Link::Root), rest)),
@@ -131,22 +141,22 @@ fn half_note(label: Option<u32>, link: Option<Link>, rank: Option<u32>) -> Optio
     })
 }
 
-// The note of a half-edge at the front, and the bytes behind it.
+// The note of a half-edge at the front.
 #[tactic(auto, unfolding(crate::specs::Parts::half_at))]
-pub fn half_at(bytes: &[u8]) -> Option<(Option<HalfNote>, &[u8])>
-    ensures value { Finds seen result (half_at bytes.now) }
-    ensures shorter { IfSome result (λ found. length found.1.now < length bytes.now) }
+pub fn half_at(bytes: &[u8]) -> Spelt<'_, HalfNote>
+    ensures value { Finds found_view result (half_at bytes.now) }
+    ensures shorter { IfSome result (λ part. length part.1.now < length bytes.now) }
 {
     let (label, rest) = number_at(bytes)?;
-    let (link, rest) = link_at(behind(rest, b" ")?)?;
-    let (rank, rest) = number_at(behind(rest, b" ")?)?;
+    let (link, rest) = link_at(after_word(rest, b" ")?)?;
+    let (rank, rest) = number_at(after_word(rest, b" ")?)?;
     Some((half_note(label, link, rank), rest))
 }
 
-// The side of a point in a tube at the front, true for inside, and the bytes behind it.
-pub fn side_at(bytes: &[u8]) -> Option<(bool, &[u8])>
-    ensures value { Finds seen result (side_at bytes.now) }
-    ensures shorter { IfSome result (λ found. length found.1.now < length bytes.now) }
+// The side of a point in a tube at the front, true for inside.
+pub fn side_at(bytes: &[u8]) -> Part<'_, bool>
+    ensures value { Finds found_view result (side_at bytes.now) }
+    ensures shorter { IfSome result (λ part. length part.1.now < length bytes.now) }
 {
     match bytes {
         [b'I', rest @ ..] => Some((true, rest)),

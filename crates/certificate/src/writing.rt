@@ -1,10 +1,12 @@
 // A certificate's text, written line by line.
-ghost use Rattle.std.specs.Prelude.{◌≡◌, ◌≤◌, ◌++◌, ◌∷◌, ◌<◌, [], ℕ, List, ◌^◌, OnOk, OnErr, IfSome, IfNone, length};
+ghost use Rattle.std.specs.Prelude.{◌≡◌, ◌≤◌, ◌++◌, ◌∷◌, ◌<◌, [], OnOk, OnErr};
+ghost use Rattle.std.specs.Prelude.{IfSome, IfNone, length};
 ghost use Rattle.std.specs.List.{flat_map};
 ghost use Rattle.ports.specs.Faults.{NoReadFell, Rose};
 ghost use Rattle.ports.specs.Files.{Puts, Gained, OthersStay, bytes_of};
-ghost use Rattle.certificate.specs.Spelling.{event_line, edge_line, place_line, pairs, title_line, sizes_line, certificate_text, spelling, view, views};
-ghost use Rattle.certificate.specs.Appending.{Writes};
+ghost use Rattle.certificate.specs.Spelling.{event_line, edge_line, place_line, pairs, title_line};
+ghost use Rattle.certificate.specs.Spelling.{sizes_line, certificate_text, spelling, view, views};
+ghost use Rattle.certificate.specs.Appending.{OnlyWritesFail, Writes};
 
 use crate::lines::{flush, put_line};
 use crate::notes::{Certificate, HalfNote, PointPlace};
@@ -21,9 +23,8 @@ fn put_event<S: Shelf>(
 ) -> Result<(), Failed>
     ensures written { Writes name.now (event_line position) (S.held shelf.old) page.old result
         (S.held shelf.new) page.new }
-    ensures reads { NoReadFell (S.read_faults shelf.old) (S.read_faults shelf.new) }
-    ensures writes { S.write_faults shelf.old ≤ S.write_faults shelf.new }
-    ensures cause { OnErr result (Rose (S.write_faults shelf.old) (S.write_faults shelf.new)) }
+    ensures faults { OnlyWritesFail (S.read_faults shelf.old) (S.write_faults shelf.old) result
+        (S.read_faults shelf.new) (S.write_faults shelf.new) }
 {
     put_line(
         shelf,
@@ -44,9 +45,8 @@ fn put_edge<S: Shelf>(
 ) -> Result<(), Failed>
     ensures written { Writes name.now (edge_line (below.now, above.now)) (S.held shelf.old) page.old
         result (S.held shelf.new) page.new }
-    ensures reads { NoReadFell (S.read_faults shelf.old) (S.read_faults shelf.new) }
-    ensures writes { S.write_faults shelf.old ≤ S.write_faults shelf.new }
-    ensures cause { OnErr result (Rose (S.write_faults shelf.old) (S.write_faults shelf.new)) }
+    ensures faults { OnlyWritesFail (S.read_faults shelf.old) (S.write_faults shelf.old) result
+        (S.read_faults shelf.new) (S.write_faults shelf.new) }
 {
     let words = [
         Word::Number(u64::from(below.label)),
@@ -68,9 +68,8 @@ fn put_place<S: Shelf>(
 ) -> Result<(), Failed>
     ensures written { Writes name.now (place_line place.now) (S.held shelf.old) page.old result
         (S.held shelf.new) page.new }
-    ensures reads { NoReadFell (S.read_faults shelf.old) (S.read_faults shelf.new) }
-    ensures writes { S.write_faults shelf.old ≤ S.write_faults shelf.new }
-    ensures cause { OnErr result (Rose (S.write_faults shelf.old) (S.write_faults shelf.new)) }
+    ensures faults { OnlyWritesFail (S.read_faults shelf.old) (S.write_faults shelf.old) result
+        (S.read_faults shelf.new) (S.write_faults shelf.new) }
 {
     match *place {
         PointPlace::Cell(position) => {
@@ -102,9 +101,8 @@ fn put_title<S: Shelf>(
 ) -> Result<(), Failed>
     ensures written { Writes name.now (title_line (view certificate.now)) (S.held shelf.old)
         page.old result (S.held shelf.new) page.new }
-    ensures reads { NoReadFell (S.read_faults shelf.old) (S.read_faults shelf.new) }
-    ensures writes { S.write_faults shelf.old ≤ S.write_faults shelf.new }
-    ensures cause { OnErr result (Rose (S.write_faults shelf.old) (S.write_faults shelf.new)) }
+    ensures faults { OnlyWritesFail (S.read_faults shelf.old) (S.write_faults shelf.old) result
+        (S.read_faults shelf.new) (S.write_faults shelf.new) }
 {
     let words = [
         Word::Text(certificate.topic.bytes()),
@@ -131,9 +129,8 @@ fn put_sizes<S: Shelf>(
 ) -> Result<(), Failed>
     ensures written { Writes name.now (sizes_line (view certificate.now)) (S.held shelf.old)
         page.old result (S.held shelf.new) page.new }
-    ensures reads { NoReadFell (S.read_faults shelf.old) (S.read_faults shelf.new) }
-    ensures writes { S.write_faults shelf.old ≤ S.write_faults shelf.new }
-    ensures cause { OnErr result (Rose (S.write_faults shelf.old) (S.write_faults shelf.new)) }
+    ensures faults { OnlyWritesFail (S.read_faults shelf.old) (S.write_faults shelf.old) result
+        (S.read_faults shelf.new) (S.write_faults shelf.new) }
 {
     let words = [
         Word::Number(u64::from(certificate.level)),
@@ -153,9 +150,8 @@ fn put_events<S: Shelf>(
 ) -> Result<(), Failed>
     ensures written { Writes name.now (flat_map event_line positions.now) (S.held shelf.old)
         page.old result (S.held shelf.new) page.new }
-    ensures reads { NoReadFell (S.read_faults shelf.old) (S.read_faults shelf.new) }
-    ensures writes { S.write_faults shelf.old ≤ S.write_faults shelf.new }
-    ensures cause { OnErr result (Rose (S.write_faults shelf.old) (S.write_faults shelf.new)) }
+    ensures faults { OnlyWritesFail (S.read_faults shelf.old) (S.write_faults shelf.old) result
+        (S.read_faults shelf.new) (S.write_faults shelf.new) }
 {
     for position in positions {
         put_event(shelf, name, page, *position)?;
@@ -163,7 +159,7 @@ fn put_events<S: Shelf>(
     Ok(())
 }
 
-// The notes of the first edge, and the notes behind them.
+// The notes of the first edge, and the notes after them.
 fn split_edge(notes: &[HalfNote]) -> Option<(HalfNote, HalfNote, &[HalfNote])>
     ensures some { IfSome result (λ x. pairs notes.now ≡ (x.0, x.1) ∷ pairs x.2.now) }
     ensures none { IfNone result (pairs notes.now ≡ []) }
@@ -184,9 +180,8 @@ fn put_edges<S: Shelf>(
 ) -> Result<(), Failed>
     ensures written { Writes name.now (flat_map edge_line (pairs notes.now)) (S.held shelf.old)
         page.old result (S.held shelf.new) page.new }
-    ensures reads { NoReadFell (S.read_faults shelf.old) (S.read_faults shelf.new) }
-    ensures writes { S.write_faults shelf.old ≤ S.write_faults shelf.new }
-    ensures cause { OnErr result (Rose (S.write_faults shelf.old) (S.write_faults shelf.new)) }
+    ensures faults { OnlyWritesFail (S.read_faults shelf.old) (S.write_faults shelf.old) result
+        (S.read_faults shelf.new) (S.write_faults shelf.new) }
 {
     let mut rest = notes;
     while let Some((below, above, others)) = split_edge(rest) {
@@ -205,9 +200,8 @@ fn put_places<S: Shelf>(
 ) -> Result<(), Failed>
     ensures written { Writes name.now (flat_map place_line places.now) (S.held shelf.old) page.old
         result (S.held shelf.new) page.new }
-    ensures reads { NoReadFell (S.read_faults shelf.old) (S.read_faults shelf.new) }
-    ensures writes { S.write_faults shelf.old ≤ S.write_faults shelf.new }
-    ensures cause { OnErr result (Rose (S.write_faults shelf.old) (S.write_faults shelf.new)) }
+    ensures faults { OnlyWritesFail (S.read_faults shelf.old) (S.write_faults shelf.old) result
+        (S.read_faults shelf.new) (S.write_faults shelf.new) }
 {
     for place in places {
         put_place(shelf, name, page, place)?;
@@ -224,9 +218,8 @@ fn put_certificate<S: Shelf>(
 ) -> Result<(), Failed>
     ensures written { Writes name.now (certificate_text (view certificate.now)) (S.held shelf.old)
         page.old result (S.held shelf.new) page.new }
-    ensures reads { NoReadFell (S.read_faults shelf.old) (S.read_faults shelf.new) }
-    ensures writes { S.write_faults shelf.old ≤ S.write_faults shelf.new }
-    ensures cause { OnErr result (Rose (S.write_faults shelf.old) (S.write_faults shelf.new)) }
+    ensures faults { OnlyWritesFail (S.read_faults shelf.old) (S.write_faults shelf.old) result
+        (S.read_faults shelf.new) (S.write_faults shelf.new) }
 {
     put_title(shelf, name, page, certificate)?;
     put_sizes(shelf, name, page, certificate)?;
@@ -245,9 +238,8 @@ fn put_certificates<S: Shelf>(
 ) -> Result<(), Failed>
     ensures written { Writes name.now (flat_map certificate_text (views all.now)) (S.held shelf.old)
         page.old result (S.held shelf.new) page.new }
-    ensures reads { NoReadFell (S.read_faults shelf.old) (S.read_faults shelf.new) }
-    ensures writes { S.write_faults shelf.old ≤ S.write_faults shelf.new }
-    ensures cause { OnErr result (Rose (S.write_faults shelf.old) (S.write_faults shelf.new)) }
+    ensures faults { OnlyWritesFail (S.read_faults shelf.old) (S.write_faults shelf.old) result
+        (S.read_faults shelf.new) (S.write_faults shelf.new) }
 {
     for certificate in all {
         put_certificate(shelf, name, page, certificate)?;
@@ -264,9 +256,8 @@ fn put_text<S: Shelf>(
 ) -> Result<(), Failed>
     ensures written { Writes name.now (spelling (views all.now)) (S.held shelf.old) page.old result
         (S.held shelf.new) page.new }
-    ensures reads { NoReadFell (S.read_faults shelf.old) (S.read_faults shelf.new) }
-    ensures writes { S.write_faults shelf.old ≤ S.write_faults shelf.new }
-    ensures cause { OnErr result (Rose (S.write_faults shelf.old) (S.write_faults shelf.new)) }
+    ensures faults { OnlyWritesFail (S.read_faults shelf.old) (S.write_faults shelf.old) result
+        (S.read_faults shelf.new) (S.write_faults shelf.new) }
 {
     put_line(shelf, name, page, b"ITFCERT", &[Word::Text(b"1")])?;
     put_line(

@@ -1,7 +1,7 @@
 use Rattle.std.specs.Prelude.{ℕ, zero, suc, ◌≡◌, ◌≢◌, ◌<◌, ◌-◌, List, length, replicate, slice_index}
 use Rattle.half_edges.specs.HalfEdges.{HalfEdges, size, next_of, origin_of, twin_of}
 
--- no number stands in the list twice
+-- no number is in the list twice
 pub record IsOnce (numbers : List ℕ) : Type 0 where
   pub apart : (j k : ℕ) → j < length numbers → k < length numbers → slice_index numbers j ≡ slice_index numbers k → j ≡ k
 
@@ -29,12 +29,12 @@ pub record IsLoose (m : HalfEdges) (around : List ℕ) : Type 0 where
 pub record IsUnlinked (m : HalfEdges) : Type 0 where
   pub alone : (h : ℕ) → h < size m → turned m h ≡ h
 
--- the place before k in a circle of n places: the last one comes before the first
+-- the place before k in a cyclic list of n places: the last one comes before the first
 abbrev pub before : ℕ → ℕ → ℕ
 before n zero = n - 1
 before n (suc k) = k
 
--- the turn about the vertex goes through the list from behind, and from the first to the last
+-- the turn about the vertex goes through the list backwards, and from the first to the last
 pub record TurnsThrough (m : HalfEdges) (around : List ℕ) : Type 0 where
   pub turns : (k : ℕ) → k < length around → turned m (slice_index around k) ≡ slice_index around (before (length around) k)
 

@@ -8,11 +8,11 @@
 //!   on its left the side below the edge; 2e + 1 runs back and has on its left the side above.
 //! - **What a contract sees** (`HalfEdges`): the number of vertices and four lists with one entry
 //!   for each half-edge: `next`, `prev`, `origin` and `face`. What always holds of them
-//!   (`IsMesh`) is kept by the type. `edges` tells it, and no other clause repeats it.
+//!   (`IsMesh`) is kept by the type. `edges` gives it, and no other clause repeats it.
 //! - **Linking.** `add_edge` adds an edge whose two halves follow each other. `link` takes all
-//!   half-edges that begin at one vertex, in the order in which they stand about it, and makes
-//!   `next` of the twin of each the one before it in the list, the last one before the first.
-//!   One vertex is linked as a whole and once, so that the invariant never breaks.
+//!   half-edges that begin at one vertex, in their order about it, and makes `next` of the twin of
+//!   each the one before it in the list, the last one before the first. One vertex is linked as a
+//!   whole and once, so that the invariant never breaks.
 //! - **Faces.** Each half-edge has face 0 until `set_faces`, and again after any later `add_edge`
 //!   or `link`. `set_faces` takes only numbers that are the same along `next` (`faces_agree`).
 //! - **Not checked here:** there are no coordinates. Whether the order about a vertex is the
@@ -20,15 +20,15 @@
 //!   above.
 //! - **Degenerate cases:** no vertex, no edge, a vertex with no edge, an edge that ends at a free
 //!   vertex (its two halves follow each other there), several edges between two vertices, several
-//!   parts that hang together nowhere. An edge from a vertex to itself is left out by the
+//!   parts that are not connected. An edge from a vertex to itself is ruled out by the
 //!   condition of `add_edge`.
 //! - **Laws** (`laws`), for the layers above: the half-edges that begin at a linked vertex form one
-//!   circle of `next` of `twin`, which is the list from behind; linking one vertex leaves the
+//!   circle of `next` of `twin`, which is the list backwards; linking one vertex leaves the
 //!   others as they are; the circles of `next` part the half-edges; what agrees along `next` is
 //!   the same along each circle.
 //!
-//! Cost: four lists of `u32` stand side by side, 16 bytes a half-edge, and beside the vertices
-//! only their number. `new` takes no memory for them yet, `add_edge` is amortised constant,
+//! Cost: four lists of `u32` side by side, 16 bytes a half-edge, and of the vertices only their
+//! number. `new` takes no memory for them yet, `add_edge` is amortised constant,
 //! `link` is linear in its list. Where faces were set before, the first of these two also clears
 //! them, once after each `set_faces`. `faces_agree` and `set_faces` are linear in the half-edges,
 //! the other calls one load. Only `new` and `add_edge` may answer `Memory`.

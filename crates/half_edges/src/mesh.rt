@@ -1,7 +1,11 @@
 // The arena: four lists side by side, with one entry for each half-edge.
-ghost use Rattle.std.specs.Prelude.{◌≡◌, ◌≢◌, ℕ, ◌<◌, ◌≤◌, ◌+◌, ◌-◌, ◌/◌, ◌%◌, ◌^◌, ◌++◌, ◌∷◌, [], ◌↔◌, length, slice_index, IfOk, OnOk, OnErr, IsTrue, vec_len, vec_capacity};
-ghost use Rattle.half_edges.specs.HalfEdges.{size, edge_count, next_of, prev_of, origin_of, face_of, twin_of};
-ghost use Rattle.half_edges.specs.Meshes.{IsMesh, AgreesAlong, without_edges, with_edge, with_one_face, with_faces};
+ghost use Rattle.std.specs.Prelude.{◌≡◌, ◌≢◌, ℕ, ◌<◌, ◌≤◌, ◌+◌, ◌-◌, ◌/◌, ◌%◌, ◌^◌, ◌++◌, ◌∷◌, []};
+ghost use Rattle.std.specs.Prelude.{◌↔◌, length, slice_index, IfOk, OnOk, OnErr, IsTrue, vec_len};
+ghost use Rattle.std.specs.Prelude.{vec_capacity};
+ghost use Rattle.half_edges.specs.HalfEdges.{size, edge_count, next_of, prev_of, origin_of};
+ghost use Rattle.half_edges.specs.HalfEdges.{face_of, twin_of};
+ghost use Rattle.half_edges.specs.Meshes.{IsMesh, AgreesAlong, without_edges, with_edge};
+ghost use Rattle.half_edges.specs.Meshes.{with_one_face, with_faces};
 ghost use Rattle.half_edges.specs.Stars.{IsOnce, IsStar, IsLoose, IsLinked, Links};
 
 use super::ids::{FaceId, HalfEdgeId, VertexId};
@@ -111,7 +115,8 @@ impl Mesh {
         requires filled { 0 < length around.now }
         requires pairs { length next.old % 2 ≡ 0 }
         requires lengths { length prev.old ≡ length next.old }
-        requires within { (k : ℕ) → k < length around.now → slice_index around.now k < length next.old }
+        requires within { (k : ℕ) → k < length around.now
+            → slice_index around.now k < length next.old }
         requires once { IsOnce around.now }
         ensures { Links around.now next.old prev.old next.new prev.new }
     {
@@ -188,8 +193,8 @@ impl Mesh {
         self.face[h.0 as usize]
     }
 
-    /// The number of edges; there are twice as many half-edges. The clause `kept` tells what
-    /// holds of every mesh.
+    /// The number of edges; there are twice as many half-edges. The clause `kept` has what holds
+    /// of every mesh.
     pub fn edges(&self) -> u32
         ensures count { result ≡ edge_count self.now }
         ensures kept { IsMesh self.now }

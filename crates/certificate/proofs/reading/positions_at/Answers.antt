@@ -1,6 +1,7 @@
 use Rattle.std.proofs.Common.{◌≡◌, Ok, sym, ◌∙◌, subst}
 use Rattle.std.proofs.lemmas.Result.{err_from_is_err_and}
-use Rattle.certificate.specs.Reading.{many_at, line_at, text_of, Fails}
+use Rattle.certificate.specs.Reading.{many_at, line_at, Fails}
+use Rattle.certificate.specs.Views.{text_view}
 use Rattle.certificate.specs.Parts.{event_at}
 use Rattle.certificate.proofs.Loop.{goes_on, ends, is_done, same_line}
 use Rattle.certificate.proofs.reading.positions_at.Goals as goal
@@ -9,13 +10,13 @@ pub returns-in_err-position : goal.returns-in_err-position
 returns-in_err-position c =
     let p = err_from_is_err_and c.from_residual.result c.from_residual.ensures.1 in
     let e = c.in_err-position.field-0.0 in
-    let h : Fails e (line_at event_at (text_of c.loop.left)) = subst (λ l. Fails e l) (same_line event_at (text_of c.loop.left) c.event_at.result c.event_at.ensures.value) c.in_err-position.ensures in
-    rw (p.1, p.2) (ends e (line_at event_at) c.loop.positions.items c.args.count c.loop.counter (text_of c.loop.left) (many_at (line_at event_at) c.args.count (text_of c.args.text)) c.loop-test.true h c.loop.invariant)
+    let h : Fails e (line_at event_at (text_view c.loop.left)) = subst (λ l. Fails e l) (same_line event_at (text_view c.loop.left) c.event_at.result c.event_at.ensures.value) c.in_err-position.ensures in
+    rw (p.1, p.2) (ends e (line_at event_at) c.loop.positions.items c.args.count c.loop.counter (text_view c.loop.left) (many_at (line_at event_at) c.args.count (text_view c.args.text)) c.loop-test.true h c.loop.invariant)
 
 pub loop-preserved : goal.loop-preserved
 loop-preserved c =
-    let found : line_at event_at (text_of c.loop.left) ≡ Ok (c.in_ok-position.position, text_of c.in_ok-position.after) = sym (same_line event_at (text_of c.loop.left) c.event_at.result c.event_at.ensures.value) ∙ c.in_ok-position.ensures in
-    rw c.in_ok-push.ensures.items (goes_on (line_at event_at) c.loop.positions.items c.args.count c.loop.counter (text_of c.loop.left) c.in_ok-position.position (text_of c.in_ok-position.after) (many_at (line_at event_at) c.args.count (text_of c.args.text)) c.loop-test.true found c.loop.invariant)
+    let found : line_at event_at (text_view c.loop.left) ≡ Ok (c.in_ok-position.position, text_view c.in_ok-position.after) = sym (same_line event_at (text_view c.loop.left) c.event_at.result c.event_at.ensures.value) ∙ c.in_ok-position.ensures in
+    rw c.in_ok-push.ensures.items (goes_on (line_at event_at) c.loop.positions.items c.args.count c.loop.counter (text_view c.loop.left) c.in_ok-position.position (text_view c.in_ok-position.after) (many_at (line_at event_at) c.args.count (text_view c.args.text)) c.loop-test.true found c.loop.invariant)
 
 pub returns : goal.returns
-returns c = is_done (line_at event_at) c.loop.positions.items c.args.count c.loop.counter (text_of c.loop.left) (many_at (line_at event_at) c.args.count (text_of c.args.text)) c.loop-test.false c.loop.invariant
+returns c = is_done (line_at event_at) c.loop.positions.items c.args.count c.loop.counter (text_view c.loop.left) (many_at (line_at event_at) c.args.count (text_view c.args.text)) c.loop-test.false c.loop.invariant
