@@ -74,12 +74,11 @@ module _ (s : Subject) (n : HasCounts s) (events : ℕ) (low high : List ℕ) (a
   pub none_turned : (mesh : HalfEdges) → IsMeshOf events low high (length low) mesh → IsTurned (length s.edges) (edge s) (steps_from [] (moves s)) mesh 0
   none_turned mesh is = subst (λ (m : ℕ). IsTurned m (edge s) (steps_from [] (moves s)) mesh 0) a.low_count (begin (edge s) (steps_from [] (moves s)) events low high mesh is low_at high_at)
 
-pub none_moved : (s : Subject) (live : List ℕ) (room most fan : ℕ) (mesh : HalfEdges) → live ≡ [] → room ≡ length s.edges → IsWidest s.table (length s.table) most → fan ≡ most
-    → IsTurned (length s.edges) (edge s) (steps_from [] (moves s)) mesh 0 → IsMovedTo s 0 live room fan mesh
-none_moved s live room most fan mesh e r w f t = record {
+pub none_moved : (s : Subject) (live : List ℕ) (most fan : ℕ) (mesh : HalfEdges) → live ≡ [] → IsWidest s.table (length s.table) most → fan ≡ most
+    → IsTurned (length s.edges) (edge s) (steps_from [] (moves s)) mesh 0 → IsMovedTo s 0 live fan mesh
+none_moved s live most fan mesh e w f t = record {
   passes = λ j l. absurd (omega (arith, l));
   live = e;
-  room = r;
   fan = λ j l. (let m = w.most j l in omega (arith, m, f));
   turned = t;
 }

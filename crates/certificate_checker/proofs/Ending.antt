@@ -77,7 +77,7 @@ module _ (s : Subject) (t : IsTimetable (length s.edges) (edge s) s.table) (n : 
   gap_cell h x (inl q) = gap_across (moves s) fit end (pos 0) (length s.edges) (edge s) h x q
   gap_cell h x (inr q) = swap x h (gap_across (moves s) fit end (pos 0) (length s.edges) (edge s) x h q)
 
-  module _ (live : List ℕ) (room fan : ℕ) (mesh : HalfEdges) (moved : IsMovedTo s (length s.table) live room fan mesh) (border across point : List Bool)
+  module _ (live : List ℕ) (fan : ℕ) (mesh : HalfEdges) (moved : IsMovedTo s (length s.table) live fan mesh) (border across point : List Bool)
       (b : AreMarkedTo s IsAtBorder (length s.table) border) (a : AreMarkedTo s (NamesAcross s.claims.notes) (length s.table) across)
       (next bad : ℕ) (spots : List Spot) (p : ArePlacedTo s (length s.table) next bad spots point) (later : IsLater s (length s.table) next spots) where
     turned : IsTurned (length s.edges) (edge s) (steps_from [] (moves s)) mesh (length (steps_from [] (moves s)))

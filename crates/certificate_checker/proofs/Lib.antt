@@ -21,3 +21,4 @@ pub mod HeldPoints
 pub mod Entries
 pub mod EdgeLabels
 pub mod OwnTubes
+pub mod PartEnds

@@ -25,12 +25,6 @@ use Rattle.certificate_checker.proofs.ListParts.{drop_twice, first_after, last_b
 use Rattle.certificate_checker.proofs.PlaneLaws.{good_known, good_room, has_at, live_more}
 use Rattle.certificate_checker.proofs.Runs.{good_to, move_is, moves_size}
 
-pub block_is : (p m : ℕ) (live : List ℕ) → take ((p + m) - p) (drop p live) ≡ take m (drop p live)
-block_is p m live = ap (λ (i : ℕ). take i (drop p live)) (back p m)
-  where
-    back : (p m : ℕ) → (p + m) - p ≡ m
-    back p m = omega arith
-
 module _ (s : Subject) (t : IsTimetable (length s.edges) (edge s) s.table) (n : HasCounts s) where
   -- ---- the live list
   pub live_below : (k : ℕ) → k ≤ length s.table → ((j : ℕ) → j < k → PassesEvent s j) → (live : List ℕ) → live ≡ live_list s k → AreBelow (length s.edges) live
@@ -53,20 +47,6 @@ module _ (s : Subject) (t : IsTimetable (length s.edges) (edge s) s.table) (n : 
       ∙ ap (λ (i : ℕ). take i (live_list s k) ++ ((event s k).starting ++ drop m (drop i (live_list s k)))) g
       ∙ ap (λ (i : ℕ). take (position_at s k) (live_list s k) ++ ((event s k).starting ++ drop i (drop (position_at s k) (live_list s k)))) h
       ∙ sym (next_list k l)
-
-  pub live_room : (k : ℕ) → k ≤ length s.table → ((j : ℕ) → j < k → PassesEvent s j) → length (live_list s k) ≤ length s.edges
-  live_room k w f = good_room (length s.edges) (edge s) (take k (moves s)) (good_to s t n k w f) t.events.edges
-
-  pub room_next : (k : ℕ) (live starting : List ℕ) (p m : ℕ) → k < length s.table → live ≡ live_list s k → starting ≡ (event s k).starting → p ≡ position_at s k → m ≡ length (event s k).ending
-      → ((j : ℕ) → j < suc k → PassesEvent s j) → p + m ≤ length live → length live + length starting ≤ length s.edges + m
-  room_next k live starting p m l e f g h all w =
-      let r = live_room (suc k) l all in
-      let q = ap length (next_live k live starting p m l e f g h) in
-      let a = length-append (take p live) (starting ++ drop (p + m) live) in
-      let b = length-append starting (drop (p + m) live) in
-      let c = length-drop (p + m) live in
-      let d = length-take-le p live (omega (arith, w)) in
-      omega (arith, r, q, a, b, c, d, w)
 
   pub block_within : (k : ℕ) (live : List ℕ) (p m : ℕ) → live ≡ live_list s k → p ≡ position_at s k → m ≡ length (event s k).ending → PassesEvent s k → p + m ≤ length live
   block_within k live p m e g h x = let w = x.block.within in let a = ap length e in omega (arith, w, a, g, h)

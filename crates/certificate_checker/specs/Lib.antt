@@ -9,3 +9,4 @@ pub mod InCells
 pub mod Progress
 pub mod Ended
 pub mod Certifying
+pub mod Stops

@@ -5,7 +5,6 @@ use Rattle.plane.specs.Runs.Gaps.{Gap, opened}
 use Rattle.plane.specs.Runs.Moves.{step_of, steps_from}
 use Rattle.plane.specs.Runs.Timetables.{move_at}
 use Rattle.straight_predicates.specs.EdgeEvents.{width}
-use Rattle.straight_predicates.specs.Rows.{values_of, room_of}
 use Rattle.half_edges.specs.HalfEdges.{HalfEdges}
 use Rattle.event_mesh.specs.Turned.{IsTurned}
 use Rattle.certificate_checker.specs.declared.state.State.{State}
@@ -27,17 +26,16 @@ pub record AreMarkedTo (s : Subject) (P : Gap → Half → Type 0) (k : ℕ) (ma
   pub size : length marks ≡ length s.claims.notes
   pub each : (h : Half) → IsMarked marks h ↔ OfOpened s P k h
 
--- The first k events pass; the live list is the one after them, with room for all edges; the mesh is turned at them, and there is room
--- for the half-edges of each event.
-pub record IsMovedTo (s : Subject) (k : ℕ) (now : List ℕ) (places most : ℕ) (mesh : HalfEdges) : Type 0 where
+-- The first k events pass; the live list is the one after them; the mesh is turned at them, and there is room for the half-edges of
+-- each event.
+pub record IsMovedTo (s : Subject) (k : ℕ) (now : List ℕ) (most : ℕ) (mesh : HalfEdges) : Type 0 where
   pub passes : (j : ℕ) → j < k → PassesEvent s j
   pub live : now ≡ live_list s k
-  pub room : places ≡ length s.edges
   pub fan : (j : ℕ) → j < length s.table → width (event s j) ≤ most
   pub turned : IsTurned (length s.edges) (edge s) (steps_from [] (moves s)) mesh k
 
 pub record HasReplayed (s : Subject) (k : ℕ) (state : State) : Type 0 where
-  pub moved : IsMovedTo s k (values_of state.live) (room_of state.live) (length state.fan.items) state.mesh
+  pub moved : IsMovedTo s k state.live (length state.fan.items) state.mesh
   pub border : AreMarkedTo s IsAtBorder k state.marks.border.items
   pub across : AreMarkedTo s (NamesAcross s.claims.notes) k state.marks.across.items
   pub points : ArePlacedTo s k state.placing.next state.placing.bad state.placing.spots.items state.marks.point.items

@@ -11,6 +11,7 @@ ghost use Rattle.certificate_checker.specs.Cases.{IsFit, IsListed, judged};
 ghost use Rattle.certificate_checker.specs.Ended.{HasEnded};
 ghost use Rattle.certificate_checker.specs.Placed.{IsLater};
 ghost use Rattle.certificate_checker.specs.Progress.{HasReplayed};
+ghost use Rattle.certificate_checker.specs.Stops.{IsStop};
 ghost use Rattle.certificate_checker.specs.Rules.{HasCounts, HasEdges, HasLabels};
 ghost use Rattle.certificate_checker.specs.Subjects.{claims, subject};
 ghost use Rattle.certificate_checker.specs.Verdicts.{AllRules, FirstBroken, IsVerdict};
@@ -23,7 +24,7 @@ use super::holding::held_points;
 use super::links::judge_links;
 use super::points::in_order;
 use super::replaying::replay;
-use super::state::{Broken, Marks, State};
+use super::state::{Broken, Marks, State, Stop};
 use super::verdict::Verdict;
 use certificate::Certificate;
 use event_mesh::mesh_of;
@@ -145,10 +146,11 @@ fn judge_case(alloc: Global, case: &Case, of: &EdgeEvents) -> Result<Verdict, Me
     let mut state = begin(alloc, case, of)?;
     match judge(case, &mut state) {
         Ok(()) => Ok(Verdict::Proved),
-        Err(broken) => Ok(Verdict::NotProved {
+        Err(Stop::Broken(broken)) => Ok(Verdict::NotProved {
             rule: broken.rule,
             place: broken.place,
         }),
+        Err(Stop::Memory) => Err(Memory),
     }
 }
 
@@ -161,7 +163,7 @@ fn begin(alloc: Global, case: &Case, of: &EdgeEvents) -> Result<State, Memory>
 {
     let size = case.certificate.notes.len();
     let mesh = mesh_of(alloc, case.table.events(), &of.low, &of.high)?;
-    let live = Row::new(alloc, case.edges.len())?;
+    let live = Row::new(alloc);
     let fan = half_edges(alloc, case.table.widest())?;
     let border = no_marks(alloc, size)?;
     let across = no_marks(alloc, size)?;
@@ -169,6 +171,7 @@ fn begin(alloc: Global, case: &Case, of: &EdgeEvents) -> Result<State, Memory>
     let placing = in_order(alloc, case.points)?;
     Ok(State {
         live,
+        ending: Vec::new(alloc),
         mesh,
         fan,
         marks: Marks {
@@ -196,12 +199,12 @@ fn no_marks(alloc: Global, size: usize) -> Result<Vec<bool>, Memory>
     Ok(marks)
 }
 
-/// The first rule that is broken. It takes no memory.
-fn judge(case: &Case, state: &mut State) -> Result<(), Broken>
+/// The first rule that is broken.
+fn judge(case: &Case, state: &mut State) -> Result<(), Stop>
     requires fit { IsFit case.now }
     requires begun { HasReplayed (judged case.now) 0 state.old }
     ensures proved { OnOk result (AllRules (judged case.now)) }
-    ensures broken { IfErr result (λ b. FirstBroken (judged case.now) b.rule b.place) }
+    ensures stop { IfErr result (IsStop (judged case.now)) }
 {
     replay(case, state)?;
     judge_labels(case)?;
@@ -213,7 +216,8 @@ fn judge(case: &Case, state: &mut State) -> Result<(), Broken>
         &marks.border,
         &marks.across,
         &marks.point,
-    )
+    )?;
+    Ok(())
 }
 
 /// The first point that is not where it is placed, where there is one.

@@ -1,6 +1,6 @@
 // The rules of an event.
-ghost use Rattle.std.specs.Prelude.{◌≡◌, ◌↔◌, ℕ, suc, ◌+◌, ◌<◌, ◌≤◌, pos, ◌<ℤ◌, IfErr, IsTrue};
-ghost use Rattle.std.specs.Prelude.{OnOk, length, slice_index_or};
+ghost use Rattle.std.specs.Prelude.{◌≡◌, ◌↔◌, ℕ, suc, ◌+◌, ◌-◌, ◌<◌, ◌≤◌, pos, ◌<ℤ◌, IfErr, IsTrue};
+ghost use Rattle.std.specs.Prelude.{OnOk, drop, length, slice_index_or, take};
 ghost use Rattle.plane.specs.Lists.{Has};
 ghost use Rattle.plane.specs.Runs.Positions.{turn_at};
 ghost use Rattle.straight_predicates.specs.EdgeLists.{AreAllClose, AreBelow, IsCloseToAll};
@@ -13,10 +13,10 @@ ghost use Rattle.certificate_checker.specs.Verdicts.{EventBroken};
 use super::case::Case;
 use super::labels::labels_match;
 use plane::{Edge, Point};
-use straight_predicates::{Turn, turn_over};
+use straight_predicates::{Row, Turn, turn_over};
 
 /// The first of the four rules of the event that is broken, by the live list before it.
-pub fn judge_event(case: &Case, event: u32, live: &[u32]) -> Result<(), u8>
+pub fn judge_event(case: &Case, event: u32, live: &Row<u32>) -> Result<(), u8>
     requires fit { IsFit case.now }
     requires event { event < length (judged case.now).table }
     requires passed { (j : ℕ) → j < event → PassesEvent (judged case.now) j }
@@ -54,22 +54,26 @@ pub fn position_of(case: &Case, event: u32) -> usize
     positions[event as usize] as usize
 }
 
-fn has_block(edges: &[Edge], live: &[u32], at: Point, position: usize, ending: usize) -> bool
+fn has_block(edges: &[Edge], live: &Row<u32>, at: Point, position: usize, ending: usize) -> bool
     requires known { AreBelow (length edges.now) live.now }
     ensures { IsTrue result ↔ HasBlock (edge_of edges.now) live.now at position ending }
 {
     if position > live.len() || ending > live.len() - position {
         return false;
     }
-    all_end_at(edges, &live[position..position + ending], at)
+    all_end_at(edges, live, position, position + ending, at)
 }
 
-fn all_end_at(edges: &[Edge], block: &[u32], at: Point) -> bool
-    requires known { AreBelow (length edges.now) block.now }
-    ensures { IsTrue result ↔ ((e : ℕ) → Has e block.now → (edge_of edges.now e).high ≡ at) }
+/// Whether the edges at the places from one up to another end at the point.
+fn all_end_at(edges: &[Edge], live: &Row<u32>, from: usize, upto: usize, at: Point) -> bool
+    requires known { AreBelow (length edges.now) live.now }
+    requires order { from ≤ upto }
+    requires within { upto ≤ length live.now }
+    ensures { IsTrue result ↔ ((e : ℕ) → Has e (take (upto - from) (drop from live.now))
+        → (edge_of edges.now e).high ≡ at) }
 {
-    for e in block {
-        if !ends_at(edges, *e, at) {
+    for place in from..upto {
+        if !ends_at(edges, live.get(place), at) {
             return false;
         }
     }
@@ -83,35 +87,37 @@ fn ends_at(edges: &[Edge], edge: u32, at: Point) -> bool
     edges[edge as usize].high == at
 }
 
-fn is_between(edges: &[Edge], live: &[u32], at: Point, position: usize, ending: usize) -> bool
+fn is_between(edges: &[Edge], live: &Row<u32>, at: Point, position: usize, ending: usize) -> bool
     requires known { AreBelow (length edges.now) live.now }
     requires close { IsCloseToAll edges.now at }
     requires block { position + ending ≤ length live.now }
     ensures { IsTrue result ↔ IsBetween (edge_of edges.now) live.now at position ending }
 {
+    // The place behind the block is no greater than the length, which fits its type.
+    let _length = live.len();
     is_over(edges, live, position, at) && is_under(edges, live, position + ending, at)
 }
 
 /// Whether the point is strictly above the edge before the place, where there is one.
-pub fn is_over(edges: &[Edge], live: &[u32], place: usize, at: Point) -> bool
+pub fn is_over(edges: &[Edge], live: &Row<u32>, place: usize, at: Point) -> bool
     requires known { AreBelow (length edges.now) live.now }
     requires close { IsCloseToAll edges.now at }
     requires place { place ≤ length live.now }
     ensures { IsTrue result ↔ ((i : ℕ) → place ≡ suc i
         → pos 0 <ℤ turn_at (edge_of edges.now) (slice_index_or live.now i 0) at) }
 {
-    place == 0 || is_above(edges, live[place - 1], at)
+    place == 0 || is_above(edges, live.get(place - 1), at)
 }
 
 /// Whether the point is strictly below the edge at the place, where there is one.
-pub fn is_under(edges: &[Edge], live: &[u32], place: usize, at: Point) -> bool
+pub fn is_under(edges: &[Edge], live: &Row<u32>, place: usize, at: Point) -> bool
     requires known { AreBelow (length edges.now) live.now }
     requires close { IsCloseToAll edges.now at }
     requires place { place ≤ length live.now }
     ensures { IsTrue result ↔ (place < length live.now
         → turn_at (edge_of edges.now) (slice_index_or live.now place 0) at <ℤ pos 0) }
 {
-    place == live.len() || is_below(edges, live[place], at)
+    place == live.len() || is_below(edges, live.get(place), at)
 }
 
 fn turn_left(edges: &[Edge], starting: &[u32]) -> bool

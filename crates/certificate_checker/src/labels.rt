@@ -2,17 +2,17 @@
 ghost use Rattle.std.specs.Prelude.{◌≡◌, ◌↔◌, ◌+◌, ◌<◌, ◌≤◌, ◌^◌, IsTrue, length};
 ghost use Rattle.plane.specs.Faces.Labels.{Match};
 ghost use Rattle.plane.specs.Runs.Gaps.{edge_at, edge_before, over_label, under_label};
-ghost use Rattle.straight_predicates.specs.EdgeLists.{AreBelow};
 ghost use Rattle.certificate_checker.specs.Marked.{AreNotes, HasNote};
 ghost use Rattle.certificate_checker.specs.Subjects.{labels_in};
 
 use certificate::HalfNote;
+use straight_predicates::{Row, edge_at, edge_before};
 
 /// Whether the label over each of the new neighbours is that under the next one: from the edge
 /// before the block over the starting edges to the one behind it, with 0 at the border.
 pub fn labels_match(
     notes: &[HalfNote],
-    live: &[u32],
+    live: &Row<u32>,
     position: usize,
     ending: usize,
     starting: &[u32],
@@ -25,6 +25,8 @@ pub fn labels_match(
         (over_label (labels_in notes.now) (edge_before live.now position)) starting.now
         (under_label (labels_in notes.now) (edge_at live.now (position + ending))) }
 {
+    // The place behind the block is no greater than the length, which fits its type.
+    let _length = live.len();
     let lower = edge_before(live, position);
     let upper = edge_at(live, position + ending);
     let mut label = label_over(notes, lower);
@@ -37,29 +39,6 @@ pub fn labels_match(
     }
     let last = label_under(notes, upper);
     last == label
-}
-
-/// The edge before a place of the list.
-pub fn edge_before(live: &[u32], place: usize) -> Option<u32>
-    requires { place ≤ length live.now }
-    ensures { result ≡ edge_before live.now place }
-{
-    if place == 0 {
-        None
-    } else {
-        Some(live[place - 1])
-    }
-}
-
-/// The edge at a place of the list.
-pub fn edge_at(live: &[u32], place: usize) -> Option<u32>
-    ensures { result ≡ edge_at live.now place }
-{
-    if place < live.len() {
-        Some(live[place])
-    } else {
-        None
-    }
 }
 
 /// The label over an edge, and 0 over the border.

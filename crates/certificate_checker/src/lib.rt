@@ -32,10 +32,11 @@
 //!   edges on half-edges have no numbers of 32 bits: then the answer is want of memory. Drawings of
 //!   at most 16,000,000 curves have fewer (`tubes::laws::few_edges`).
 //!
-//! Cost: O((m + p) log (m + p)) for m edges and p points, and what the live list moves: at most its
-//! length at each event that changes it. A half arc has 2^(level + 2) + 1 edges. For each point
-//! that is placed in a tube that tube is made and freed again. All memory is taken at the start,
-//! about 130 bytes an edge, 4 a curve and 25 a point; the replay takes none.
+//! Cost: O((m + p) log (m + p)) for m edges and p points, and what the live list moves: at each
+//! event one block of it, 8,192 edges at most, and a step over each block before the place
+//! (`straight_predicates::Row`). A half arc has 2^(level + 2) + 1 edges. For each point
+//! that is placed in a tube that tube is made and freed again. About 130 bytes an edge, 4 a
+//! curve and 25 a point are taken at the start; the replay takes up to 8 a live edge.
 #![tactic(auto)]
 
 mod case;

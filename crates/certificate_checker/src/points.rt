@@ -25,7 +25,7 @@ use certificate::{HalfNote, PointPlace};
 use plane::{Edge, Placed, Point};
 use ports::Memory;
 use std::alloc::Global;
-use straight_predicates::before;
+use straight_predicates::{Row, before};
 
 fn key(spot: &Spot) -> (i64, i64)
     ensures { result ≡ (spot.now.at.x, spot.now.at.y) }
@@ -70,7 +70,7 @@ fn spots_of(alloc: Global, points: &[Placed]) -> Result<Vec<Spot>, Memory>
 pub fn place_points(
     case: &Case,
     event: u32,
-    live: &[u32],
+    live: &Row<u32>,
     placing: &mut Placing,
     marks: &mut [bool],
 )
@@ -130,7 +130,7 @@ fn is_later(at: Point, upto: Option<Point>) -> bool
 fn place_point(
     case: &Case,
     event: u32,
-    live: &[u32],
+    live: &Row<u32>,
     upto: Option<Point>,
     spot: Spot,
     bad: &mut u32,
@@ -149,8 +149,8 @@ fn place_point(
 {
     match cell_of(case, event, live, upto, spot) {
         Some(i) => {
-            mark(marks, 2 * live[i - 1] + 1);
-            mark(marks, 2 * live[i]);
+            mark(marks, 2 * live.get(i - 1) + 1);
+            mark(marks, 2 * live.get(i));
         }
         None => {
             if !is_in_own_tube(case, spot.number) {
@@ -187,7 +187,13 @@ fn is_side_labelled(case: &Case, inside: bool, curve: u32, label: u32) -> bool
 
 /// The place of the edge over the point in the live list, where the point is in the cell that the
 /// certificate says, with its label on both sides, and is no event.
-fn cell_of(case: &Case, event: u32, live: &[u32], upto: Option<Point>, spot: Spot) -> Option<usize>
+fn cell_of(
+    case: &Case,
+    event: u32,
+    live: &Row<u32>,
+    upto: Option<Point>,
+    spot: Spot,
+) -> Option<usize>
     requires fit { IsFit case.now }
     requires event { event ≤ length (judged case.now).table }
     requires live { live.now ≡ live_list (judged case.now) event }
@@ -229,7 +235,7 @@ fn is_at(at: Point, upto: Option<Point>) -> bool
 }
 
 /// Whether the point is between the edges on both sides of the place, with its label at both.
-fn is_in_cell(case: &Case, live: &[u32], place: usize, spot: Spot) -> bool
+fn is_in_cell(case: &Case, live: &Row<u32>, place: usize, spot: Spot) -> bool
     requires fit { IsFit case.now }
     requires known { AreBelow (length case.now.edges.now) live.now }
     requires spot { IsPointOf (judged case.now).points spot }
@@ -238,11 +244,11 @@ fn is_in_cell(case: &Case, live: &[u32], place: usize, spot: Spot) -> bool
     if !is_inside(place, live.len()) {
         return false;
     }
-    if !is_over_and_under(case.edges, live[place - 1], live[place], spot.at) {
+    if !is_over_and_under(case.edges, live.get(place - 1), live.get(place), spot.at) {
         return false;
     }
     let notes: &[HalfNote] = &case.certificate.notes;
-    are_both(notes, live[place - 1], live[place], spot.number + 1)
+    are_both(notes, live.get(place - 1), live.get(place), spot.number + 1)
 }
 
 fn is_inside(place: usize, size: usize) -> bool

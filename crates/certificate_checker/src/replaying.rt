@@ -1,33 +1,33 @@
 // The replay, event by event.
 ghost use Rattle.std.specs.Prelude.{◌≡◌, ℕ, suc, ◌<◌, ◌≤◌, IfErr, OnOk, length};
-ghost use Rattle.straight_predicates.specs.Rows.{room_of, values_of};
 ghost use Rattle.certificate_checker.specs.Cases.{IsFit, judged};
 ghost use Rattle.certificate_checker.specs.Marked.{IsAtBorder, NamesAcross};
 ghost use Rattle.certificate_checker.specs.Placed.{IsLater};
 ghost use Rattle.certificate_checker.specs.Progress.{AreMarkedTo, HasReplayed, IsMovedTo};
 ghost use Rattle.certificate_checker.specs.Rules.{PassesEvent};
+ghost use Rattle.certificate_checker.specs.Stops.{IsStop};
 ghost use Rattle.certificate_checker.specs.Subjects.{live_list};
 ghost use Rattle.certificate_checker.specs.Verdicts.{FirstBroken};
 
 use super::case::Case;
 use super::events::{judge_event, position_of};
-use super::labels::{edge_at, edge_before};
 use super::marks::mark_neighbours;
 use super::points::place_points;
-use super::state::{Broken, State};
+use super::state::{Broken, State, Stop};
 use event_mesh::turn_event;
 use half_edges::{HalfEdgeId, Mesh};
-use straight_predicates::Row;
+use ports::Memory;
+use straight_predicates::{Row, edge_at, edge_before};
 
-/// Goes over all events, and names the first one that breaks a rule. It takes no memory.
-pub fn replay(case: &Case, state: &mut State) -> Result<(), Broken>
+/// Goes over all events, and names the first one that breaks a rule.
+pub fn replay(case: &Case, state: &mut State) -> Result<(), Stop>
     requires fit { IsFit case.now }
     requires begun { HasReplayed (judged case.now) 0 state.old }
     ensures done { OnOk result (HasReplayed (judged case.now) (length (judged case.now).table)
         state.new) }
     ensures later { OnOk result (IsLater (judged case.now) (length (judged case.now).table)
         state.new.placing.next state.new.placing.spots.items) }
-    ensures broken { IfErr result (λ b. FirstBroken (judged case.now) b.rule b.place) }
+    ensures stop { IfErr result (IsStop (judged case.now)) }
 {
     for event in 0..case.table.events() {
         step(case, event, state)?;
@@ -48,22 +48,22 @@ fn place_to(case: &Case, event: u32, state: &mut State)
     place_points(
         case,
         event,
-        state.live.values(),
+        &state.live,
         &mut state.placing,
         &mut state.marks.point,
     );
 }
 
-fn step(case: &Case, event: u32, state: &mut State) -> Result<(), Broken>
+fn step(case: &Case, event: u32, state: &mut State) -> Result<(), Stop>
     requires fit { IsFit case.now }
     requires event { event < length (judged case.now).table }
     requires replayed { HasReplayed (judged case.now) event state.old }
     ensures done { OnOk result (HasReplayed (judged case.now) (suc event) state.new) }
-    ensures broken { IfErr result (λ b. FirstBroken (judged case.now) b.rule b.place) }
+    ensures stop { IfErr result (IsStop (judged case.now)) }
 {
     place_to(case, event, state);
     test_event(case, event, state)?;
-    go_on(case, event, state);
+    go_on(case, event, state)?;
     Ok(())
 }
 
@@ -74,7 +74,7 @@ fn test_event(case: &Case, event: u32, state: &State) -> Result<(), Broken>
     ensures passes { OnOk result (PassesEvent (judged case.now) event) }
     ensures broken { IfErr result (λ b. FirstBroken (judged case.now) b.rule b.place) }
 {
-    match judge_event(case, event, state.live.values()) {
+    match judge_event(case, event, &state.live) {
         Ok(()) => Ok(()),
         Err(rule) => Err(Broken { rule, place: event }),
     }
@@ -82,19 +82,19 @@ fn test_event(case: &Case, event: u32, state: &State) -> Result<(), Broken>
 
 /// Marks the half-edges beside the new neighbours, turns the event, and puts the edges that start
 /// there in the place of those that end.
-fn go_on(case: &Case, event: u32, state: &mut State)
+fn go_on(case: &Case, event: u32, state: &mut State) -> Result<(), Memory>
     requires fit { IsFit case.now }
     requires event { event < length (judged case.now).table }
     requires replayed { HasReplayed (judged case.now) event state.old }
     requires later { IsLater (judged case.now) event state.old.placing.next
         state.old.placing.spots.items }
     requires passes { PassesEvent (judged case.now) event }
-    ensures { HasReplayed (judged case.now) (suc event) state.new }
+    ensures { OnOk result (HasReplayed (judged case.now) (suc event) state.new) }
 {
     mark_event(
         case,
         event,
-        state.live.values(),
+        &state.live,
         &mut state.marks.border,
         &mut state.marks.across,
     );
@@ -102,12 +102,14 @@ fn go_on(case: &Case, event: u32, state: &mut State)
         case,
         event,
         &mut state.live,
+        &mut state.ending,
         &mut state.mesh,
         &mut state.fan,
-    );
+    )?;
+    Ok(())
 }
 
-fn mark_event(case: &Case, event: u32, live: &[u32], border: &mut [bool], across: &mut [bool])
+fn mark_event(case: &Case, event: u32, live: &Row<u32>, border: &mut [bool], across: &mut [bool])
     requires fit { IsFit case.now }
     requires event { event < length (judged case.now).table }
     requires passed { (j : ℕ) → j < event → PassesEvent (judged case.now) j }
@@ -123,25 +125,35 @@ fn mark_event(case: &Case, event: u32, live: &[u32], border: &mut [bool], across
     let position = position_of(case, event);
     let ending = case.table.ending(event).len();
     let starting = case.table.starting(event);
+
+    // The place behind the block is no greater than the length, which fits its type.
+    let _length = live.len();
     let lower = edge_before(live, position);
     let upper = edge_at(live, position + ending);
     let notes = &case.certificate.notes;
     mark_neighbours(border, across, notes, lower, starting, upper);
 }
 
-fn move_event(case: &Case, event: u32, live: &mut Row<u32>, mesh: &mut Mesh, fan: &mut [HalfEdgeId])
+fn move_event(
+    case: &Case,
+    event: u32,
+    live: &mut Row<u32>,
+    block: &mut Vec<u32>,
+    mesh: &mut Mesh,
+    fan: &mut [HalfEdgeId],
+) -> Result<(), Memory>
     requires fit { IsFit case.now }
     requires event { event < length (judged case.now).table }
     requires passes { PassesEvent (judged case.now) event }
-    requires moved { IsMovedTo (judged case.now) event (values_of live.old) (room_of live.old)
-        (length fan.old) mesh.old }
-    ensures { IsMovedTo (judged case.now) (suc event) (values_of live.new) (room_of live.new)
-        (length fan.new) mesh.new }
+    requires moved { IsMovedTo (judged case.now) event live.old (length fan.old) mesh.old }
+    ensures { OnOk result (IsMovedTo (judged case.now) (suc event) live.new (length fan.new)
+        mesh.new) }
 {
     let position = position_of(case, event);
     let ending = case.table.ending(event).len();
     let starting = case.table.starting(event);
-    let block = &live.values()[position..position + ending];
+    live.copy_part(position, ending, block)?;
     turn_event(mesh, starting, block, fan);
-    live.replace(position, ending, starting);
+    live.replace(position, ending, starting)?;
+    Ok(())
 }

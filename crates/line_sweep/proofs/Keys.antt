@@ -1,5 +1,5 @@
 -- Cells under keys: what taking some out and putting others in leaves.
-use Rattle.std.proofs.Common.{◌≡◌, ℕ, zero, suc, ◌+◌, ◌-◌, ◌<◌, ◌≤◌, inl, inr, Option, Some, None, IsSome, List, [], ◌∷◌, ◌++◌, length, take, drop, filter, get_or, refl, arith, ap, sym, ◌∙◌, subst, append_assoc, append-nil}
+use Rattle.std.proofs.Common.{◌≡◌, ℕ, zero, suc, ◌+◌, ◌-◌, ◌<◌, ◌≤◌, inl, inr, Option, Some, None, IsSome, List, [], ◌∷◌, ◌++◌, length, take, drop, filter, get_or, refl, arith, ap, sym, ◌∙◌, subst, append_assoc, append-nil, add-one}
 use Rattle.std.proofs.lemmas.List.{map-append, take-append-drop, take_more}
 use Rattle.std.specs.List.{take-map, drop-map}
 use Rattle.std.proofs.lemmas.Grind.{common_steps}
@@ -169,29 +169,29 @@ moved old now new keys fresh p n told before after o all w a put = record {
 count_is : (p n : ℕ) → p + (n + 1) - p ≡ suc n
 count_is p n = omega arith
 
-block_is : (shown keys : List ℕ) (p n : ℕ) → shown ≡ keys → take (p + (n + 1) - p) (drop p shown) ≡ take (suc n) (drop p keys)
-block_is shown keys p n e = ap (λ (k : ℕ). take k (drop p shown)) (count_is p n) ∙ ap (λ (ks : List ℕ). take (suc n) (drop p ks)) e
+closing_is : (closing keys : List ℕ) (p n : ℕ) → closing ≡ take (n + 1) (drop p keys) → closing ≡ take (suc n) (drop p keys)
+closing_is closing keys p n e = e ∙ ap (λ (i : ℕ). take i (drop p keys)) (add-one n)
 
-pub once_block : (shown keys : List ℕ) (p n : ℕ) → shown ≡ keys → Once keys → Once (take (p + (n + 1) - p) (drop p shown))
-once_block shown keys p n e o =
-    subst Once (sym (block_is shown keys p n e))
+pub once_block : (closing keys : List ℕ) (p n : ℕ) → closing ≡ take (n + 1) (drop p keys) → Once keys → Once closing
+once_block closing keys p n e o =
+    subst Once (sym (closing_is closing keys p n e))
     (once_front (take (suc n) (drop p keys)) (drop (suc n) (drop p keys)) (subst Once (sym (take-append-drop (suc n) (drop p keys))) (once_back (take p keys) (drop p keys) (subst Once (sym (take-append-drop p keys)) o))))
 
-pub closed_after : (old now : Slab Cell) (shown keys : List ℕ) (p n : ℕ) (before after : List Gap) → shown ≡ keys → AreClosed old now (take (p + (n + 1) - p) (drop p shown)) before after
+pub closed_after : (old now : Slab Cell) (closing keys : List ℕ) (p n : ℕ) (before after : List Gap) → closing ≡ take (n + 1) (drop p keys) → AreClosed old now closing before after
     → after ≡ before ++ filter is_real (take (suc n) (drop p (gaps_held old keys)))
-closed_after old now shown keys p n before after e a =
-    a.closed ∙ ap (λ (ks : List ℕ). before ++ filter is_real (gaps_held old ks)) (block_is shown keys p n e)
+closed_after old now closing keys p n before after e a =
+    a.closed ∙ ap (λ (ks : List ℕ). before ++ filter is_real (gaps_held old ks)) (closing_is closing keys p n e)
     ∙ ap (λ gs. before ++ filter is_real gs) (sym (take-map (λ (k : ℕ). gap_in (get old k)) (suc n) (drop p keys)) ∙ ap (λ gs. take (suc n) gs) (sym (drop-map (λ (k : ℕ). gap_in (get old k)) p keys)))
 
-pub held_after : (old now new : Slab Cell) (shown keys keys' fresh given : List ℕ) (p n : ℕ) (told before after : List Gap) → shown ≡ keys → Once keys → ((k : ℕ) → Has k keys → ContainsKey old k)
-    → (p + n) + 1 ≤ length keys → AreClosed old now (take (p + (n + 1) - p) (drop p shown)) before after → ArePut now new told fresh → given ≡ fresh
+pub held_after : (old now new : Slab Cell) (closing keys keys' fresh given : List ℕ) (p n : ℕ) (told before after : List Gap) → closing ≡ take (n + 1) (drop p keys) → Once keys → ((k : ℕ) → Has k keys → ContainsKey old k)
+    → (p + n) + 1 ≤ length keys → AreClosed old now closing before after → ArePut now new told fresh → given ≡ fresh
     → keys' ≡ take p keys ++ (given ++ drop (p + (n + 1)) keys)
     → IsHeld new keys' (take p (gaps_held old keys) ++ (told ++ drop (suc (p + n)) (gaps_held old keys)))
-held_after old now new shown keys keys' fresh given p n told before after e o all w a put g q =
+held_after old now new closing keys keys' fresh given p n told before after e o all w a put g q =
     let all_is : keys' ≡ take p keys ++ (fresh ++ drop (p + suc n) keys) = q ∙ ap (λ (ks : List ℕ). take p keys ++ (ks ++ drop (p + (n + 1)) keys)) g ∙ ap (λ (k : ℕ). take p keys ++ (fresh ++ drop k keys)) (one p n) in
     subst (λ (ks : List ℕ). IsHeld new ks (take p (gaps_held old keys) ++ (told ++ drop (suc (p + n)) (gaps_held old keys)))) (sym all_is)
     (subst (λ (k : ℕ). IsHeld new (take p keys ++ (fresh ++ drop (p + suc n) keys)) (take p (gaps_held old keys) ++ (told ++ drop k (gaps_held old keys)))) (two p n)
-    (moved old now new keys fresh p (suc n) told before after o all (omega (arith, w)) (subst (λ (ks : List ℕ). AreClosed old now ks before after) (block_is shown keys p n e) a) put))
+    (moved old now new keys fresh p (suc n) told before after o all (omega (arith, w)) (subst (λ (ks : List ℕ). AreClosed old now ks before after) (closing_is closing keys p n e) a) put))
   where
     one : (p n : ℕ) → p + (n + 1) ≡ p + suc n
     one p n = omega arith

@@ -84,10 +84,6 @@ no_elements : {X : Type 0} (xs : List X) → ((x : X) → Has x xs → ⊥) → 
 no_elements [] f = refl
 no_elements (x ∷ xs) f = absurd (f x (inl refl))
 
-room_after : (m : ℕ) (E : ℕ → Edge) (pts : List Point) (done : List Step) (coming : List Point) → IsUnderWay m E pts done coming → length (lives done) ≤ m
-room_after m E pts done [] u = let n = no_elements (lives done) (λ e h. (known_live m E pts done [] e u h).2) in omega (arith, n)
-room_after m E pts done (v ∷ coming) u = room_live m E pts done v coming u
-
 module _ (edges : List Edge) (table : List Timed) (k : ℕ) (live keys : List ℕ) (slab : Slab Cell) (moves : List Move) (told : List Gap) (sorted : AreSorted edges)
     (t : IsTimetable (length edges) (edge_of edges) table) (l : k < length table) (s : IsSweptTo edges table k live keys slab moves told) where
   abbrev pub timed : Timed
@@ -177,20 +173,6 @@ module _ (edges : List Edge) (table : List Timed) (k : ℕ) (live keys : List �
       next_is =
           ap (λ (ns : List ℕ). take p live ++ (timed.starting ++ ns)) (sym (drop_twice p n live))
           ∙ ap (λ (ns : List ℕ). take p ns ++ (timed.starting ++ drop n (drop p ns))) is_live
-
-      pub room_next : length live + length timed.starting ≤ length edges + n
-      room_next =
-          let a = room_after (length edges) (edge_of edges) (points_of table) (the_step ∷ made [] moves) (drop (suc k) (points_of table)) goes_on in
-          let e = ap length next_is in
-          let f = length-append (take p live) (timed.starting ++ drop (p + n) live) in
-          let g = length-append timed.starting (drop (p + n) live) in
-          let h = length-drop (p + n) live in
-          let w = b.within in
-          let i = length-take-le p live (omega (arith, w)) in
-          omega (arith, a, e, f, g, h, i, w)
-
-      pub room_gaps : length (opened k (step_of live move)) ≡ suc (length timed.starting)
-      room_gaps = gaps_size k _ timed.starting _
 
       pub swept_next : (slab' : Slab Cell) (keys' : List ℕ) (told' : List Gap)
           → IsHeld slab' keys' (take p (gaps_held slab keys) ++ (opened k (step_of live move) ++ drop (suc (p + n)) (gaps_held slab keys)))

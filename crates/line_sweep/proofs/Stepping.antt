@@ -17,7 +17,7 @@ use Rattle.line_sweep.specs.Held.{HasEdges, IsBadCell, IsFineCell, IsHeld, gaps_
 use Rattle.line_sweep.specs.Kinds.{AreBad, gap_of, gaps_of, move_at_block}
 use Rattle.line_sweep.specs.Sweeping.{HasTimetable, IsSweptTo, points_of}
 use Rattle.line_sweep.proofs.CellGaps.{gap_has, has_gap, no_cell}
-use Rattle.line_sweep.proofs.NextEvent.{keys_size, opened_known, room_next, room_gaps, swept_next}
+use Rattle.line_sweep.proofs.NextEvent.{keys_size, opened_known, swept_next}
 use Rattle.line_sweep.proofs.TimedMoves.{run_is_timed, trail_made}
 use Rattle.line_sweep.proofs.PlaneLaws.{all_made, begins, ends_as_run, ends_fine}
 
@@ -89,16 +89,6 @@ module _ (edges : List Edge) (table : List Timed) (k : ℕ) (live keys : List �
 
     pub place_at : (p + n) + 1 ≤ length keys
     place_at = let a = keys_size edges table k live keys slab moves told sorted t l s in let w = b.within in omega (arith, a, w)
-
-    pub live_room : length live + length (get_or table k no_event).starting ≤ length edges + n
-    live_room = room_next edges table k live keys slab moves told sorted t l s p n b fine
-
-    pub keys_room : length keys + length cells ≤ (length edges + 1) + (n + 1)
-    keys_room =
-        let a = keys_size edges table k live keys slab moves told sorted t l s in
-        let r = live_room in
-        let c = sym (length-map cells gap_of) ∙ ap length o ∙ room_gaps edges table k live keys slab moves told sorted t l s p n b fine in
-        omega (arith, a, r, c)
 
     pub step_next : (live' keys' : List ℕ) (slab' : Slab Cell) (starting : List ℕ) (moves' : List Move) (told' : List Gap) → starting ≡ (get_or table k no_event).starting
         → live' ≡ take p live ++ (starting ++ drop (p + n) live)

@@ -8,7 +8,6 @@ use Rattle.plane.specs.Runs.Sweeps.{IsUnderWay}
 use Rattle.plane.specs.Runs.Timetables.{IsTimetable, Timed, moves_at}
 use Rattle.slab.specs.Slab.{Slab}
 use Rattle.straight_predicates.specs.EdgeLists.{edge_of}
-use Rattle.straight_predicates.specs.Rows.{values_of, room_of}
 use Rattle.line_sweep.specs.declared.kinds.Cell.{Cell}
 use Rattle.line_sweep.specs.declared.state.State.{State}
 use Rattle.line_sweep.specs.Held.{IsHeld}
@@ -28,11 +27,9 @@ pub record IsSweptTo (edges : List Edge) (table : List Timed) (k : ℕ) (live ke
   pub held : IsHeld slab keys (open_gaps moves)
   pub closed : told ≡ closed_gaps moves
 
--- The same of what the program keeps, which has room for all edges.
-pub record HasSwept (edges : List Edge) (table : List Timed) (k : ℕ) (s : State) : Type 0 where
-  pub swept : IsSweptTo edges table k (values_of s.live) (values_of s.keys) s.open (moves_of s.swept.events.items) (gaps_of s.swept.cells.items)
-  pub room : room_of s.live ≡ length edges
-  pub gap_room : room_of s.keys ≡ length edges + 1
+-- The same of what the program keeps.
+abbrev pub HasSwept : List Edge → List Timed → ℕ → State → Type 0
+HasSwept edges table k s = IsSweptTo edges table k s.live s.keys s.open (moves_of s.swept.events.items) (gaps_of s.swept.cells.items)
 
 -- The moves are those of the timetable of the edges, each at its place of the live list.
 pub record HasTimetable (edges : List Edge) (moves : List Move) : Type 0 where

@@ -1,7 +1,7 @@
 // The cells that an event opens, and whether the edges of one are bad.
-ghost use Rattle.std.specs.Prelude.{◌≡◌, ◌≤◌, All, IfErr, OnOk, Some, length};
+ghost use Rattle.std.specs.Prelude.{◌≡◌, All, IfErr, OnOk, Some};
 ghost use Rattle.plane.specs.Forms.Meets.{Bad};
-ghost use Rattle.plane.specs.Runs.Gaps.{edge_at, edge_before, gaps_between};
+ghost use Rattle.plane.specs.Runs.Gaps.{gaps_between};
 ghost use Rattle.straight_predicates.specs.EdgeLists.{edge_of, AreSorted, AreAllClose};
 ghost use Rattle.line_sweep.specs.Held.{HasEdges, IsBadCell, IsFineCell};
 ghost use Rattle.line_sweep.specs.Kinds.{gaps_of};
@@ -10,29 +10,6 @@ use super::kinds::Cell;
 use plane::Edge;
 use ports::Memory;
 use straight_predicates::{Meet, meet};
-
-/// The edge before a place of the list.
-pub fn edge_before(live: &[u32], place: usize) -> Option<u32>
-    requires { place ≤ length live.now }
-    ensures { result ≡ edge_before live.now place }
-{
-    if place == 0 {
-        None
-    } else {
-        Some(live[place - 1])
-    }
-}
-
-/// The edge at a place of the list.
-pub fn edge_at(live: &[u32], place: usize) -> Option<u32>
-    ensures { result ≡ edge_at live.now place }
-{
-    if place < live.len() {
-        Some(live[place])
-    } else {
-        None
-    }
-}
 
 /// Writes the cells from the lower edge over the starting ones to the upper edge.
 pub fn open_cells(

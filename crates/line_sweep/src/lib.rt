@@ -16,11 +16,12 @@
 //!   edges that begin where others end or on others, and no edge at all are all taken.
 //! - **Not here:** no faces, no half-edges and no points but the edges' ends.
 //!
-//! Cost: O((m + events) log m) for m edges, and what the live list moves: with L live edges an
-//! event at which more edges end than start, or fewer, moves at most L entries of 12 bytes. On maps
-//! L is some hundreds; in the worst case, where most edges lie over one upright line, it is m, and
-//! the whole takes O(m^2) moves of memory in one piece. No event takes memory but for the list of
-//! its starting edges, and for the cells where they grow.
+//! Cost: O((m + events) log m) for m edges, and what the live list and the keys of the open cells
+//! move. These are kept in blocks (`straight_predicates::Row`): an event moves at most 8,192 entries
+//! of 4 and of 8 bytes, beside those that come and go, however many edges are live, and passes over
+//! the blocks before its place, of which there are at most m / 2,048 + 1. On maps some hundreds of
+//! edges are live, in one block. An event takes memory for the list of its starting edges, and for
+//! the cells and the blocks where they grow.
 #![tactic(auto)]
 
 mod blocks;

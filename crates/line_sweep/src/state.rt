@@ -11,7 +11,8 @@ pub struct State {
     pub keys: Row<usize>,
     pub open: Slab<Cell>,
     pub swept: Swept,
-    /// The cells that an event opens, and their keys.
+    /// The keys of the cells that an event closes; the cells that it opens, and their keys.
+    pub closing: Vec<usize>,
     pub opened: Vec<Cell>,
     pub fresh: Vec<usize>,
 }

@@ -9,7 +9,6 @@ ghost use Rattle.plane.specs.Runs.Steps.{Run};
 ghost use Rattle.plane.specs.Runs.Timetables.{IsTimetable, no_event};
 ghost use Rattle.straight_predicates.specs.EdgeLists.{edge_of, AreSorted, AreAllClose};
 ghost use Rattle.straight_predicates.specs.Tables.{table_of};
-ghost use Rattle.straight_predicates.specs.Rows.{values_of, room_of};
 ghost use Rattle.slab.specs.Slab.{ContainsKey};
 ghost use Rattle.line_sweep.specs.Blocks.{IsBlock};
 ghost use Rattle.line_sweep.specs.Held.{IsFineCell, IsHeld, gaps_held};
@@ -17,7 +16,7 @@ ghost use Rattle.line_sweep.specs.Kinds.{IsRefused, gaps_of, move_at_block, move
 ghost use Rattle.line_sweep.specs.Sweeping.{HasSwept, HasTimetable};
 
 use super::blocks::{Block, find_block};
-use super::cells::{edge_at, edge_before, open_cells, test_cells};
+use super::cells::{open_cells, test_cells};
 use super::keeping::{close_cells, keep_cells};
 use super::kinds::{Cell, Event, SweepRefusal, Swept};
 use super::state::State;
@@ -25,7 +24,7 @@ use plane::{Edge, Point};
 use ports::Memory;
 use slab::Slab;
 use std::alloc::Global;
-use straight_predicates::{Row, Timetable};
+use straight_predicates::{Row, Timetable, edge_at, edge_before};
 
 /// The events of the edges and their neighbours, or two edges that are bad. The only other refusal
 /// is want of memory. Costs stand at the head of the crate.
@@ -44,38 +43,35 @@ pub fn sweep(alloc: Global, edges: &[Edge]) -> Result<Swept, SweepRefusal>
     ensures refused { IfErr result (IsRefused edges.now) }
 {
     let table = Timetable::new(alloc, edges)?;
-    let mut state = begin(alloc, edges.len())?;
+    let mut state = begin(alloc)?;
     run(alloc, edges, &table, &mut state)?;
     Ok(state.swept)
 }
 
 /// Nothing is live, and one cell without edges is open.
-fn begin(alloc: Global, edges: usize) -> Result<State, Memory>
-    requires few { edges < 2 ^ 31 }
-    ensures live { IfOk result (λ s. values_of s.live ≡ []) }
-    ensures held { IfOk result (λ s. IsHeld s.open (values_of s.keys) (no_gap ∷ [])) }
+fn begin(alloc: Global) -> Result<State, Memory>
+    ensures live { IfOk result (λ s. s.live ≡ []) }
+    ensures held { IfOk result (λ s. IsHeld s.open s.keys (no_gap ∷ [])) }
     ensures events { IfOk result (λ s. s.swept.events.items ≡ []) }
     ensures cells { IfOk result (λ s. s.swept.cells.items ≡ []) }
-    ensures room { IfOk result (λ s. room_of s.live ≡ edges) }
-    ensures gap_room { IfOk result (λ s. room_of s.keys ≡ edges + 1) }
 {
-    let live = Row::new(alloc, edges)?;
-    let mut keys = Row::new(alloc, edges + 1)?;
+    let mut keys = Row::new(alloc);
     let mut open = Slab::new(alloc);
     let first = open.insert(Cell {
         lower: None,
         upper: None,
         event: 0,
     })?;
-    keys.replace(0, 0, &[first]);
+    keys.replace(0, 0, &[first])?;
     Ok(State {
-        live,
+        live: Row::new(alloc),
         keys,
         open,
         swept: Swept {
             events: Vec::new(alloc),
             cells: Vec::new(alloc),
         },
+        closing: Vec::new(alloc),
         opened: Vec::new(alloc),
         fresh: Vec::new(alloc),
     })
@@ -124,12 +120,13 @@ fn step(
     move_cells(
         &mut state.open,
         &mut state.keys,
+        &mut state.closing,
         &mut state.fresh,
         &mut state.swept.cells,
         block,
         &state.opened,
     )?;
-    state.live.replace(block.from, block.count, starting);
+    state.live.replace(block.from, block.count, starting)?;
     add_event(
         alloc,
         &mut state.swept.events,
@@ -182,12 +179,12 @@ fn block_at(
     requires table { IsTimetable (length edges.now) (edge_of edges.now) (table_of table.now) }
     requires event { event < length (table_of table.now) }
     requires swept { HasSwept edges.now (table_of table.now) event state.now }
-    ensures block { IfOk result (λ b. IsBlock (edge_of edges.now) (values_of state.now.live)
+    ensures block { IfOk result (λ b. IsBlock (edge_of edges.now) state.now.live
         (slice_index_or (table_of table.now) event no_event).at b.from b.count) }
     ensures refused { IfErr result (IsRefused edges.now) }
 {
     let at = table.at(event);
-    match find_block(state.live.values(), edges, at) {
+    match find_block(&state.live, edges, at) {
         Ok(block) => Ok(block),
         Err(edge) => Err(SweepRefusal::Bad {
             first: edge,
@@ -220,25 +217,25 @@ fn open_at(
     block: Block,
     state: &mut State,
 ) -> Result<(), SweepRefusal>
+    requires few { length edges.now < 2 ^ 31 }
     requires sorted { AreSorted edges.now }
     requires close { AreAllClose edges.now }
     requires table { IsTimetable (length edges.now) (edge_of edges.now) (table_of table.now) }
     requires event { event < length (table_of table.now) }
     requires swept { HasSwept edges.now (table_of table.now) event state.old }
-    requires block { IsBlock (edge_of edges.now) (values_of state.old.live) (slice_index_or
+    requires block { IsBlock (edge_of edges.now) state.old.live (slice_index_or
         (table_of table.now) event no_event).at block.from block.count }
     ensures swept { OnOk result (HasSwept edges.now (table_of table.now) event state.new) }
-    ensures block { OnOk result (IsBlock (edge_of edges.now) (values_of state.new.live)
+    ensures block { OnOk result (IsBlock (edge_of edges.now) state.new.live
         (slice_index_or (table_of table.now) event no_event).at block.from block.count) }
     ensures opened { OnOk result (gaps_of state.new.opened.items
-        ≡ opened event (step_of (values_of state.new.live) (move_at_block (slice_index_or
+        ≡ opened event (step_of state.new.live (move_at_block (slice_index_or
         (table_of table.now) event no_event) block.from block.count))) }
     ensures fine { OnOk result (All (IsFineCell edges.now) state.new.opened.items) }
     ensures refused { IfErr result (IsRefused edges.now) }
 {
-    let live = state.live.values();
-    let lower = edge_before(live, block.from);
-    let upper = edge_at(live, block.from + block.count);
+    let lower = edge_before(&state.live, block.from);
+    let upper = edge_at(&state.live, block.from + block.count);
     open_cells(
         &mut state.opened,
         lower,
@@ -259,28 +256,28 @@ fn open_at(
 fn move_cells(
     open: &mut Slab<Cell>,
     keys: &mut Row<usize>,
+    closing: &mut Vec<usize>,
     fresh: &mut Vec<usize>,
     closed: &mut Vec<Cell>,
     block: Block,
     opened: &[Cell],
 ) -> Result<(), Memory>
-    requires once { Once (values_of keys.old) }
-    requires all { (k : ℕ) → Has k (values_of keys.old) → ContainsKey open.old k }
-    requires place { block.from + block.count + 1 ≤ length (values_of keys.old) }
-    requires room { length (values_of keys.old) + length opened.now ≤ room_of keys.old +
-        (block.count + 1) }
-    ensures held { OnOk result (IsHeld open.new (values_of keys.new) (take block.from
-        (gaps_held open.old (values_of keys.old)) ++ (gaps_of opened.now
-        ++ drop (suc (block.from + block.count)) (gaps_held open.old (values_of keys.old))))) }
+    requires few { block.from + block.count < 2 ^ 31 }
+    requires once { Once keys.old }
+    requires all { (k : ℕ) → Has k keys.old → ContainsKey open.old k }
+    requires place { block.from + block.count + 1 ≤ length keys.old }
+    ensures held { OnOk result (IsHeld open.new keys.new (take block.from
+        (gaps_held open.old keys.old) ++ (gaps_of opened.now
+        ++ drop (suc (block.from + block.count)) (gaps_held open.old keys.old)))) }
     ensures closed { OnOk result (gaps_of closed.new.items
         ≡ gaps_of closed.old.items
         ++ filter is_real (take (suc block.count) (drop block.from (gaps_held open.old
-        (values_of keys.old))))) }
-    ensures room { OnOk result (room_of keys.new ≡ room_of keys.old) }
+        keys.old)))) }
 {
     let count = block.count + 1;
-    close_cells(open, &keys.values()[block.from..block.from + count], closed)?;
+    keys.copy_part(block.from, count, closing)?;
+    close_cells(open, closing, closed)?;
     keep_cells(open, opened, fresh)?;
-    keys.replace(block.from, count, fresh);
+    keys.replace(block.from, count, fresh)?;
     Ok(())
 }

@@ -6,8 +6,6 @@ use Rattle.plane.specs.Forms.Vectors.{Before}
 use Rattle.plane.specs.declared.kinds.Edge.{Edge}
 use Rattle.plane.specs.Runs.Moves.{Move, no_move}
 use Rattle.straight_predicates.specs.EdgeLists.{no_point}
-use Rattle.straight_predicates.specs.Rows.{values_of}
-use Rattle.straight_predicates.specs.declared.live_row.Row.{Row}
 use Rattle.straight_predicates.proofs.Orders.{by_lt}
 use Rattle.line_sweep.specs.declared.kinds.Event.{Event}
 use Rattle.line_sweep.specs.Kinds.{moves_of}
@@ -81,14 +79,14 @@ before_next points order o k l p b =
         (λ (h : q.y ≤ℤ r.y). y_less p q r b e h)))
 
 -- all that is applied comes before the point
-pub moment_at : (ev es es' : List Event) → es ≡ ev → es' ≡ ev → (m applied k : ℕ) (live : Row ℕ) (now : List ℕ) (at : Point) → ((j : ℕ) → j < applied → Before (get_or (moves_of ev) j no_move).at at)
-    → IsApplied m (moves_of es) k live → ((j : ℕ) → applied ≤ j → j < k → Before (get_or (moves_of es) j no_move).at at) → (k < length (moves_of es) → Before (get_or (moves_of es) k no_move).at at → ⊥)
-    → now ≡ values_of live → IsMoment (moves_of es') k now at
-moment_at ev es es' e e' m applied k live now at early a f g v =
-    let b = subst (λ (xs : List Event). IsApplied m (moves_of xs) k live) e a in
+pub moment_at : (ev es es' : List Event) → es ≡ ev → es' ≡ ev → (applied k : ℕ) (now : List ℕ) (at : Point) → ((j : ℕ) → j < applied → Before (get_or (moves_of ev) j no_move).at at)
+    → IsApplied (moves_of es) k now → ((j : ℕ) → applied ≤ j → j < k → Before (get_or (moves_of es) j no_move).at at) → (k < length (moves_of es) → Before (get_or (moves_of es) k no_move).at at → ⊥)
+    → IsMoment (moves_of es') k now at
+moment_at ev es es' e e' applied k now at early a f g =
+    let b = subst (λ (xs : List Event). IsApplied (moves_of xs) k now) e a in
     subst (λ (xs : List Event). IsMoment (moves_of xs) k now at) (sym e') (record {
       known = b.known;
-      values = v ∙ b.values;
+      values = b.values;
       passed = λ j l. by_lt j applied (λ (h : j < applied). early j h) (λ (h : applied ≤ j). subst (λ (xs : List Event). Before (get_or (moves_of xs) j no_move).at at) e (f j h l));
       coming = subst (λ (xs : List Event). k < length (moves_of xs) → Before (get_or (moves_of xs) k no_move).at at → ⊥) e g;
     })

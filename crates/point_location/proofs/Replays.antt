@@ -1,14 +1,12 @@
 -- One event more of a replay, and the least edge at an event.
 use Rattle.std.proofs.Common.{◌≡◌, ℕ, zero, suc, ◌+◌, ◌-◌, ◌^◌, ◌<◌, ◌≤◌, min, ◌⊎◌, inl, inr, List, [], ◌∷◌, ◌++◌, length, take, drop, get_or, refl, arith, ap, sym, ◌∙◌, subst, add-one}
-use Rattle.std.proofs.lemmas.List.{get_or-map, length-append, length-drop, length-map, length-take-le}
+use Rattle.std.proofs.lemmas.List.{get_or-drop, get_or-map, get_or-take, length-drop, length-map, length-take, length-take-le}
 use Rattle.plane.specs.declared.kinds.Edge.{Edge}
 use Rattle.plane.specs.declared.kinds.Point.{Point}
 use Rattle.plane.specs.Forms.Vectors.{Before}
 use Rattle.plane.specs.Lists.{Has}
 use Rattle.plane.specs.Runs.Moves.{Fit, Move, live_from, no_move, step_of, steps_from}
 use Rattle.plane.specs.Runs.Steps.{Run, after}
-use Rattle.straight_predicates.specs.Rows.{values_of, room_of}
-use Rattle.straight_predicates.specs.declared.live_row.Row.{Row}
 use Rattle.line_sweep.specs.declared.kinds.Event.{Event}
 use Rattle.line_sweep.specs.Kinds.{move_of, moves_of}
 use Rattle.point_location.specs.Replaying.{EndsOrStarts, IsApplied}
@@ -22,35 +20,17 @@ move_is events k v l e = get_or-map move_of events k v no_move l ∙ ap move_of 
 pub moves_size : (events : List Event) → length (moves_of events) ≡ length events
 moves_size events = length-map events move_of
 
-after_size : (now : List ℕ) (v : Move) → v.position + v.ending ≤ length now → length (after (step_of now v)) + v.ending ≡ length now + length v.starting
-after_size now v l =
-    let a = length-append (take v.position now) (v.starting ++ drop v.ending (drop v.position now)) in
-    let b = length-append v.starting (drop v.ending (drop v.position now)) in
-    let c = length-take-le v.position now (omega (arith, l)) in
-    let d = length-drop v.ending (drop v.position now) in
-    let e = length-drop v.position now in
-    omega (arith, a, b, c, d, e, l)
-
-module _ (m : ℕ) (E : ℕ → Edge) (vs : List Move) (run : Run m E (steps_from [] vs)) (fit : Fit [] vs) (k : ℕ) (live : Row ℕ) (a : IsApplied m vs k live) (l : k < length vs) (v : Move) (is : get_or vs k no_move ≡ v) where
-  pub block_fits : v.position + v.ending ≤ length (values_of live)
+module _ (vs : List Move) (fit : Fit [] vs) (k : ℕ) (live : List ℕ) (a : IsApplied vs k live) (l : k < length vs) (v : Move) (is : get_or vs k no_move ≡ v) where
+  pub block_fits : v.position + v.ending ≤ length live
   block_fits = subst (λ (xs : List ℕ). v.position + v.ending ≤ length xs) (sym a.values) (subst (λ (u : Move). u.position + u.ending ≤ length (live_from [] (take k vs))) is (fits_at [] vs k fit l))
 
-  next_is : live_from [] (take (suc k) vs) ≡ after (step_of (values_of live) v)
+  next_is : live_from [] (take (suc k) vs) ≡ after (step_of live v)
   next_is = live_next [] vs k l ∙ ap (λ (u : Move). after (step_of (live_from [] (take k vs)) u)) is ∙ ap (λ (xs : List ℕ). after (step_of xs v)) (sym a.values)
 
-  pub room_fits : length (values_of live) + length v.starting ≤ room_of live + v.ending
-  room_fits =
-      let s = after_size (values_of live) v block_fits in
-      let n = live_room m E vs run (suc k) (omega (arith, l)) in
-      let e = ap length next_is in
-      let r = a.room in
-      omega (arith, s, n, e, r)
-
-  pub applied_next : (live' : Row ℕ) → values_of live' ≡ after (step_of (values_of live) v) → room_of live' ≡ room_of live → IsApplied m vs (k + 1) live'
-  applied_next live' e r = record {
+  pub applied_next : (live' : List ℕ) → live' ≡ after (step_of live v) → IsApplied vs (k + 1) live'
+  applied_next live' e = record {
     known = omega (arith, l);
     values = e ∙ sym next_is ∙ ap (λ (n : ℕ). live_from [] (take n vs)) (sym (add-one k));
-    room = r ∙ a.room;
   }
 
 -- one more that comes before the point
@@ -90,6 +70,16 @@ part_is live p n = ap (λ (k : ℕ). take k (drop p live)) (same p n)
     same : (p n : ℕ) → (p + n) - p ≡ n
     same p n = omega arith
 
+-- the number at a place of a part
+module _ (live : List ℕ) (from upto place : ℕ) (l : from ≤ place) (u : place < upto) (w : upto ≤ length live) where
+  pub in_part : place - from < length (take (upto - from) (drop from live))
+  in_part = let a = length-drop from live in let b = length-take-le (upto - from) (drop from live) (omega (arith, a, w)) in omega (arith, b, l, u)
+
+  pub at_part : (value : ℕ) → value ≡ get_or live place 0 → value ≡ get_or (take (upto - from) (drop from live)) (place - from) 0
+  at_part value e =
+      let n : from + (place - from) ≡ place = omega (arith, l) in
+      e ∙ ap (λ (i : ℕ). get_or live i 0) (sym n) ∙ sym (get_or-take (upto - from) (drop from live) (place - from) 0 (omega (arith, l, u)) ∙ get_or-drop from live (place - from) 0)
+
 -- one number more
 pub least_next : (numbers : List ℕ) (i least new bound : ℕ) → i < length numbers → (least ≡ bound) ⊎ Has least numbers → new ≡ min least (get_or numbers i 0) → (new ≡ bound) ⊎ Has new numbers
 least_next numbers i least new bound l h e = elim (either least (get_or numbers i 0) new e) [
@@ -102,3 +92,20 @@ least_next numbers i least new bound l h e = elim (either least (get_or numbers 
 
 pub least_each : (numbers : List ℕ) (k least new : ℕ) → ((i : ℕ) → i < k → least ≤ get_or numbers i 0) → new ≡ min least (get_or numbers k 0) → (i : ℕ) → i < k + 1 → new ≤ get_or numbers i 0
 least_each numbers k least new f e i l = by_lt i k (λ (b : i < k). let h = f i b in omega (arith, h, e)) (λ (b : k ≤ i). let q : k ≡ i = omega (arith, l, b) in subst (λ (j : ℕ). new ≤ get_or numbers j 0) q (omega (arith, e)))
+
+-- the least of a part, place by place
+module _ (live : List ℕ) (from upto place : ℕ) where
+  pub part_next : from ≤ place → place < upto → upto ≤ length live → (value least new bound : ℕ) → value ≡ get_or live place 0 → (least ≡ bound) ⊎ Has least (take (upto - from) (drop from live))
+      → new ≡ min least value → (new ≡ bound) ⊎ Has new (take (upto - from) (drop from live))
+  part_next l u w value least new bound e h m =
+      least_next (take (upto - from) (drop from live)) (place - from) least new bound (in_part live from upto place l u w) h
+      (m ∙ ap (λ (v : ℕ). min least v) (at_part live from upto place l u w value e))
+
+  pub part_each : from ≤ place → place < upto → upto ≤ length live → (value least new : ℕ) → value ≡ get_or live place 0 → ((i : ℕ) → i < place - from → least ≤ get_or (take (upto - from) (drop from live)) i 0)
+      → new ≡ min least value → (i : ℕ) → i < (place + 1) - from → new ≤ get_or (take (upto - from) (drop from live)) i 0
+  part_each l u w value least new e f m i b =
+      least_each (take (upto - from) (drop from live)) (place - from) least new f (m ∙ ap (λ (v : ℕ). min least v) (at_part live from upto place l u w value e)) i (omega (arith, b, l))
+
+  pub part_at_end : upto ≤ place → (least : ℕ) → ((i : ℕ) → i < place - from → least ≤ get_or (take (upto - from) (drop from live)) i 0)
+      → (i : ℕ) → i < length (take (upto - from) (drop from live)) → least ≤ get_or (take (upto - from) (drop from live)) i 0
+  part_at_end t least f i b = f i (let n = length-take (upto - from) (drop from live) in omega (arith, n, b, t))

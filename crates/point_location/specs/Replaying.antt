@@ -5,14 +5,11 @@ use Rattle.plane.specs.Runs.Steps.{Step}
 use Rattle.plane.specs.declared.kinds.Point.{Point}
 use Rattle.plane.specs.Forms.Vectors.{Before}
 use Rattle.plane.specs.Runs.Moves.{Move, live_from, no_move}
-use Rattle.straight_predicates.specs.Rows.{values_of, room_of}
-use Rattle.straight_predicates.specs.declared.live_row.Row.{Row}
 
--- The first k events are applied, and there is room for all m edges.
-pub record IsApplied (m : ℕ) (moves : List Move) (k : ℕ) (live : Row ℕ) : Type 0 where
+-- The first k events are applied.
+pub record IsApplied (moves : List Move) (k : ℕ) (live : List ℕ) : Type 0 where
   pub known : k ≤ length moves
-  pub values : values_of live ≡ live_from [] (take k moves)
-  pub room : room_of live ≡ m
+  pub values : live ≡ live_from [] (take k moves)
 
 -- The first k events, and no others, come before the point, and they leave this live list.
 pub record IsMoment (moves : List Move) (k : ℕ) (live : List ℕ) (at : Point) : Type 0 where

@@ -15,7 +15,7 @@
 //! - **Not here:** which face a cell belongs to, and whether a point lies on a half arc.
 //!
 //! Cost: O((p + events) log (m + p)) for p points and m edges, and what the live list moves, as in
-//! the sweep. It takes 48 bytes a point and 4 an edge, all before the replay begins.
+//! the sweep. It takes 48 bytes a point before the replay begins, and up to 8 a live edge in it.
 #![tactic(auto)]
 
 mod between;

@@ -35,11 +35,11 @@ pub fn locate(
 {
     let order = in_order(alloc, points)?;
     let mut places = vec![in alloc; Place::OnEdge(0); points.len()]?;
-    let mut live = Row::new(alloc, edges.len())?;
+    let mut live = Row::new(alloc);
     let mut applied = 0;
     for point in &order {
-        applied = apply_before(edges, &swept.events, applied, &mut live, point.at);
-        places[point.number] = place_at(edges, &swept.events, applied, live.values(), point.at);
+        applied = apply_before(edges, &swept.events, applied, &mut live, point.at)?;
+        places[point.number] = place_at(edges, &swept.events, applied, &live, point.at);
     }
     Ok(places)
 }

@@ -1,5 +1,5 @@
 // The place of a point, at the moment of a replay that is its own.
-ghost use Rattle.std.specs.Prelude.{◌≡◌, ◌⊎◌, ℕ, ◌+◌, ◌-◌, ◌^◌, ◌<◌, ◌≤◌, [], length, slice_index};
+ghost use Rattle.std.specs.Prelude.{◌≡◌, ◌⊎◌, ℕ, ◌+◌, ◌-◌, ◌^◌, ◌<◌, ◌≤◌, [], length, slice_index, take, drop};
 ghost use Rattle.plane.specs.Lists.{Has};
 ghost use Rattle.plane.specs.Runs.Moves.{Fit, step_of, steps_from};
 ghost use Rattle.plane.specs.Runs.Steps.{Run};
@@ -12,9 +12,16 @@ use super::between::place_between;
 use super::places::Place;
 use line_sweep::Event;
 use plane::{Edge, Point};
+use straight_predicates::Row;
 
 /// The place of a point in the live list after exactly the events before it.
-pub fn place_at(edges: &[Edge], events: &[Event], applied: usize, live: &[u32], at: Point) -> Place
+pub fn place_at(
+    edges: &[Edge],
+    events: &[Event],
+    applied: usize,
+    live: &Row<u32>,
+    at: Point,
+) -> Place
     requires few { length edges.now < 2 ^ 31 }
     requires run { Run (length edges.now) (edge_of edges.now) (steps_from []
         (moves_of events.now)) }
@@ -30,7 +37,7 @@ pub fn place_at(edges: &[Edge], events: &[Event], applied: usize, live: &[u32], 
 }
 
 /// The least number of an edge that ends or starts at the event, of which there are some.
-fn edge_of_event(event: &Event, live: &[u32]) -> u32
+fn edge_of_event(event: &Event, live: &Row<u32>) -> u32
     requires block { event.now.position + event.now.ending ≤ length live.now }
     requires some { (e : ℕ) × (e < 2 ^ 32 - 1) × EndsOrStarts (step_of live.now
         (move_of event.now)) e }
@@ -38,8 +45,24 @@ fn edge_of_event(event: &Event, live: &[u32]) -> u32
     ensures least { (e : ℕ) → EndsOrStarts (step_of live.now (move_of event.now)) e → result ≤ e }
 {
     let from = event.position as usize;
-    let ending = &live[from..from + event.ending as usize];
-    least(&event.starting, least(ending, u32::MAX))
+    let ending = least_between(live, from, from + event.ending as usize);
+    least(&event.starting, ending)
+}
+
+/// The least of the numbers at the places from one up to another, and the greatest of all where
+/// there is none.
+fn least_between(live: &Row<u32>, from: usize, upto: usize) -> u32
+    requires least { from ≤ upto }
+    requires within { upto ≤ length live.now }
+    ensures is { (result ≡ 2 ^ 32 - 1) ⊎ Has result (take (upto - from) (drop from live.now)) }
+    ensures each { (i : ℕ) → i < length (take (upto - from) (drop from live.now))
+        → result ≤ slice_index (take (upto - from) (drop from live.now)) i }
+{
+    let mut least = u32::MAX;
+    for place in from..upto {
+        least = least.min(live.get(place));
+    }
+    least
 }
 
 /// The least of the numbers and the bound.

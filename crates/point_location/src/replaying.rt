@@ -1,15 +1,16 @@
 // The replay of the events of a run.
 ghost use Rattle.std.specs.Prelude.{◌≡◌, ℕ, ◌+◌, ◌<◌, ◌≤◌, [], length, slice_index_or};
+ghost use Rattle.std.specs.Prelude.{IfOk, OnOk};
 ghost use Rattle.plane.specs.Forms.Vectors.{Before};
 ghost use Rattle.plane.specs.Runs.Moves.{Fit, no_move, step_of, steps_from};
 ghost use Rattle.plane.specs.Runs.Steps.{Run, after};
 ghost use Rattle.straight_predicates.specs.EdgeLists.{edge_of};
-ghost use Rattle.straight_predicates.specs.Rows.{values_of, room_of};
 ghost use Rattle.line_sweep.specs.Kinds.{move_of, moves_of};
 ghost use Rattle.point_location.specs.Replaying.{IsApplied};
 
 use line_sweep::Event;
 use plane::{Edge, Point};
+use ports::Memory;
 use straight_predicates::{Row, before};
 
 /// Applies the events that come before the point, of which `applied` are applied already, and
@@ -20,37 +21,35 @@ pub fn apply_before(
     applied: usize,
     live: &mut Row<u32>,
     at: Point,
-) -> usize
+) -> Result<usize, Memory>
     requires run { Run (length edges.now) (edge_of edges.now) (steps_from []
         (moves_of events.now)) }
     requires fit { Fit [] (moves_of events.now) }
-    requires begun { IsApplied (length edges.now) (moves_of events.now) applied live.old }
-    ensures applied { IsApplied (length edges.now) (moves_of events.now) result live.new }
-    ensures least { applied ≤ result }
-    ensures passed { (j : ℕ) → applied ≤ j → j < result
-        → Before (slice_index_or (moves_of events.now) j no_move).at at }
-    ensures coming { result < length (moves_of events.now)
-        → Before (slice_index_or (moves_of events.now) result no_move).at at → ⊥ }
+    requires begun { IsApplied (moves_of events.now) applied live.old }
+    ensures applied { IfOk result (λ n. IsApplied (moves_of events.now) n live.new) }
+    ensures least { IfOk result (λ n. applied ≤ n) }
+    ensures passed { IfOk result (λ n. (j : ℕ) → applied ≤ j → j < n
+        → Before (slice_index_or (moves_of events.now) j no_move).at at) }
+    ensures coming { IfOk result (λ n. n < length (moves_of events.now)
+        → Before (slice_index_or (moves_of events.now) n no_move).at at → ⊥) }
 {
     let mut next = applied;
     while next < events.len() && before(events[next].at, at) {
-        apply(&events[next], live);
+        apply(&events[next], live)?;
         next += 1;
     }
-    next
+    Ok(next)
 }
 
 /// Puts the edges that start at the event in the place of those that end there.
-fn apply(event: &Event, live: &mut Row<u32>)
-    requires block { event.now.position + event.now.ending ≤ length (values_of live.old) }
-    requires room { length (values_of live.old) + length event.now.starting.items
-        ≤ room_of live.old + event.now.ending }
-    ensures values { values_of live.new ≡ after (step_of (values_of live.old) (move_of event.now)) }
-    ensures room { room_of live.new ≡ room_of live.old }
+fn apply(event: &Event, live: &mut Row<u32>) -> Result<(), Memory>
+    requires { event.now.position + event.now.ending ≤ length live.old }
+    ensures { OnOk result (live.new ≡ after (step_of live.old (move_of event.now))) }
 {
     live.replace(
         event.position as usize,
         event.ending as usize,
         &event.starting,
-    );
+    )?;
+    Ok(())
 }

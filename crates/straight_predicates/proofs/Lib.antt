@@ -18,3 +18,7 @@ pub mod FillSteps
 pub mod RowParts
 pub mod Ends
 pub mod NotedEvents
+pub mod Joined
+pub mod RowSteps
+pub mod BlockSearch
+pub mod NextEdges

@@ -1,8 +1,10 @@
 -- A list of which a part was written over.
 use Rattle.std.proofs.Common.{◌≡◌, ℕ, ◌+◌, ◌-◌, ◌<◌, ◌≤◌, min, List, ◌++◌, length, take, drop, arith, ap, sym, ◌∙◌, subst, append_assoc}
-use Rattle.std.proofs.lemmas.List.{take-append-drop, length-append, length-drop, length-take-le, take_all}
+use Rattle.std.proofs.lemmas.List.{take-append-drop, length-append, length-drop, length-take-le, take_all, drop-drop}
 use Rattle.std.proofs.Math.Seq.{take-append_seam, drop-append_seam}
-use Rattle.straight_predicates.proofs.Groups.{drop_twice}
+
+drop_twice : {X : Type 0} (i n : ℕ) (xs : List X) → drop (i + n) xs ≡ drop n (drop i xs)
+drop_twice i n xs = sym (drop-drop n i xs)
 
 module _ {X : Type 0} (vs with : List X) (from count : ℕ) (w : from + count ≤ length vs) where
   -- the list with the first k values written over those from the place on

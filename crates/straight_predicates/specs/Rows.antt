@@ -1,10 +1,18 @@
--- Lists with room.
-use Rattle.std.specs.Prelude.{ℕ, List, vec_capacity}
-use Rattle.straight_predicates.specs.declared.live_row.Row.{Row}
+-- Lists in blocks.
+use Rattle.std.specs.Prelude.{◌≡◌, ℕ, ◌+◌, ◌<◌, ◌≤◌, List, [], ◌∷◌, ◌++◌, length, take, slice_index_or}
 
-abbrev pub values_of : {T : Type 0} → Row T → List T
-values_of row = row.values.items
+-- The blocks one after another.
+abbrev pub joined : {T : Type 0} → List (List T) → List T
+joined [] = []
+joined (b ∷ bs) = b ++ joined bs
 
--- How many values it may hold.
-abbrev pub room_of : {T : Type 0} → Row T → ℕ
-room_of row = vec_capacity row.values
+-- The place of the list is that place of the block, and of its end only where it is the end of all.
+pub record IsAt {T : Type 0} (blocks : List (List T)) (place block offset : ℕ) : Type 0 where
+  pub known : block < length blocks
+  pub is : length (joined (take block blocks)) + offset ≡ place
+  pub within : offset ≤ length (slice_index_or blocks block [])
+  pub inside : place < length (joined blocks) → offset < length (slice_index_or blocks block [])
+
+-- The first number of a block.
+abbrev pub first_of : List (List ℕ) → ℕ → ℕ
+first_of blocks b = slice_index_or (slice_index_or blocks b []) 0 0

@@ -16,20 +16,25 @@
 //!   there, by number, and those that start there, by slope and then by number; it also tells the
 //!   events of each edge's ends (`edge_events`), for a mesh of them. `cut` finds the place of a
 //!   point in a list of edges; it promises the two edges beside the place and asks for no order of
-//!   the list. `Row` is a list with room that is changed in place. A sweep and a replay both work
-//!   with these three; neither is here.
+//!   the list. `Row` is a list that is changed in place, in blocks of at most 8,192 values. A sweep
+//!   and a replay both work with these three; neither is here.
 //! - **Slopes.** `slope` compares directions to the right or straight up. Those have one strict
 //!   order, which a sort needs; directions of all ways round have none.
 //! - **Not here:** no half arcs, and no coordinates of a crossing.
 //!
 //! Cost: a turn is two products of 64-bit numbers to 128 bits; `meet` takes at most four turns and
-//! a few comparisons, `cut` a turn for each halving of its list. None of these takes memory. A
-//! timetable of m edges takes O(m log m) time, and 48 bytes an edge while it sorts; its readers are
-//! one load, but `edge_events`, which is linear and takes 8 bytes an edge, and `widest`, which is
-//! linear in the events. `Row::replace` moves what lies behind the block, in one piece, where its
-//! length changes; it takes no memory.
+//! a few comparisons. None of these takes memory. A timetable of m edges takes O(m log m) time, and
+//! 48 bytes an edge while it sorts; its readers are one load, but `edge_events`, which is linear and
+//! takes 8 bytes an edge, and `widest`, which is linear in the events.
+//!
+//! A `Row` to which m values were put in in all has at most m / 2,048 + 1 blocks, since a block is
+//! only cut where it is full; on maps it is one. `get` counts the blocks before a place, one load
+//! each. `cut` takes a turn for each halving of the list, and counts as `get` does. `replace`
+//! counts, and moves the values of one block, 8,192 at most, beside those that come and go; it
+//! takes memory where a block grows or is cut. `copy_part` takes what it copies.
 #![tactic(auto)]
 
+mod beside;
 mod between;
 mod cutting;
 mod directions;
@@ -40,12 +45,15 @@ mod meeting;
 mod meets;
 mod order;
 mod rays;
+mod row_block;
+mod row_blocks;
 mod slopes;
 mod slots;
 mod timetable;
 mod turning;
 mod turns;
 
+pub use beside::{edge_at, edge_before};
 pub use between::edge_between;
 pub use cutting::{cut, turn_over};
 pub use directions::Direction;

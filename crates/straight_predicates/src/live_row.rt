@@ -1,93 +1,94 @@
-// A list in one piece of memory, changed in place.
-ghost use Rattle.std.specs.Prelude.{◌≡◌, ◌+◌, ◌≤◌, ◌++◌, [], length, take, drop, IfOk};
-ghost use Rattle.std.specs.Prelude.{vec_capacity};
-ghost use Rattle.straight_predicates.specs.Rows.{values_of, room_of};
+// A list that is changed in place, kept in blocks.
+ghost use Rattle.std.specs.Prelude.{◌≡◌, ◌+◌, ◌^◌, ◌<◌, ◌≤◌, ◌++◌, [], length, take, drop};
+ghost use Rattle.std.specs.Prelude.{OnErr, OnOk, slice_index_or};
+ghost use Rattle.straight_predicates.specs.Rows.{joined};
 
+use super::row_block::Block;
+use super::row_blocks::{copy_part, find, replace};
 use ports::Memory;
 use std::alloc::Global;
+use std::marker::Model;
 
-/// A list with room for so many values. No change takes memory.
+/// A list of values in blocks of some thousands. A change moves one block of them at most, and
+/// passes over the blocks before it, whatever the length of the list.
 #[derive(Drop)]
 pub struct Row<T> {
-    values: Vec<T>,
+    alloc: Global,
+    blocks: Vec<Block<T>>,
+    size: usize,
+}
+
+impl<T> Model for Row<T> {
+    ghost use Rattle.std.specs.Prelude.{◌≡◌, List, length};
+    ghost use Rattle.straight_predicates.specs.Rows.{joined};
+
+    ghost Value = { List T };
+
+    ghost view = { λ row. joined row.blocks.items };
+
+    ghost invariant = { λ row. row.size ≡ length (joined row.blocks.items) };
 }
 
 impl<T: Copy> Row<T> {
-    /// A list of nothing, with that room. The only error is want of memory.
-    pub fn new(alloc: Global, room: usize) -> Result<Row<T>, Memory>
-        ensures values { IfOk result (λ row. values_of row ≡ []) }
-        ensures room { IfOk result (λ row. room_of row ≡ room) }
+    /// A list of nothing.
+    pub fn new(alloc: Global) -> Row<T>
+        ensures { result ≡ [] }
     {
-        let values = Vec::with_capacity(alloc, room)?;
-        Ok(Row { values })
-    }
-
-    /// The values in order.
-    pub fn values(&self) -> &[T]
-        ensures { result.now ≡ values_of self.now }
-    {
-        &self.values
-    }
-
-    /// Puts values in the place of `count` others, from `from` on. Where as many come as go,
-    /// nothing else is moved; else each value behind them is moved once or twice, in one piece.
-    pub fn replace(&mut self, from: usize, count: usize, with: &[T])
-        requires block { from + count ≤ length (values_of self.old) }
-        requires room { length (values_of self.old) + length with.now ≤ room_of self.old + count }
-        ensures values { values_of self.new
-            ≡ take from (values_of self.old) ++ (with.now
-            ++ drop (from + count) (values_of self.old)) }
-        ensures room { room_of self.new ≡ room_of self.old }
-    {
-        let common = count.min(with.len());
-        write_over(&mut self.values, from, &with[..common]);
-        if common < with.len() {
-            insert_values(&mut self.values, from + common, &with[common..]);
-        } else {
-            remove_values(&mut self.values, from + common, count - common);
+        Row {
+            alloc,
+            blocks: Vec::new(alloc),
+            size: 0,
         }
     }
-}
 
-/// Writes values over as many others, from `at` on.
-fn write_over<T: Copy>(values: &mut Vec<T>, at: usize, with: &[T])
-    requires { at + length with.now ≤ length values.old.items }
-    ensures items { values.new.items
-        ≡ take at values.old.items ++ (with.now ++ drop (at + length with.now) values.old.items) }
-    ensures capacity { vec_capacity values.new ≡ vec_capacity values.old }
-{
-    values[at..at + with.len()].copy_from_slice(with);
-}
+    pub fn len(&self) -> usize
+        ensures { result ≡ length self.now }
+    {
+        self.size
+    }
 
-/// Puts values in before the value at `at`. There is room for them.
-fn insert_values<T: Copy>(values: &mut Vec<T>, at: usize, more: &[T])
-    requires place { at ≤ length values.old.items }
-    requires room { length values.old.items + length more.now ≤ vec_capacity values.old }
-    ensures items { values.new.items
-        ≡ take at values.old.items ++ (more.now ++ drop at values.old.items) }
-    ensures capacity { vec_capacity values.new ≡ vec_capacity values.old }
-{
-    if let [value] = more {
-        let _ = values.insert(at, *value);
-        return;
+    /// The value at a place.
+    pub fn get(&self, place: usize) -> T
+        requires { place < length self.now }
+        ensures { (d : T) → result ≡ slice_index_or self.now place d }
+    {
+        let spot = find(&self.blocks, place);
+        self.blocks[spot.block].values()[spot.offset]
     }
-    for value in more {
-        values.push_reserved(*value);
-    }
-    values[at..].rotate_right(more.len());
-}
 
-/// Takes out `count` values from `at` on.
-fn remove_values<T: Copy>(values: &mut Vec<T>, at: usize, count: usize)
-    requires { at + count ≤ length values.old.items }
-    ensures items { values.new.items
-        ≡ take at values.old.items ++ drop (at + count) values.old.items }
-    ensures capacity { vec_capacity values.new ≡ vec_capacity values.old }
-{
-    if count == 1 {
-        values.remove(at);
-        return;
+    /// Writes `count` values from a place on over those of another list.
+    pub fn copy_part(&self, from: usize, count: usize, into: &mut Vec<T>) -> Result<(), Memory>
+        requires { from + count ≤ length self.now }
+        ensures { OnOk result (into.new.items ≡ take count (drop from self.now)) }
+    {
+        let _size = self.size;
+        copy_part(&self.blocks, from, count, into)
     }
-    values[at..].rotate_left(count);
-    values.truncate(values.len() - count);
+
+    /// The blocks, whose values are those of the list one after another.
+    pub(crate) fn blocks(&self) -> &[Block<T>]
+        ensures joined { joined result.now ≡ self.now }
+        ensures few { length self.now < 2 ^ 64 }
+    {
+        let _size = self.size;
+        &self.blocks
+    }
+
+    /// Puts values in the place of `count` others, from `from` on. After `Memory` it is empty.
+    pub fn replace(&mut self, from: usize, count: usize, with: &[T]) -> Result<(), Memory>
+        requires { from + count ≤ length self.old }
+        ensures values { OnOk result (self.new ≡ take from self.old
+            ++ (with.now ++ drop (from + count) self.old)) }
+        ensures emptied { OnErr result (self.new ≡ []) }
+    {
+        let size = (self.size - count).checked_add(with.len());
+        let done = replace(self.alloc, &mut self.blocks, from, count, with);
+        if let (Some(size), Ok(())) = (size, done) {
+            self.size = size;
+            return Ok(());
+        }
+        self.blocks.clear();
+        self.size = 0;
+        Err(Memory)
+    }
 }

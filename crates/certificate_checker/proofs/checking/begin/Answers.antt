@@ -1,5 +1,4 @@
 use Rattle.std.proofs.Common.{arith, List, ℕ, length, subst}
-use Rattle.straight_predicates.specs.Rows.{room_of, values_of}
 use Rattle.event_mesh.specs.Built.{IsMeshOf}
 use Rattle.certificate_checker.specs.Cases.{judged}
 use Rattle.certificate_checker.specs.Marked.{IsAtBorder, NamesAcross}
@@ -8,7 +7,7 @@ use Rattle.certificate_checker.proofs.checking.begin.Goals as goal
 
 pub returns : goal.returns
 returns c = record {
-  moved = none_moved (judged c.args.case.now) (values_of c.in_ok-live.live) (room_of c.in_ok-live.live) c.widest.result (length c.in_ok-fan.fan.items) c.in_ok-mesh.mesh c.in_ok-live.ensures.values c.in_ok-live.ensures.room c.widest.ensures c.in_ok-fan.ensures
+  moved = none_moved (judged c.args.case.now) c.new-live.result c.widest.result (length c.in_ok-fan.fan.items) c.in_ok-mesh.mesh c.new-live.ensures c.widest.ensures c.in_ok-fan.ensures
       (none_turned (judged c.args.case.now) c.requires.fit.counts c.events.result c.args.of.now.low.items c.args.of.now.high.items c.requires.of c.in_ok-mesh.mesh
       (subst (λ (ls : List ℕ). IsMeshOf c.events.result ls c.args.of.now.high.items (length ls) c.in_ok-mesh.mesh) c.deref.ensures.value
       (subst (λ (hs : List ℕ). IsMeshOf c.events.result c.deref.result.now hs (length c.deref.result.now) c.in_ok-mesh.mesh) c.deref-2.ensures.value c.in_ok-mesh.ensures)));

@@ -1,6 +1,6 @@
-use Rattle.std.proofs.Common.{◌≡◌, ℕ, ◌<◌, get_or}
+use Rattle.std.proofs.Common.{◌≡◌, ℕ, ◌-◌, ◌<◌, drop, get_or, take}
 use Rattle.straight_predicates.specs.EdgeLists.{edge_of}
 use Rattle.certificate_checker.proofs.events.all_end_at.Given as goal
 
-abbrev pub invariant-loop-e : goal.invariant-loop-e
-invariant-loop-e l = (k : ℕ) → k < l.e-index → (edge_of l.edges (get_or l.block k 0)).high ≡ l.at
+abbrev pub invariant-loop-place : goal.invariant-loop-place
+invariant-loop-place l = (k : ℕ) → k < l.place - l.from → (edge_of l.edges (get_or (take (l.upto - l.from) (drop l.from l.live)) k 0)).high ≡ l.at

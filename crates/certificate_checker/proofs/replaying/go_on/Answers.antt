@@ -1,6 +1,5 @@
 use Rattle.std.proofs.Common.{suc, ◌∙◌, List, ℕ, length, subst, sym}
 use Rattle.std.proofs.lemmas.List.{with_items_is}
-use Rattle.straight_predicates.specs.Rows.{room_of, values_of}
 use Rattle.certificate_checker.specs.Cases.{judged}
 use Rattle.certificate_checker.specs.Marked.{IsAtBorder, NamesAcross}
 use Rattle.certificate_checker.specs.Progress.{AreMarkedTo, IsMovedTo}
@@ -9,8 +8,8 @@ use Rattle.certificate_checker.proofs.replaying.go_on.Goals as goal
 
 pub returns : goal.returns
 returns c = record {
-  moved = subst (λ (xs : List ℕ). IsMovedTo (judged c.args.case.now) (suc c.args.event) (values_of c.move_event.new.live) (room_of c.move_event.new.live) (length xs) c.move_event.new.mesh)
-      (sym (with_items_is c.args.state.now.fan c.move_event.new.fan (c.move_event.auto.fan ∙ c.deref_mut-3.ensures.len))) c.move_event.ensures;
+  moved = subst (λ (xs : List ℕ). IsMovedTo (judged c.args.case.now) (suc c.args.event) c.move_event.new.live (length xs) c.move_event.new.mesh)
+      (sym (with_items_is c.args.state.now.fan c.move_event.new.fan (c.move_event.auto.fan ∙ c.deref_mut-3.ensures.len))) c.in_ok-move_event.ensures;
   border = subst (AreMarkedTo (judged c.args.case.now) IsAtBorder (suc c.args.event))
       (sym (with_items_is c.args.state.now.marks.border c.mark_event.new.border (c.mark_event.auto.border ∙ c.deref_mut.ensures.len))) c.mark_event.ensures.border;
   across = subst (AreMarkedTo (judged c.args.case.now) (NamesAcross c.args.case.now.certificate.now.notes.items) (suc c.args.event))

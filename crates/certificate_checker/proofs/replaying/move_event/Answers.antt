@@ -1,30 +1,21 @@
 use Rattle.std.proofs.Common.{arith, ap, sym, subst, ◌∙◌, ◌≤◌, ℕ, [], length}
 use Rattle.plane.specs.Runs.Moves.{steps_from}
 use Rattle.straight_predicates.specs.EdgeEvents.{width}
-use Rattle.straight_predicates.specs.Rows.{values_of}
 use Rattle.certificate_checker.specs.Cases.{judged}
 use Rattle.certificate_checker.specs.Subjects.{edge, event, moves}
-use Rattle.certificate_checker.proofs.Moving.{block_is, block_within, can_turn_at, events_are, is_event, next_live, passes_to, room_next}
+use Rattle.certificate_checker.proofs.Moving.{can_turn_at, events_are, is_event, next_live, passes_to}
 use Rattle.certificate_checker.proofs.replaying.move_event.Goals as goal
 
 pub turn_event-requires-clause-can : goal.turn_event-requires-clause-can
 turn_event-requires-clause-can c =
     can_turn_at (judged c.args.case.now) c.requires.fit.table c.requires.fit.counts c.args.event c.args.mesh.now c.starting-starting.result.now _ (let f = c.requires.fit.few_edges in omega (arith, f)) c.requires.moved.turned
-    (is_event (judged c.args.case.now) c.requires.fit.table c.requires.fit.counts c.args.event c.values.result.now c.starting-starting.result.now _ c.position_of-position.result (length c.ending-ending.result.now) c.requires.event (c.values.ensures ∙ c.requires.moved.live) c.starting-starting.ensures c.position_of-position.ensures (ap length c.ending-ending.ensures) (block_is c.position_of-position.result (length c.ending-ending.result.now) c.values.result.now) (passes_to (judged c.args.case.now) c.requires.fit.table c.requires.fit.counts c.args.event c.requires.moved.passes c.requires.passes))
-
-pub replace-requires-clause-room : goal.replace-requires-clause-room
-replace-requires-clause-room c =
-    let w = block_within (judged c.args.case.now) c.requires.fit.table c.requires.fit.counts c.args.event (values_of c.args.live.now) c.position_of-position.result (length c.ending-ending.result.now) c.requires.moved.live c.position_of-position.ensures (ap length c.ending-ending.ensures) c.requires.passes in
-    let l = room_next (judged c.args.case.now) c.requires.fit.table c.requires.fit.counts c.args.event (values_of c.args.live.now) c.starting-starting.result.now c.position_of-position.result (length c.ending-ending.result.now) c.requires.event c.requires.moved.live c.starting-starting.ensures c.position_of-position.ensures (ap length c.ending-ending.ensures) (passes_to (judged c.args.case.now) c.requires.fit.table c.requires.fit.counts c.args.event c.requires.moved.passes c.requires.passes) w in
-    let r = c.requires.moved.room in
-    omega (arith, l, r)
+    (is_event (judged c.args.case.now) c.requires.fit.table c.requires.fit.counts c.args.event c.args.live.now c.starting-starting.result.now _ c.position_of-position.result (length c.ending-ending.result.now) c.requires.event c.requires.moved.live c.starting-starting.ensures c.position_of-position.ensures (ap length c.ending-ending.ensures) (c.deref.ensures.value ∙ c.in_ok-copy_part.ensures) (passes_to (judged c.args.case.now) c.requires.fit.table c.requires.fit.counts c.args.event c.requires.moved.passes c.requires.passes))
 
 pub returns : goal.returns
 returns c = record {
   passes = (passes_to (judged c.args.case.now) c.requires.fit.table c.requires.fit.counts c.args.event c.requires.moved.passes c.requires.passes);
-  live = c.replace.ensures.values ∙ next_live (judged c.args.case.now) c.requires.fit.table c.requires.fit.counts c.args.event (values_of c.args.live.now) c.starting-starting.result.now c.position_of-position.result (length c.ending-ending.result.now) c.requires.event c.requires.moved.live c.starting-starting.ensures c.position_of-position.ensures (ap length c.ending-ending.ensures);
-  room = c.replace.ensures.room ∙ c.requires.moved.room;
+  live = c.in_ok-replace.ensures.values ∙ next_live (judged c.args.case.now) c.requires.fit.table c.requires.fit.counts c.args.event c.args.live.now c.starting-starting.result.now c.position_of-position.result (length c.ending-ending.result.now) c.requires.event c.requires.moved.live c.starting-starting.ensures c.position_of-position.ensures (ap length c.ending-ending.ensures);
   fan = λ j l. subst (λ (n : ℕ). width (event (judged c.args.case.now) j) ≤ n) (sym c.turn_event.auto.fan) (c.requires.moved.fan j l);
   turned = c.turn_event.ensures.turned (length c.args.case.now.edges.now) (edge (judged c.args.case.now)) (steps_from [] (moves (judged c.args.case.now))) c.args.event (events_are (judged c.args.case.now) c.requires.fit.table c.requires.fit.counts) c.requires.moved.turned
-      (is_event (judged c.args.case.now) c.requires.fit.table c.requires.fit.counts c.args.event c.values.result.now c.starting-starting.result.now _ c.position_of-position.result (length c.ending-ending.result.now) c.requires.event (c.values.ensures ∙ c.requires.moved.live) c.starting-starting.ensures c.position_of-position.ensures (ap length c.ending-ending.ensures) (block_is c.position_of-position.result (length c.ending-ending.result.now) c.values.result.now) (passes_to (judged c.args.case.now) c.requires.fit.table c.requires.fit.counts c.args.event c.requires.moved.passes c.requires.passes));
+      (is_event (judged c.args.case.now) c.requires.fit.table c.requires.fit.counts c.args.event c.args.live.now c.starting-starting.result.now _ c.position_of-position.result (length c.ending-ending.result.now) c.requires.event c.requires.moved.live c.starting-starting.ensures c.position_of-position.ensures (ap length c.ending-ending.ensures) (c.deref.ensures.value ∙ c.in_ok-copy_part.ensures) (passes_to (judged c.args.case.now) c.requires.fit.table c.requires.fit.counts c.args.event c.requires.moved.passes c.requires.passes));
 }

@@ -1,33 +1,40 @@
-use Rattle.std.proofs.Common.{sym, subst, ◌∙◌, get_or}
+use Rattle.std.proofs.Common.{arith, sym, subst, w64, ◌∙◌, get_or, refl}
 use Rattle.std.proofs.Common.{All}
 use Rattle.plane.specs.Runs.Timetables.{no_event}
-use Rattle.straight_predicates.specs.Rows.{values_of}
 use Rattle.straight_predicates.specs.Tables.{table_of}
 use Rattle.line_sweep.specs.Held.{HasEdges, IsBadCell, IsFineCell}
-use Rattle.line_sweep.proofs.NextEvent.{opened_as}
+use Rattle.std.proofs.Math.Facts.{Fits-of_lt}
+use Rattle.line_sweep.proofs.NextEvent.{live_size, opened_as}
 use Rattle.line_sweep.proofs.Stepping.{cells_known, bad_cell}
 use Rattle.line_sweep.proofs.sweeping.open_at.Goals as goal
 
 pub test_cells-requires-clause-known : goal.test_cells-requires-clause-known
 test_cells-requires-clause-known c =
     subst (All (HasEdges c.args.edges.now)) (sym c.deref.ensures.value)
-    (cells_known c.args.edges.now (table_of c.args.table.now) c.args.event _ _ _ _ _ c.requires.sorted c.requires.table c.requires.event c.requires.swept.swept c.args.block.from c.args.block.count c.requires.block c.open_cells.new.opened.items
-    (c.in_ok-open_cells.ensures ∙ opened_as c.args.event _ _ _ _ (values_of c.args.state.now.live) (get_or (table_of c.args.table.now) c.args.event no_event) c.args.block.from c.args.block.count
-    c.edge_before-lower.ensures c.edge_at-upper.ensures c.starting.ensures c.values-live.ensures c.requires.block.within))
+    (cells_known c.args.edges.now (table_of c.args.table.now) c.args.event _ _ _ _ _ c.requires.sorted c.requires.table c.requires.event c.requires.swept c.args.block.from c.args.block.count c.requires.block c.open_cells.new.opened.items
+    (c.in_ok-open_cells.ensures ∙ opened_as c.args.event _ _ _ _ c.args.state.now.live (get_or (table_of c.args.table.now) c.args.event no_event) c.args.block.from c.args.block.count
+    c.edge_before-lower.ensures c.edge_at-upper.ensures c.starting.ensures refl c.requires.block.within))
 
 pub returns-in-Ok : goal.returns-in-Ok
 returns-in-Ok c = record {
-  swept = record { swept = c.requires.swept.swept; room = c.requires.swept.room; gap_room = c.requires.swept.gap_room };
+  swept = c.requires.swept;
   block = c.requires.block;
-  opened = (c.in_ok-open_cells.ensures ∙ opened_as c.args.event _ _ _ _ (values_of c.args.state.now.live) (get_or (table_of c.args.table.now) c.args.event no_event) c.args.block.from c.args.block.count
-      c.edge_before-lower.ensures c.edge_at-upper.ensures c.starting.ensures c.values-live.ensures c.requires.block.within);
+  opened = (c.in_ok-open_cells.ensures ∙ opened_as c.args.event _ _ _ _ c.args.state.now.live (get_or (table_of c.args.table.now) c.args.event no_event) c.args.block.from c.args.block.count
+      c.edge_before-lower.ensures c.edge_at-upper.ensures c.starting.ensures refl c.requires.block.within);
   fine = subst (All (IsFineCell c.args.edges.now)) c.deref.ensures.value c.in-Ok.ensures.fine;
   refused = tt;
 }
 
 pub returns-in-Err-clause-refused : goal.returns-in-Err-clause-refused
 returns-in-Err-clause-refused c =
-    bad_cell c.args.edges.now (table_of c.args.table.now) c.args.event _ _ _ _ _ c.requires.sorted c.requires.table c.requires.event c.requires.swept.swept c.args.block.from c.args.block.count c.requires.block c.open_cells.new.opened.items
-    (c.in_ok-open_cells.ensures ∙ opened_as c.args.event _ _ _ _ (values_of c.args.state.now.live) (get_or (table_of c.args.table.now) c.args.event no_event) c.args.block.from c.args.block.count
-    c.edge_before-lower.ensures c.edge_at-upper.ensures c.starting.ensures c.values-live.ensures c.requires.block.within)
+    bad_cell c.args.edges.now (table_of c.args.table.now) c.args.event _ _ _ _ _ c.requires.sorted c.requires.table c.requires.event c.requires.swept c.args.block.from c.args.block.count c.requires.block c.open_cells.new.opened.items
+    (c.in_ok-open_cells.ensures ∙ opened_as c.args.event _ _ _ _ c.args.state.now.live (get_or (table_of c.args.table.now) c.args.event no_event) c.args.block.from c.args.block.count
+    c.edge_before-lower.ensures c.edge_at-upper.ensures c.starting.ensures refl c.requires.block.within)
     c.in-Err.pair.0 c.in-Err.pair.1 (subst (λ cs. IsBadCell c.args.edges.now cs c.in-Err.pair.0 c.in-Err.pair.1) c.deref.ensures.value c.in-Err.ensures.bad)
+
+pub overflow_add-block : goal.overflow_add-block
+overflow_add-block c =
+    let l = live_size c.args.edges.now (table_of c.args.table.now) c.args.event _ _ _ _ _ c.requires.sorted c.requires.table c.requires.event c.requires.swept in
+    let w = c.requires.block.within in
+    let f = c.requires.few in
+    Fits-of_lt {w = w64} (omega (arith, l, w, f))

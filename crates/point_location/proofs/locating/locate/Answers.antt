@@ -11,34 +11,34 @@ use Rattle.point_location.proofs.locating.locate.Goals as goal
 
 pub loop-point-init : goal.loop-point-init
 loop-point-init c = record {
-  done = record { known = omega arith; values = c.in_ok-live.ensures.values; room = c.in_ok-live.ensures.room };
+  done = record { known = omega arith; values = c.new-live.ensures };
   passed = λ j l m. absurd (omega (arith, l));
   size = search rules;
   each = λ i l. absurd (omega (arith, l));
 }
 
-pub apply_before-applied-requires-clause-begun : goal.apply_before-applied-requires-clause-begun
-apply_before-applied-requires-clause-begun c = subst (λ (es : List Event). IsApplied (length c.args.edges.now) (moves_of es) c.loop-point.applied c.loop-point.live) (sym c.deref.ensures.value) c.loop-point.invariant.done
+pub apply_before-requires-clause-begun : goal.apply_before-requires-clause-begun
+apply_before-requires-clause-begun c = subst (λ (es : List Event). IsApplied (moves_of es) c.loop-point.applied c.loop-point.live) (sym c.deref.ensures.value) c.loop-point.invariant.done
 
 pub place_at-requires-clause-moment : goal.place_at-requires-clause-moment
 place_at-requires-clause-moment c =
-    let a = c.apply_before-applied in
+    let a = c.in_ok-applied in let live = c.apply_before.new.live in
     moment_at c.args.swept.now.events.items c.deref.result.now c.deref-in-loop-point.result.now c.deref.ensures.value c.deref-in-loop-point.ensures.value
-    (length c.args.edges.now) c.loop-point.applied a.result a.new.live c.values.result.now (get_or c.deref-point-items.result.now c.loop-point.point-index nothing).at
-    (λ j l. c.loop-point.invariant.passed j l c.loop-point-test.true) a.ensures.applied a.ensures.passed a.ensures.coming c.values.ensures
+    c.loop-point.applied a.applied live (get_or c.deref-point-items.result.now c.loop-point.point-index nothing).at
+    (λ j l. c.loop-point.invariant.passed j l c.loop-point-test.true) a.ensures.applied a.ensures.passed a.ensures.coming
 
 pub loop-point-preserved : goal.loop-point-preserved
 loop-point-preserved c =
-    let a = c.apply_before-applied in
+    let a = c.in_ok-applied in let live = c.apply_before.new.live in
     let order = c.deref-point-items.result.now in
     let k = c.loop-point.point-index in
     let moves = moves_of c.args.swept.now.events.items in
     let o : IsInOrder c.args.points.now order = subst (λ (ns : List Numbered). IsInOrder c.args.points.now ns) (sym c.deref-point-items.ensures.value) c.in_ok-order.ensures in
     let m = moment_at c.args.swept.now.events.items c.deref.result.now c.args.swept.now.events.items c.deref.ensures.value refl
-    (length c.args.edges.now) c.loop-point.applied a.result a.new.live c.values.result.now (get_or order k nothing).at
-    (λ j l. c.loop-point.invariant.passed j l c.loop-point-test.true) a.ensures.applied a.ensures.passed a.ensures.coming c.values.ensures in
+    c.loop-point.applied a.applied live (get_or order k nothing).at
+    (λ j l. c.loop-point.invariant.passed j l c.loop-point-test.true) a.ensures.applied a.ensures.passed a.ensures.coming in
     record {
-      done = subst (λ (es : List Event). IsApplied (length c.args.edges.now) (moves_of es) a.result a.new.live) c.deref.ensures.value a.ensures.applied;
+      done = subst (λ (es : List Event). IsApplied (moves_of es) a.applied live) c.deref.ensures.value a.ensures.applied;
       passed = λ j l h. before_next c.args.points.now order o k h _ (m.passed j l);
       size = length-set c.loop-point.places.items _ c.place_at.result ∙ c.loop-point.invariant.size;
       each = placed_next (IsPlaceOf c.args.edges.now moves) c.args.points.now order o c.loop-point.places.items c.loop-point.invariant.size k c.loop-point-test.true c.place_at.result

@@ -9,7 +9,7 @@ use Rattle.point_location.proofs.locating.locate.Given as goal
 
 abbrev pub invariant-loop-point : goal.invariant-loop-point
 invariant-loop-point l = record {
-  done : IsApplied (length l.edges) (moves_of l.swept.events.items) l.applied l.live;
+  done : IsApplied (moves_of l.swept.events.items) l.applied l.live;
   passed : (j : ℕ) → j < l.applied → l.point-index < length l.point-items → Before (get_or (moves_of l.swept.events.items) j no_move).at (get_or l.point-items l.point-index nothing).at;
   size : length l.places.items ≡ length l.points;
   each : (i : ℕ) → i < l.point-index → IsPlaceOf l.edges (moves_of l.swept.events.items) (get_or l.point-items i nothing).at (get_or l.places.items (get_or l.point-items i nothing).number no_place);

@@ -4,10 +4,10 @@ use Rattle.point_location.proofs.placing.edge_of_event.Goals as goal
 
 pub returns-clause-is : goal.returns-clause-is
 returns-clause-is c =
-    least_is_one c.args.live.now (move_of c.args.event.now) _ c.deref.result.now (part_is c.args.live.now c.args.event.now.position c.args.event.now.ending) c.deref.ensures.value c.least.result c.least-2.result
-    c.least.ensures.each c.least-2.ensures.bound c.least-2.ensures.each c.least.ensures.is c.least-2.ensures.is c.requires.some
+    least_is_one c.args.live.now (move_of c.args.event.now) _ c.deref.result.now (part_is c.args.live.now c.args.event.now.position c.args.event.now.ending) c.deref.ensures.value c.least_between-ending.result c.least.result
+    c.least_between-ending.ensures.each c.least.ensures.bound c.least.ensures.each c.least_between-ending.ensures.is c.least.ensures.is c.requires.some
 
 pub returns-clause-least : goal.returns-clause-least
 returns-clause-least c =
-    least_of_all c.args.live.now (move_of c.args.event.now) _ c.deref.result.now (part_is c.args.live.now c.args.event.now.position c.args.event.now.ending) c.deref.ensures.value c.least.result c.least-2.result
-    c.least.ensures.each c.least-2.ensures.bound c.least-2.ensures.each
+    least_of_all c.args.live.now (move_of c.args.event.now) _ c.deref.result.now (part_is c.args.live.now c.args.event.now.position c.args.event.now.ending) c.deref.ensures.value c.least_between-ending.result c.least.result
+    c.least_between-ending.ensures.each c.least.ensures.bound c.least.ensures.each

@@ -7,7 +7,7 @@ use Rattle.point_location.proofs.replaying.apply_before.Given as goal
 
 abbrev pub invariant-loop-next : goal.invariant-loop-next
 invariant-loop-next l = record {
-  done : IsApplied (length l.edges) (moves_of l.events) l.next l.live;
+  done : IsApplied (moves_of l.events) l.next l.live;
   least : l.applied ≤ l.next;
   passed : (j : ℕ) → l.applied ≤ j → j < l.next → Before (get_or (moves_of l.events) j no_move).at l.at;
 }
