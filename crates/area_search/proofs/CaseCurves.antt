@@ -35,7 +35,7 @@ pub power_some : (l : ℕ) → 0 < 2 ^ l
 power_some zero = omega arith
 power_some (suc l) = (let k = power_some l in omega (arith, k))
 
-no_first : (bays : ℕ → List Bay) (j : ℕ) (cs : List Curve) → first_edge bays j cs 0 ≡ 0
+pub no_first : (bays : ℕ → List Bay) (j : ℕ) (cs : List Curve) → first_edge bays j cs 0 ≡ 0
 no_first bays j [] = refl
 no_first bays j (c ∷ cs) = refl
 

@@ -1,29 +1,26 @@
 -- The two sides of each cell, and the run of a level's edges whose cells pair.
-use Rattle.std.proofs.Common.{◌≡◌, ◌↔◌, ◌⊎◌, inl, inr, Bool, true, false, IsTrue, ℕ, zero, suc, ◌+◌, ◌*◌, ◌^◌, ◌<◌, ◌≤◌, Option, Some, None, List, [], ◌∷◌, length, map, get_or, refl, sym, ap, subst, ◌∙◌, arith, pos}
+use Rattle.std.proofs.Common.{◌≡◌, ◌↔◌, ◌⊎◌, inl, inr, Bool, true, false, IsTrue, ℕ, zero, suc, ◌^◌, ◌<◌, ◌≤◌, Some, List, [], ◌∷◌, length, map, get_or, refl, sym, ap, subst, ◌∙◌, arith, pos}
 use Rattle.line_sweep.specs.Kinds.{gap_of, gaps_of}
 use Rattle.line_sweep.specs.declared.kinds.Cell.{Cell}
 use Rattle.plane.specs.CurveRuns.FacedTubes.{AreCellsPaired, faced}
 use Rattle.plane.specs.CurveRuns.Levels.{IsSettledDrawing}
 use Rattle.plane.specs.CurveRuns.TubedRuns as runs
-use Rattle.plane.specs.Faces.Classes.{Across, Touches}
 use Rattle.plane.specs.Faces.Halves.{Half, over, under, edge_of as half_edge}
 use Rattle.plane.specs.Faces.Replays.{replay}
 use Rattle.plane.specs.Lists.{Has}
-use Rattle.plane.specs.Rule.Plans.{IsHalfArc, Plan, curve}
+use Rattle.plane.specs.Rule.Plans.{Plan}
 use Rattle.plane.specs.Runs.Gaps.{AtBorder, Gap, GapBetween, closed_gaps}
-use Rattle.plane.specs.Runs.Moves.{Fit, Move, live_from, steps_from}
+use Rattle.plane.specs.Runs.Moves.{Fit, Move, steps_from}
 use Rattle.plane.specs.Runs.Steps.{Run}
-use Rattle.plane.specs.declared.kinds.CurveKind.TheVariants as kind
 use Rattle.plane.specs.declared.kinds.Edge.{Edge}
 use Rattle.plane.specs.declared.kinds.Point.{Point}
 use Rattle.straight_predicates.specs.EdgeLists.{edge_of}
-use Rattle.tubes.specs.DrawnEdges.{nth_curve}
-use Rattle.tubes.specs.Settled.{AreFacings, HaveTubes, IsOwnCorner, IsSettledAt, edge_at, edges_at, owned_at}
+use Rattle.tubes.specs.Settled.{AreFacings, IsOwnCorner, edge_at, edges_at}
 use Rattle.tubes.specs.TubedEdges.{IsTubedList, drawn_bays, owner_as}
 use Rattle.tubes.specs.declared.kinds.EdgeList.{EdgeList}
 use Rattle.tubes.specs.declared.kinds.Facing.{Facing}
 use Rattle.tubes.specs.declared.kinds.Owner.{Owner}
-use Rattle.tubes.proofs.LevelEdges.{few_edges, of_half_arc, owner_within}
+use Rattle.tubes.proofs.LevelEdges.{few_edges, owner_within}
 use Rattle.tubes.proofs.SettledLevels.{level_settled, tubed_run, wide}
 use Rattle.area_search.specs.Answers.{IsLeastLevel}
 use Rattle.area_search.specs.CaseNotes.{tag_at}
@@ -44,12 +41,6 @@ module _ (facings : List Facing) (owners : List Owner) where
   all_cells [] h g m = absurd m
   all_cells (c ∷ cells) h g (inl e) = subst (IsPaired facings owners) (sym e) (h 0 c (omega arith))
   all_cells (c ∷ cells) h g (inr m) = all_cells cells (λ k x l. h (suc k) x (omega (arith, l))) g m
-
--- ---- drawings of straights have no corner of a tube
-pub straights_own : (d : Plan) (level : ℕ) → ((i : ℕ) → i < length d.curves → (nth_curve d.curves i).kind ≡ kind.HalfArc → ⊥) → (p : Point) → IsOwnCorner d level p
-straights_own d level none p e f l k t a b =
-    let h : IsHalfArc d (owned_at d level e).curve = (of_half_arc d level e l).0 t in
-    absurd (none (owned_at d level e).curve h.there h.kind)
 
 -- ---- the run of a level's edges
 module _ (d : Plan) (level : ℕ) (facings : List Facing) (told : AreFacings d level facings) (owners : List Owner) (are : owners ≡ map owner_as (runs.edge_list (drawn_bays d level) 0 d.curves))

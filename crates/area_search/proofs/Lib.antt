@@ -24,6 +24,7 @@ pub mod CaseCertified
 pub mod CaseCalls
 pub mod NamedNotes
 pub mod CellSideLemmas
+pub mod OwnCornerLemmas
 pub mod ArcNumbers
 pub mod PointsOnCurves
 pub mod LevelSearch

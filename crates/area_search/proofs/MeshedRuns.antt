@@ -21,8 +21,6 @@ use Rattle.line_sweep.specs.Kinds.{move_of, moves_of}
 use Rattle.line_sweep.specs.declared.kinds.Event.{Event}
 use Rattle.point_location.specs.Replaying.{IsApplied}
 use Rattle.straight_predicates.specs.EdgeEvents.{IsNoted}
-use Rattle.straight_predicates.specs.Rows.{values_of}
-use Rattle.straight_predicates.specs.declared.live_row.Row.{Row}
 use Rattle.area_search.specs.declared.meshing.Noted.{Noted}
 use Rattle.area_search.specs.Meshing.{HasNoted, IsWidest, NotesStep, ended_at, width}
 use Rattle.area_search.proofs.PlaneLaws.{before_trans, begin, can_turn, events_apart, fits_at, half_number, move_is, moves_size, never, number_below, part_is, room, run_events, run_good, sorted_once, step_is, steps_length}
@@ -192,8 +190,8 @@ module _ (m : ℕ) (E : ℕ → Edge) (vs : List Move) (run : Run m E (steps_fro
   step_at : (k : ℕ) → k < length vs → (v : Move) → get_or vs k no_move ≡ v → nth_step (steps_from [] vs) k ≡ step_of (live_from [] (take k vs)) v
   step_at k l v is = step_is [] vs k l ∙ ap (λ (u : Move). step_of (live_from [] (take k vs)) u) is
 
-  module _ (k : ℕ) (live : Row ℕ) (a : IsApplied m vs k live) (l : k < length vs) (v : Move) (is : get_or vs k no_move ≡ v) (noted : Noted) (has : HasNoted m (steps_from [] vs) k noted) where
-    step_of_live : nth_step (steps_from [] vs) k ≡ step_of (values_of live) v
+  module _ (k : ℕ) (live : List ℕ) (a : IsApplied vs k live) (l : k < length vs) (v : Move) (is : get_or vs k no_move ≡ v) (noted : Noted) (has : HasNoted m (steps_from [] vs) k noted) where
+    step_of_live : nth_step (steps_from [] vs) k ≡ step_of live v
     step_of_live = step_at k l v is ∙ ap (λ (now : List ℕ). step_of now v) (sym a.values)
 
     pub starting_known : (e : ℕ) → Has e v.starting → e < length noted.low.items
@@ -202,14 +200,14 @@ module _ (m : ℕ) (E : ℕ → Edge) (vs : List Move) (run : Run m E (steps_fro
         let n = has.low_count in
         omega (arith, b, n)
 
-    pub ending_known : (e : ℕ) → Has e (ending_at (values_of live) v) → e < length noted.high.items
+    pub ending_known : (e : ℕ) → Has e (ending_at live v) → e < length noted.high.items
     ending_known e h =
         let b = ((good k (let z = size in omega (arith, l, z))).ending_only e (subst (λ (s : Step). Has e s.ending) (sym step_of_live) h)).0 in
         let n = has.high_count in
         omega (arith, b, n)
 
-    pub noted_next_event : (new : Noted) → NotesStep k (step_of (values_of live) v) noted new → HasNoted m (steps_from [] vs) (k + 1) new
-    noted_next_event new is = noted_more k (step_of (values_of live) v) noted new l step_of_live has is
+    pub noted_next_event : (new : Noted) → NotesStep k (step_of live v) noted new → HasNoted m (steps_from [] vs) (k + 1) new
+    noted_next_event new is = noted_more k (step_of live v) noted new l step_of_live has is
 
   -- ---- one event more is turned
   module _ (fit : Fit [] vs) (k : ℕ) (l : k < length vs) (v : Move) (is : get_or vs k no_move ≡ v) where

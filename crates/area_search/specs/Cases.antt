@@ -5,6 +5,7 @@ use Rattle.faces.specs.Joined.{AreKnown}
 use Rattle.half_edges.specs.HalfEdges.{HalfEdges, size}
 use Rattle.half_edges.specs.Meshes.{IsMesh}
 use Rattle.line_sweep.specs.Kinds.{moves_of}
+use Rattle.line_sweep.specs.Sweeping.{HasTimetable}
 use Rattle.plane.specs.CurveRuns.FacedTubes.{IsFirstOn, LiesInTube, faced}
 use Rattle.plane.specs.CurveRuns.Levels.{IsSettledDrawing, beside_inner, beside_outer}
 use Rattle.plane.specs.CurveRuns.TubedRuns as runs
@@ -25,8 +26,10 @@ use Rattle.tubes.specs.TubedEdges.{drawn_bays, owner_as}
 use Rattle.tubes.specs.declared.kinds.Facing.{Facing}
 use Rattle.tubes.specs.declared.kinds.Owner.{Owner}
 use Rattle.area_search.specs.declared.case.Case.{Case}
+use Rattle.area_search.specs.declared.case.SweptCase.{SweptCase}
 use Rattle.area_search.specs.declared.case.Spot.{Spot}
 use Rattle.area_search.specs.declared.case.Spot.TheVariants as spot
+use Rattle.area_search.specs.Writing.{positions_of}
 
 -- The level settles the drawing, the lists are those of its edges at the level, and the moves are a complete run over them.
 pub record IsCase (d : Plan) (level : ℕ) (edges : List Edge) (owners : List Owner) (facings : List Facing) (vs : List Move) : Type 0 where
@@ -39,8 +42,15 @@ pub record IsCase (d : Plan) (level : ℕ) (edges : List Edge) (owners : List Ow
   pub fit : Fit [] vs
 
 -- the same in code
-abbrev pub IsCaseOf : Case → Type 0
-IsCaseOf c = IsCase (plan c.drawing.now) c.level c.list.now.edges.items c.list.now.owners.items c.facings.now (moves_of c.swept.now.events.items)
+abbrev pub IsCaseOf : Case → List Move → Type 0
+IsCaseOf c vs = IsCase (plan c.drawing.now) c.level c.list.now.edges.items c.list.now.owners.items c.facings.now vs
+
+abbrev pub IsSweptCase : SweptCase → Type 0
+IsSweptCase c = IsCase (plan c.drawing.now) c.level c.list.now.edges.items c.list.now.owners.items c.facings.now (moves_of c.swept.now.events.items)
+
+-- of some moves
+abbrev pub HasRun : Case → Type 0
+HasRun c = (vs : List Move) × IsCaseOf c vs
 
 -- ---- points
 abbrev pub no_spot : Spot
@@ -111,3 +121,18 @@ spot_face d level faces (spot.Cell position lower upper) = face_over faces lower
 
 abbrev pub spot_faces : Plan → ℕ → List ℕ → List Spot → List ℕ
 spot_faces d level faces spots = map (spot_face d level faces) spots
+
+-- ---- what is kept of a run
+-- A run of the case has its points at these spots, none of them on a curve, and its faces in this mesh.
+pub record IsFaced (c : Case) (spots : List Spot) (mesh : HalfEdges) (count : ℕ) : Type 0 where
+  pub vs : List Move
+  pub case : IsCaseOf c vs
+  pub placed : ArePlacedOff (plan c.drawing.now) c.level vs spots
+  pub faces : HasRunFaces (plan c.drawing.now) c.level vs mesh count
+
+-- The mesh, the cells and the positions are those of that run, and its events are those of the edges' timetable.
+pub record IsOutlined (c : Case) (spots : List Spot) (mesh : HalfEdges) (count : ℕ) (cells : List Gap) (positions : List ℕ) : Type 0 where
+  pub faced : IsFaced c spots mesh count
+  pub outline : IsRunMesh (plan c.drawing.now) c.level faced.vs cells mesh
+  pub timed : HasTimetable c.list.now.edges.items faced.vs
+  pub positions_are : positions ≡ positions_of faced.vs

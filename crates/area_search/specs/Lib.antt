@@ -5,6 +5,7 @@ pub mod Sides
 pub mod PointFaces
 pub mod Cases
 pub mod CellSides
+pub mod OwnCorners
 pub mod CaseOwners
 pub mod CaseRoots
 pub mod CaseNotes

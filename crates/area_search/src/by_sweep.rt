@@ -1,5 +1,5 @@
 // The answer to a drawing that level 0 settles, as one sweep shows.
-ghost use Rattle.std.specs.Prelude.{[], ◌≡◌, ℕ, ◌^◌, ◌<◌, ◌≤◌, false, IfOk, IfSome, IsTrue, length};
+ghost use Rattle.std.specs.Prelude.{[], ◌≡◌, ◌^◌, ◌<◌, ◌≤◌, IfOk, IfSome, length};
 ghost use Rattle.line_sweep.specs.Kinds.{gaps_of, moves_of};
 ghost use Rattle.line_sweep.specs.Sweeping.{HasTimetable};
 ghost use Rattle.plane.specs.Rule.Plans.{plan};
@@ -7,23 +7,19 @@ ghost use Rattle.plane.specs.Runs.Gaps.{closed_gaps};
 ghost use Rattle.plane.specs.Runs.Moves.{Fit, steps_from};
 ghost use Rattle.plane.specs.Runs.Steps.{Run};
 ghost use Rattle.straight_predicates.specs.EdgeLists.{edge_of};
-ghost use Rattle.tubes.specs.DrawnEdges.{nth_curve};
-ghost use Rattle.tubes.specs.Settled.{IsOwnCorner};
 ghost use Rattle.tubes.specs.TubedEdges.{AreUsable, IsTubedList};
 ghost use Rattle.area_search.specs.Answers.{IsAnswer};
-ghost use Rattle.plane.specs.declared.kinds.CurveKind.TheVariants as kind;
-ghost use Rattle.plane.specs.declared.kinds.Point.{Point as AnyPoint};
 
 use super::case::Case;
 use super::cell_sides::are_paired;
 use super::finishing::answer_case;
 use super::kinds::AreaAnswer;
+use super::own_corners::are_corners_own;
 use line_sweep::{SweepRefusal, Swept, sweep};
-use plane::{Curve, CurveKind, Drawing};
+use plane::Drawing;
 use ports::Memory;
 use std::alloc::Global;
-use straight_predicates::Timetable;
-use tubes::{EdgeList, edge_list, facings, foreign_corner};
+use tubes::{EdgeList, edge_list, facings};
 
 /// The answer to a drawing that level 0 settles, where the sweep of its edges shows that; else
 /// None, which says nothing of the drawing. The only error is want of memory.
@@ -52,7 +48,7 @@ fn answer_list(
     ensures { IfOk result (λ r. IfSome r (IsAnswer (plan drawing.now))) }
 {
     match sweep(alloc, &list.edges) {
-        Ok(swept) => answer_swept(alloc, drawing, list, &swept),
+        Ok(swept) => answer_swept(alloc, drawing, list, swept),
         Err(SweepRefusal::Bad { .. }) => Ok(None),
         Err(SweepRefusal::Memory) => Err(Memory),
     }
@@ -63,20 +59,20 @@ fn answer_swept(
     alloc: Global,
     drawing: &Drawing,
     list: &EdgeList,
-    swept: &Swept,
+    swept: Swept,
 ) -> Result<Option<AreaAnswer>, Memory>
     requires few { length list.now.edges.items < 2 ^ 31 }
     requires list { IsTubedList (plan drawing.now) 0 list.now }
     requires usable { AreUsable (plan drawing.now) list.now.edges.items }
     requires run { Run (length list.now.edges.items) (edge_of list.now.edges.items) (steps_from []
-        (moves_of swept.now.events.items)) }
-    requires fit { Fit [] (moves_of swept.now.events.items) }
-    requires timed { HasTimetable list.now.edges.items (moves_of swept.now.events.items) }
-    requires cells { gaps_of swept.now.cells.items
-        ≡ closed_gaps (moves_of swept.now.events.items) }
+        (moves_of swept.events.items)) }
+    requires fit { Fit [] (moves_of swept.events.items) }
+    requires timed { HasTimetable list.now.edges.items (moves_of swept.events.items) }
+    requires cells { gaps_of swept.cells.items
+        ≡ closed_gaps (moves_of swept.events.items) }
     ensures { IfOk result (λ r. IfSome r (IsAnswer (plan drawing.now))) }
 {
-    if !are_corners_own(alloc, drawing, list)? {
+    if !are_corners_own(drawing, list, &swept.events) {
         return Ok(None);
     }
     let facings = facings(alloc, drawing, list)?;
@@ -88,31 +84,6 @@ fn answer_swept(
         level: 0,
         list,
         facings: &facings,
-        swept,
     };
-    Ok(Some(answer_case(alloc, &case)?))
-}
-
-/// Whether each corner of a tube, other than the ends of its half arc, is an end of that tube's
-/// edges alone.
-fn are_corners_own(alloc: Global, drawing: &Drawing, list: &EdgeList) -> Result<bool, Memory>
-    requires few { length list.now.edges.items < 2 ^ 31 }
-    requires list { IsTubedList (plan drawing.now) 0 list.now }
-    requires usable { AreUsable (plan drawing.now) list.now.edges.items }
-    ensures { IfOk result (λ b. IsTrue b → (p : AnyPoint) → IsOwnCorner (plan drawing.now) 0 p) }
-{
-    if !has_half_arc(&drawing.curves) {
-        return Ok(true);
-    }
-    let table = Timetable::new(alloc, &list.edges)?;
-    let of = table.edge_events(alloc, &list.edges)?;
-    let foreign = foreign_corner(alloc, drawing, list, &of.low, &of.high, table.events())?;
-    Ok(foreign.is_none())
-}
-
-fn has_half_arc(curves: &[Curve]) -> bool
-    ensures { result ≡ false → (i : ℕ) → i < length curves.now
-        → (nth_curve curves.now i).kind ≡ kind.HalfArc → ⊥ }
-{
-    curves.iter().any(|curve| curve.kind == CurveKind::HalfArc)
+    Ok(Some(answer_case(alloc, &case, swept)?))
 }

@@ -3,10 +3,18 @@ use line_sweep::Swept;
 use plane::Drawing;
 use tubes::{EdgeList, Facing};
 
-/// A drawing that a level settles, its edges at that level, the side of each that faces a tube, and
-/// the complete run of the edges.
+/// A drawing that a level settles, its edges at that level, and the side of each that faces a tube.
 #[derive(Drop)]
 pub(crate) struct Case<'a> {
+    pub drawing: &'a Drawing,
+    pub level: u8,
+    pub list: &'a EdgeList,
+    pub facings: &'a [Facing],
+}
+
+/// The same with the complete run of the edges.
+#[derive(Drop)]
+pub(crate) struct SweptCase<'a> {
     pub drawing: &'a Drawing,
     pub level: u8,
     pub list: &'a EdgeList,

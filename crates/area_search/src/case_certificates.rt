@@ -2,44 +2,37 @@
 ghost use Rattle.std.specs.Prelude.{◌≡◌, IfOk};
 ghost use Rattle.certificate_checker.specs.Subjects.{claims};
 ghost use Rattle.certificate_checker.specs.Verdicts.{Proves};
-ghost use Rattle.line_sweep.specs.Kinds.{gaps_of, moves_of};
-ghost use Rattle.line_sweep.specs.Sweeping.{HasTimetable};
+ghost use Rattle.line_sweep.specs.Kinds.{gaps_of};
 ghost use Rattle.plane.specs.Rule.Plans.{plan};
 ghost use Rattle.area_search.specs.Answers.{IsNameless};
 ghost use Rattle.area_search.specs.CaseOwners.{HaveOwners};
-ghost use Rattle.area_search.specs.Cases.{ArePlacedOff, HasRunFaces, IsCaseOf, IsRunMesh};
+ghost use Rattle.area_search.specs.Cases.{IsOutlined};
 
 use super::case::{Case, Spot};
 use super::case_notes::{named_notes, spot_places};
 use super::case_roots::roots_of_case;
-use super::writing::positions;
 use certificate::{Certificate, HalfNote, PointPlace};
 use faces::{Labelled, links};
+use line_sweep::Swept;
 use ports::{Memory, Name};
 use std::alloc::Global;
 
-/// A certificate that proves the drawing at its level: the position of each event, the place of
+/// A certificate that proves the drawing at its level: these positions of the events, the place of
 /// each point, and a note for each half-edge, with the label of the tube that it faces or the owner
-/// of its face. Its names are empty. The only error is want of memory. It takes time linear in the
-/// edges, the cells, the curves and the points, and for a while what `faces::links` takes, 2 bytes a
-/// curve and 4 a root.
+/// of its face. Its names are empty. Of the run it reads the cells alone. The only error is want of
+/// memory. It takes time linear in the edges, the cells, the curves and the points, and for a while
+/// what `faces::links` takes, 2 bytes a curve and 4 a root.
 pub(crate) fn certify_case(
     alloc: Global,
     case: &Case,
     spots: &[Spot],
     labelled: &Labelled,
+    swept: &Swept,
+    positions: Vec<u32>,
     owners: &[u32],
 ) -> Result<Certificate, Memory>
-    requires case { IsCaseOf case.now }
-    requires timed { HasTimetable case.now.list.now.edges.items
-        (moves_of case.now.swept.now.events.items) }
-    requires placed { ArePlacedOff (plan case.now.drawing.now) case.now.level
-        (moves_of case.now.swept.now.events.items) spots.now }
-    requires faces { HasRunFaces (plan case.now.drawing.now) case.now.level
-        (moves_of case.now.swept.now.events.items) labelled.now.mesh labelled.now.count }
-    requires mesh { IsRunMesh (plan case.now.drawing.now) case.now.level
-        (moves_of case.now.swept.now.events.items) (gaps_of case.now.swept.now.cells.items)
-        labelled.now.mesh }
+    requires run { IsOutlined case.now spots.now labelled.now.mesh labelled.now.count
+        (gaps_of swept.now.cells.items) positions.items }
     requires owned { HaveOwners (plan case.now.drawing.now) case.now.level
         labelled.now.mesh.face spots.now labelled.now.count owners.now }
     ensures proves { IfOk result (λ c. Proves (plan case.now.drawing.now) (claims c)) }
@@ -52,10 +45,10 @@ pub(crate) fn certify_case(
         case.drawing.curves.len(),
         case.facings,
         &case.list.owners,
-        &case.swept.cells,
+        &swept.cells,
         spots,
     )?;
-    let found = links(alloc, labelled, case.swept, &roots)?;
+    let found = links(alloc, labelled, swept, &roots)?;
     let notes = named_notes(
         found,
         case.drawing.points.len() as u32,
@@ -63,7 +56,6 @@ pub(crate) fn certify_case(
         &case.list.owners,
         owners,
     );
-    let positions = positions(alloc, &case.swept.events)?;
     let places = spot_places(alloc, spots)?;
     let certificate = nameless(alloc, case.level, positions, notes, places)?;
     Ok(certificate)

@@ -1,10 +1,9 @@
 // The first fault of the faces of a case, or the owner of each face.
 ghost use Rattle.std.specs.Prelude.{◌^◌, ◌<◌, IfOk, length};
-ghost use Rattle.line_sweep.specs.Kinds.{moves_of};
 ghost use Rattle.plane.specs.Rule.Plans.{plan};
 ghost use Rattle.area_search.specs.Answers.{IsLeastLevel};
 ghost use Rattle.area_search.specs.CaseOwners.{IsCaseJudged};
-ghost use Rattle.area_search.specs.Cases.{ArePlacedOff, HasRunFaces, IsCaseOf};
+ghost use Rattle.area_search.specs.Cases.{IsFaced};
 
 use super::case::{Case, Spot};
 use super::case_sides::{faces_beside, faces_of_spots, first_free};
@@ -32,13 +31,9 @@ pub(crate) fn judge_case(
     mesh: &Mesh,
     count: u32,
 ) -> Result<Judged, Memory>
-    requires case { IsCaseOf case.now }
+    requires faced { IsFaced case.now spots.now mesh.now count }
     requires least { IsLeastLevel (plan case.now.drawing.now) case.now.level }
     requires few { length case.now.list.now.edges.items < 2 ^ 31 }
-    requires placed { ArePlacedOff (plan case.now.drawing.now) case.now.level
-        (moves_of case.now.swept.now.events.items) spots.now }
-    requires faces { HasRunFaces (plan case.now.drawing.now) case.now.level
-        (moves_of case.now.swept.now.events.items) mesh.now count }
     ensures { IfOk result (IsCaseJudged (plan case.now.drawing.now) case.now.level mesh.now.face
         spots.now count) }
 {

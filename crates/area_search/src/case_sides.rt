@@ -12,7 +12,7 @@ ghost use Rattle.tubes.specs.DrawnEdges.{nth_curve};
 ghost use Rattle.tubes.specs.Settled.{edge_at, edges_at, owned_at};
 ghost use Rattle.tubes.specs.TubedEdges.{drawn_bays};
 ghost use Rattle.area_search.specs.Sides.{IsOnSide};
-ghost use Rattle.area_search.specs.Cases.{IsCaseOf, spot_face, spot_faces, spot_at};
+ghost use Rattle.area_search.specs.Cases.{HasRun, spot_face, spot_faces, spot_at};
 ghost use Rattle.area_search.specs.CaseSides.{AreBeside, AreFreeSides, IsBeside, IsBesideIn};
 ghost use Rattle.area_search.specs.CaseSides.{IsFreeFace, IsFreeSide, IsSpotOf, IsTurnable};
 ghost use Rattle.area_search.specs.CaseSides.{beside_at, edges_of_kind, first_at, free_of, is_first};
@@ -36,7 +36,7 @@ pub(crate) struct Beside {
 
 /// The faces beside each curve. It takes time linear in the curves, and 8 bytes for each.
 pub(crate) fn faces_beside(alloc: Global, case: &Case, mesh: &Mesh) -> Result<Vec<Beside>, Memory>
-    requires case { IsCaseOf case.now }
+    requires case { HasRun case.now }
     requires few { length case.now.list.now.edges.items < 2 ^ 31 }
     requires size { size mesh.now ≡ 2 * length case.now.list.now.edges.items }
     ensures { IfOk result (λ besides. AreBeside (plan case.now.drawing.now) case.now.level
@@ -73,7 +73,7 @@ fn bay_count(level: u8) -> u32
 
 /// The faces beside the curve of that number, whose first edge has the other one.
 fn faces_of_curve(case: &Case, mesh: &Mesh, curve: &Curve, number: u32, first: u32) -> Beside
-    requires case { IsCaseOf case.now }
+    requires case { HasRun case.now }
     requires few { length case.now.list.now.edges.items < 2 ^ 31 }
     requires size { size mesh.now ≡ 2 * length case.now.list.now.edges.items }
     requires there { number < length (plan case.now.drawing.now).curves }
@@ -116,7 +116,7 @@ fn faces_of_straight(edges: &[Edge], mesh: &Mesh, curve: &Curve, number: u32) ->
 
 /// The face of the half-edge of a tube's edge that does not face the tube.
 fn face_outside(case: &Case, mesh: &Mesh, edge: u32) -> u32
-    requires case { IsCaseOf case.now }
+    requires case { HasRun case.now }
     requires few { length case.now.list.now.edges.items < 2 ^ 31 }
     requires size { size mesh.now ≡ 2 * length case.now.list.now.edges.items }
     requires there { edge < length case.now.list.now.edges.items }

@@ -9,14 +9,15 @@ ghost use Rattle.plane.specs.Runs.Steps.{Run};
 ghost use Rattle.straight_predicates.specs.EdgeLists.{edge_of};
 ghost use Rattle.tubes.specs.TubedEdges.{IsTubedList};
 ghost use Rattle.area_search.specs.Answers.{IsAnswer, IsLeastLevel};
-ghost use Rattle.area_search.specs.Cases.{ArePlacedOff, HasRunFaces, IsCaseOf, IsRunMesh};
+ghost use Rattle.area_search.specs.Cases.{ArePlacedOff, AreSpots, IsCaseOf, IsOutlined};
 
-use super::case::{Case, Spot};
+use super::case::{Case, Spot, SweptCase};
 use super::case_certificates::certify_case;
 use super::case_judging::{Judged, judge_case};
 use super::kinds::{AreaAnswer, AreaFinding};
 use super::meshing::mesh_of_run;
 use super::spots::{first_spot_on, spots_at};
+use super::writing::positions;
 use faces::{Labelled, label};
 use line_sweep::Swept;
 use plane::Drawing;
@@ -26,23 +27,23 @@ use tubes::{EdgeList, facings};
 
 /// The answer to a drawing by a complete run of its edges at the least level that settles it: its
 /// first fault, or a certificate with empty names. The only error is want of memory. It takes what
-/// placing the points, the mesh, its faces and the links of a certificate take, one after another.
+/// placing the points, the mesh, its faces and the links of a certificate take, one after another;
+/// before its faces are told, the events of the run are let go.
 pub(crate) fn finish(
     alloc: Global,
     drawing: &Drawing,
     level: u8,
     list: &EdgeList,
-    swept: &Swept,
+    swept: Swept,
 ) -> Result<AreaAnswer, Memory>
     requires list { IsTubedList (plan drawing.now) level list.now }
     requires least { IsLeastLevel (plan drawing.now) level }
     requires few { length list.now.edges.items < 2 ^ 31 }
     requires run { Run (length list.now.edges.items) (edge_of list.now.edges.items)
-        (steps_from [] (moves_of swept.now.events.items)) }
-    requires fit { Fit [] (moves_of swept.now.events.items) }
-    requires timed { HasTimetable list.now.edges.items (moves_of swept.now.events.items) }
-    requires cells { gaps_of swept.now.cells.items
-        ≡ closed_gaps (moves_of swept.now.events.items) }
+        (steps_from [] (moves_of swept.events.items)) }
+    requires fit { Fit [] (moves_of swept.events.items) }
+    requires timed { HasTimetable list.now.edges.items (moves_of swept.events.items) }
+    requires cells { gaps_of swept.cells.items ≡ closed_gaps (moves_of swept.events.items) }
     ensures { IfOk result (IsAnswer (plan drawing.now)) }
 {
     tubes::laws::settled_levels();
@@ -52,68 +53,99 @@ pub(crate) fn finish(
         level,
         list,
         facings: &facings,
-        swept,
     };
-    answer_case(alloc, &case)
+    answer_case(alloc, &case, swept)
 }
 
 /// The same for a case.
-pub(crate) fn answer_case(alloc: Global, case: &Case) -> Result<AreaAnswer, Memory>
-    requires case { IsCaseOf case.now }
+pub(crate) fn answer_case(alloc: Global, case: &Case, swept: Swept) -> Result<AreaAnswer, Memory>
+    requires case { IsCaseOf case.now (moves_of swept.events.items) }
     requires least { IsLeastLevel (plan case.now.drawing.now) case.now.level }
     requires few { length case.now.list.now.edges.items < 2 ^ 31 }
-    requires timed { HasTimetable case.now.list.now.edges.items
-        (moves_of case.now.swept.now.events.items) }
-    requires cells { gaps_of case.now.swept.now.cells.items
-        ≡ closed_gaps (moves_of case.now.swept.now.events.items) }
+    requires timed { HasTimetable case.now.list.now.edges.items (moves_of swept.events.items) }
+    requires cells { gaps_of swept.cells.items ≡ closed_gaps (moves_of swept.events.items) }
     ensures { IfOk result (IsAnswer (plan case.now.drawing.now)) }
 {
-    let spots = spots_at(alloc, case)?;
+    let spots = spots_of_run(alloc, case, &swept)?;
     match first_spot_on(&spots) {
         Some(on) => Ok(AreaAnswer::Fault(AreaFinding::On {
             point: on.point,
             curve: on.curve,
         })),
-        None => answer_placed(alloc, case, &spots),
+        None => answer_placed(alloc, case, &spots, swept),
     }
+}
+
+/// Where the objects' points of the case lie, by its run.
+fn spots_of_run(alloc: Global, case: &Case, swept: &Swept) -> Result<Vec<Spot>, Memory>
+    requires case { IsCaseOf case.now (moves_of swept.now.events.items) }
+    requires few { length case.now.list.now.edges.items < 2 ^ 31 }
+    ensures { IfOk result (λ spots. AreSpots (plan case.now.drawing.now) case.now.level
+        (moves_of swept.now.events.items) spots.items) }
+{
+    let swept_case = SweptCase {
+        drawing: case.drawing,
+        level: case.level,
+        list: case.list,
+        facings: case.facings,
+        swept,
+    };
+    spots_at(alloc, &swept_case)
 }
 
 /// The same, where no point lies on a curve.
-fn answer_placed(alloc: Global, case: &Case, spots: &[Spot]) -> Result<AreaAnswer, Memory>
-    requires case { IsCaseOf case.now }
+fn answer_placed(
+    alloc: Global,
+    case: &Case,
+    spots: &[Spot],
+    swept: Swept,
+) -> Result<AreaAnswer, Memory>
+    requires case { IsCaseOf case.now (moves_of swept.events.items) }
     requires least { IsLeastLevel (plan case.now.drawing.now) case.now.level }
     requires few { length case.now.list.now.edges.items < 2 ^ 31 }
-    requires timed { HasTimetable case.now.list.now.edges.items
-        (moves_of case.now.swept.now.events.items) }
-    requires cells { gaps_of case.now.swept.now.cells.items
-        ≡ closed_gaps (moves_of case.now.swept.now.events.items) }
+    requires timed { HasTimetable case.now.list.now.edges.items (moves_of swept.events.items) }
+    requires cells { gaps_of swept.cells.items ≡ closed_gaps (moves_of swept.events.items) }
     requires placed { ArePlacedOff (plan case.now.drawing.now) case.now.level
-        (moves_of case.now.swept.now.events.items) spots.now }
+        (moves_of swept.events.items) spots.now }
     ensures { IfOk result (IsAnswer (plan case.now.drawing.now)) }
 {
-    let labelled = label_case(alloc, case)?;
-    match judge_case(alloc, case, spots, &labelled.mesh, labelled.count)? {
-        Judged::Faulty(finding) => Ok(AreaAnswer::Fault(finding)),
-        Judged::Owned(owners) => Ok(AreaAnswer::Proved(certify_case(
-            alloc, case, spots, &labelled, &owners,
-        )?)),
+    let mesh = mesh_of_run(alloc, &case.list.edges, &swept)?;
+    let positions = positions(alloc, &swept.events)?;
+    let swept = without_events(alloc, swept);
+    let labelled = label(alloc, mesh, &swept)?;
+    let _ = labelled.mesh.edges();
+    answer_outlined(alloc, case, spots, &labelled, &swept, positions)
+}
+
+/// The cells of a run without its events.
+fn without_events(alloc: Global, swept: Swept) -> Swept
+    ensures { result.cells.items ≡ swept.cells.items }
+{
+    Swept {
+        events: Vec::new(alloc),
+        cells: swept.cells,
     }
 }
 
-/// The mesh of the case's run with its faces.
-fn label_case(alloc: Global, case: &Case) -> Result<Labelled, Memory>
-    requires case { IsCaseOf case.now }
+/// The same, with the mesh of the run and its faces, the cells, and the positions of the events.
+fn answer_outlined(
+    alloc: Global,
+    case: &Case,
+    spots: &[Spot],
+    labelled: &Labelled,
+    swept: &Swept,
+    positions: Vec<u32>,
+) -> Result<AreaAnswer, Memory>
+    requires run { IsOutlined case.now spots.now labelled.now.mesh labelled.now.count
+        (gaps_of swept.now.cells.items) positions.items }
+    requires least { IsLeastLevel (plan case.now.drawing.now) case.now.level }
     requires few { length case.now.list.now.edges.items < 2 ^ 31 }
-    requires cells { gaps_of case.now.swept.now.cells.items
-        ≡ closed_gaps (moves_of case.now.swept.now.events.items) }
-    ensures faces { IfOk result (λ l. HasRunFaces (plan case.now.drawing.now) case.now.level
-        (moves_of case.now.swept.now.events.items) l.mesh l.count) }
-    ensures mesh { IfOk result (λ l. IsRunMesh (plan case.now.drawing.now) case.now.level
-        (moves_of case.now.swept.now.events.items) (gaps_of case.now.swept.now.cells.items)
-        l.mesh) }
+    ensures { IfOk result (IsAnswer (plan case.now.drawing.now)) }
 {
-    let mesh = mesh_of_run(alloc, &case.list.edges, case.swept)?;
-    let labelled = label(alloc, mesh, case.swept)?;
-    let _ = labelled.mesh.edges();
-    Ok(labelled)
+    match judge_case(alloc, case, spots, &labelled.mesh, labelled.count)? {
+        Judged::Faulty(finding) => Ok(AreaAnswer::Fault(finding)),
+        Judged::Owned(owners) => Ok(AreaAnswer::Proved(certify_case(
+            alloc, case, spots, labelled, swept, positions, &owners,
+        )?)),
+    }
 }

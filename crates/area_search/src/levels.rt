@@ -145,7 +145,7 @@ fn answer_edges(
     tubes::laws::tubed_lists();
     plane::sweeps::meetings_are_decided();
     match sweep(alloc, &list.edges) {
-        Ok(swept) => finish(alloc, drawing, level, list, &swept),
+        Ok(swept) => finish(alloc, drawing, level, list, swept),
         Err(SweepRefusal::Bad { .. }) => unreachable!(),
         Err(SweepRefusal::Memory) => Err(Memory),
     }

@@ -12,21 +12,22 @@
 //!   straights is, a certificate is answered exactly where that is so, and each fault contradicts
 //!   it (`laws`).
 //! - **How.** One sweep of the edges of level 0. Where it ends, no corner of a tube is another
-//!   curve's too and both sides of each cell face one tube or none, level 0 settles the drawing
-//!   (`by_sweep`). Else bad pairs are looked for, then points on curves (`on_curves`), then the
-//!   least level without a pair that breaks it (`levels`). Of a drawing that a level settles, with a
-//!   complete run of its edges at that level (`finishing`): one replay of the run for the places of
-//!   the points, which tell for each whether it lies on a curve, in the tube of a half arc or in a
-//!   cell (`spots`); one for the mesh of its half-edges; the faces of the mesh by what its cells
-//!   join, and those beside each curve (`case_sides`); and links from each half-edge to the border,
-//!   a tube or a point. What the certificate says is what the run, the places, the faces and the
-//!   links are; `certificate_checker` judges it without any of them.
+//!   curve's too (`own_corners`) and both sides of each cell face one tube or none, level 0 settles
+//!   the drawing (`by_sweep`). Else bad pairs are looked for, then points on curves (`on_curves`),
+//!   then the least level without a pair that breaks it (`levels`). Of a drawing that a level
+//!   settles, with a complete run of its edges at that level (`finishing`): one replay of the run
+//!   for the places of the points, which tell for each whether it lies on a curve, in the tube of a
+//!   half arc or in a cell (`spots`); one for the mesh of its half-edges, after which the events of
+//!   the run are let go but for their positions; the faces of the mesh by what its cells join, and
+//!   those beside each curve (`case_sides`); and links from each half-edge to the border, a tube or
+//!   a point. What the certificate says is what the run, the places, the faces and the links are;
+//!   `certificate_checker` judges it without any of them.
 //! - **Degenerate cases.** No line, no point, several rings, holes, lines that end inside a region,
 //!   rings that touch in a vertex, equal points and points at vertices are all taken.
 //! - **Not here:** names of areas, lines of the transfer, and the text of a certificate.
 //!
 //! Cost: O((m + p + events) log (m + p)) for m edges and p points, and what the live list moves in
-//! the sweep and in two replays; some 300 bytes an edge at the peak. Where level 0 does not settle,
+//! the sweep and in two replays; some 270 bytes an edge at the peak. Where level 0 does not settle,
 //! two sweeps of the straights more, half arcs times the curves, points and groups of edges that
 //! begin within their boxes, at each level, and the tubes of a level.
 #![tactic(auto)]
@@ -46,6 +47,7 @@ pub mod laws;
 mod levels;
 mod meshing;
 mod on_curves;
+mod own_corners;
 mod owners;
 mod points;
 mod sides;

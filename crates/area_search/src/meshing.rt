@@ -8,7 +8,6 @@ ghost use Rattle.plane.specs.Runs.Moves.{Fit, step_of, steps_from};
 ghost use Rattle.plane.specs.Runs.Steps.{Run, after};
 ghost use Rattle.straight_predicates.specs.EdgeEvents.{IsNoted};
 ghost use Rattle.straight_predicates.specs.EdgeLists.{edge_of};
-ghost use Rattle.straight_predicates.specs.Rows.{room_of, values_of};
 ghost use Rattle.area_search.specs.Meshing.{HasNoted, IsWidest, NotesStep};
 
 use event_mesh::{mesh_of, turn_event};
@@ -81,10 +80,11 @@ fn note_events(alloc: Global, edges: &[Edge], events: &[Event]) -> Result<Noted,
     let low = vec![in alloc; 0u32; edges.len()]?;
     let high = vec![in alloc; 0u32; edges.len()]?;
     let ended = Vec::with_capacity(alloc, edges.len())?;
-    let mut live = Row::new(alloc, edges.len())?;
+    let mut live = Row::new(alloc);
+    let mut ending = Vec::new(alloc);
     let mut noted = Noted { low, high, ended };
     for (number, event) in events.iter().enumerate() {
-        note_event(number as u32, event, &mut live, &mut noted)?;
+        note_event(number as u32, event, &mut live, &mut ending, &mut noted)?;
     }
     Ok(noted)
 }
@@ -95,28 +95,26 @@ fn note_event(
     number: u32,
     event: &Event,
     live: &mut Row<u32>,
+    ending: &mut Vec<u32>,
     noted: &mut Noted,
 ) -> Result<(), Memory>
-    requires block { event.now.position + event.now.ending ≤ length (values_of live.old) }
-    requires room { length (values_of live.old) + length event.now.starting.items
-        ≤ room_of live.old + event.now.ending }
+    requires block { event.now.position + event.now.ending ≤ length live.old }
     requires starting { (e : ℕ) → Has e event.now.starting.items
         → e < length noted.old.low.items }
-    requires ending { (e : ℕ) → Has e (ending_at (values_of live.old) (move_of event.now))
+    requires ending { (e : ℕ) → Has e (ending_at live.old (move_of event.now))
         → e < length noted.old.high.items }
-    ensures noted { OnOk result (NotesStep number (step_of (values_of live.old)
+    ensures noted { OnOk result (NotesStep number (step_of live.old
         (move_of event.now)) noted.old noted.new) }
-    ensures values { OnOk result (values_of live.new
-        ≡ after (step_of (values_of live.old) (move_of event.now))) }
-    ensures room { OnOk result (room_of live.new ≡ room_of live.old) }
+    ensures values { OnOk result (live.new
+        ≡ after (step_of live.old (move_of event.now))) }
 {
     let from = event.position as usize;
     let count = event.ending as usize;
-    let block = &live.values()[from..from + count];
+    live.copy_part(from, count, ending)?;
     note(&mut noted.low, &event.starting, number);
-    note(&mut noted.high, block, number);
-    noted.ended.extend_from_slice(block)?;
-    live.replace(from, count, &event.starting);
+    note(&mut noted.high, ending, number);
+    noted.ended.extend_from_slice(ending)?;
+    live.replace(from, count, &event.starting)?;
     Ok(())
 }
 

@@ -10,11 +10,11 @@ ghost use Rattle.plane.specs.Rule.Places.{point};
 ghost use Rattle.plane.specs.declared.kinds.CurveKind.TheVariants as kind;
 ghost use Rattle.point_location.specs.Places.{IsPlaceOf};
 ghost use Rattle.tubes.specs.TubedEdges.{drawn_bays};
-ghost use Rattle.area_search.specs.Cases.{AreSpots, IsCaseOf, IsSpot};
+ghost use Rattle.area_search.specs.Cases.{AreSpots, IsSpot, IsSweptCase};
 ghost use Rattle.area_search.specs.PointFaces.{IsOver};
 ghost use Rattle.area_search.specs.Spots.{IsFirstSpotOn, IsTubeOver};
 
-use super::case::{Case, Spot};
+use super::case::{Spot, SweptCase};
 use super::points::{OnCurve, points_at};
 use arc_predicates::{Circle, Side, circle, place_of};
 use plane::{Curve, Point};
@@ -25,8 +25,8 @@ use tubes::{Facing, Part};
 
 /// Where the objects' points lie. It takes the time and the memory of `locate`, and 24 bytes a
 /// point.
-pub(crate) fn spots_at(alloc: Global, case: &Case) -> Result<Vec<Spot>, Memory>
-    requires case { IsCaseOf case.now }
+pub(crate) fn spots_at(alloc: Global, case: &SweptCase) -> Result<Vec<Spot>, Memory>
+    requires case { IsSweptCase case.now }
     requires few { length case.now.list.now.edges.items < 2 ^ 31 }
     ensures { IfOk result (λ spots. AreSpots (plan case.now.drawing.now) case.now.level
         (moves_of case.now.swept.now.events.items) spots.items) }
@@ -41,8 +41,8 @@ pub(crate) fn spots_at(alloc: Global, case: &Case) -> Result<Vec<Spot>, Memory>
 }
 
 /// Where a point lies, by its place among the edges.
-fn spot_of(case: &Case, at: Point, place: Place) -> Spot
-    requires case { IsCaseOf case.now }
+fn spot_of(case: &SweptCase, at: Point, place: Place) -> Spot
+    requires case { IsSweptCase case.now }
     requires place { IsPlaceOf case.now.list.now.edges.items
         (moves_of case.now.swept.now.events.items) at place }
     ensures { IsSpot (plan case.now.drawing.now) case.now.level
@@ -72,8 +72,8 @@ fn spot_of(case: &Case, at: Point, place: Place) -> Spot
 }
 
 /// The half arc whose tube lies over an edge, as the edge faces it from within.
-fn tube_over(case: &Case, lower: Option<u32>) -> Option<u32>
-    requires case { IsCaseOf case.now }
+fn tube_over(case: &SweptCase, lower: Option<u32>) -> Option<u32>
+    requires case { IsSweptCase case.now }
     requires known { IsOver (length case.now.list.now.edges.items) lower }
     ensures { IsTubeOver (plan case.now.drawing.now) case.now.level lower result }
 {
@@ -86,8 +86,8 @@ fn tube_over(case: &Case, lower: Option<u32>) -> Option<u32>
 }
 
 /// Where a point of a half arc's tube lies.
-fn spot_in_tube(case: &Case, number: u32, at: Point) -> Spot
-    requires case { IsCaseOf case.now }
+fn spot_in_tube(case: &SweptCase, number: u32, at: Point) -> Spot
+    requires case { IsSweptCase case.now }
     requires tube { LiesInTube (plan case.now.drawing.now)
         (drawn_bays (plan case.now.drawing.now) case.now.level) number at }
     ensures { IsSpot (plan case.now.drawing.now) case.now.level

@@ -1,16 +1,22 @@
-use Rattle.std.proofs.Common.{◌<◌, arith, length}
-use Rattle.line_sweep.specs.Kinds.{moves_of}
+use Rattle.std.proofs.Common.{rules, ◌<◌, arith, length, sym}
 use Rattle.plane.specs.Rule.Plans.{plan}
+use Rattle.tubes.specs.TubedEdges.{drawn_bays}
 use Rattle.area_search.specs.CaseSides.{IsBeside, no_beside}
-use Rattle.area_search.proofs.CaseCurves.{next_fits, next_is}
+use Rattle.area_search.proofs.CaseCurves.{next_fits, next_is, no_first}
 use Rattle.area_search.proofs.CaseEdges.{nth_curve_is}
 use Rattle.area_search.proofs.Small.{one_more, one_more_size}
 use Rattle.area_search.proofs.case_sides.faces_beside.Goals as goal
 
+pub loop-number-init : goal.loop-number-init
+loop-number-init c = record {
+  first = sym (no_first (drawn_bays (plan c.args.case.now.drawing.now) c.args.case.now.level) 0 c.args.case.now.drawing.now.curves.items);
+  besides = record { size = search rules; each = λ i l. absurd (omega (arith, l)) };
+}
+
 pub overflow_add-first : goal.overflow_add-first
 overflow_add-first c =
     let l : c.loop-number.number < length c.args.case.now.drawing.now.curves.items = (let t = c.loop-number-test.true in let n = c.len-number-end.ensures in omega (arith, t, n)) in
-    let t = next_fits (plan c.args.case.now.drawing.now) c.args.case.now.level c.args.case.now.list.now.edges.items c.args.case.now.list.now.owners.items c.args.case.now.facings.now (moves_of c.args.case.now.swept.now.events.items) c.requires.case
+    let t = next_fits (plan c.args.case.now.drawing.now) c.args.case.now.level c.args.case.now.list.now.edges.items c.args.case.now.list.now.owners.items c.args.case.now.facings.now c.requires.case.0 c.requires.case.1
     c.index-curve.result.now c.loop-number.number c.loop-number.first l (nth_curve_is (plan c.args.case.now.drawing.now) c.loop-number.number c.index-curve.result.now l c.index-curve.ensures) c.loop-number.invariant.first
     c.edge_count-first.result c.edge_count-first.ensures in
     let f = c.requires.few in
@@ -21,7 +27,7 @@ loop-number-preserved c =
     let l : c.loop-number.number < length c.args.case.now.drawing.now.curves.items = (let t = c.loop-number-test.true in let n = c.len-number-end.ensures in omega (arith, t, n)) in
     let i = c.loop-number.invariant in
     record {
-      first = next_is (plan c.args.case.now.drawing.now) c.args.case.now.level c.args.case.now.list.now.edges.items c.args.case.now.list.now.owners.items c.args.case.now.facings.now (moves_of c.args.case.now.swept.now.events.items) c.requires.case
+      first = next_is (plan c.args.case.now.drawing.now) c.args.case.now.level c.args.case.now.list.now.edges.items c.args.case.now.list.now.owners.items c.args.case.now.facings.now c.requires.case.0 c.requires.case.1
           c.index-curve.result.now c.loop-number.number c.loop-number.first l (nth_curve_is (plan c.args.case.now.drawing.now) c.loop-number.number c.index-curve.result.now l c.index-curve.ensures) i.first
           c.edge_count-first.result c.edge_count-first.ensures;
       besides = record {

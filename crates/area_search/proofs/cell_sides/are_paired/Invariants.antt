@@ -1,4 +1,4 @@
-use Rattle.std.proofs.Common.{◌≡◌, ℕ, ◌<◌, get_or}
+use Rattle.std.proofs.Common.{ℕ, ◌<◌, get_or}
 use Rattle.line_sweep.specs.Kinds.{gap_of}
 use Rattle.line_sweep.specs.declared.kinds.Cell.{Cell}
 use Rattle.area_search.specs.CellSides.{IsPaired}

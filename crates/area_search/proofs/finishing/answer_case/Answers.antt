@@ -8,5 +8,5 @@ use Rattle.area_search.proofs.finishing.answer_case.Goals as goal
 
 pub returns-in-Some : goal.returns-in-Some
 returns-in-Some c =
-    on_answer (plan c.args.case.now.drawing.now) c.args.case.now.level c.args.case.now.list.now.edges.items c.args.case.now.list.now.owners.items c.args.case.now.facings.now (moves_of c.args.case.now.swept.now.events.items) c.requires.case
+    on_answer (plan c.args.case.now.drawing.now) c.args.case.now.level c.args.case.now.list.now.edges.items c.args.case.now.list.now.owners.items c.args.case.now.facings.now (moves_of c.args.swept.events.items) c.requires.case
     c.in_ok-spots.spots.items c.in_ok-spots.ensures c.in-Some.on (subst (λ (ss : List Spot). IsFirstSpotOn ss (Some c.in-Some.on)) c.deref.ensures.value c.in-Some.ensures)

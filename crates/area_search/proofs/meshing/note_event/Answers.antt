@@ -1,6 +1,5 @@
-use Rattle.std.proofs.Common.{List, ℕ, ◌<◌, ap, length, subst, sym, ◌∙◌, take, drop}
+use Rattle.std.proofs.Common.{List, ℕ, ◌<◌, ap, length, subst, sym, ◌∙◌}
 use Rattle.plane.specs.Lists.{Has}
-use Rattle.area_search.proofs.PlaneLaws.{part_is}
 use Rattle.area_search.proofs.meshing.note_event.Goals as goal
 
 pub note-requires : goal.note-requires
@@ -10,7 +9,5 @@ note-requires c e h =
 
 pub note-requires-2 : goal.note-requires-2
 note-requires-2 c e h =
-    let p = c.args.event.now.position in
-    let n = c.args.event.now.ending in
     subst (λ (n : ℕ). e < n) (sym (ap length c.deref_mut-2.ensures.value))
-    (c.requires.ending e (subst (λ (es : List ℕ). Has e es) (part_is c.values.result.now p n ∙ ap (λ (now : List ℕ). take n (drop p now)) c.values.ensures) h))
+    (c.requires.ending e (subst (λ (es : List ℕ). Has e es) (c.deref-2.ensures.value ∙ c.in_ok-copy_part.ensures) h))

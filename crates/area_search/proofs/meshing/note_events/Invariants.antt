@@ -7,6 +7,6 @@ use Rattle.area_search.proofs.meshing.note_events.Given as goal
 
 abbrev pub invariant-loop-number : goal.invariant-loop-number
 invariant-loop-number l = record {
-  applied : IsApplied (length l.edges) (moves_of l.events) l.number l.live;
+  applied : IsApplied (moves_of l.events) l.number l.live;
   noted : HasNoted (length l.edges) (steps_from [] (moves_of l.events)) l.number l.noted;
 }
