@@ -31,8 +31,6 @@ mod crossing;
 mod numbers;
 mod placing;
 mod sides;
-#[cfg(test)]
-mod tests;
 mod trials;
 
 pub use circles::Circle;

@@ -1,4 +1,4 @@
-//! Tests of the crates of the plane, by their public items alone: predicates and small drawings,
+//! Tests of the crates of the plane, by their public items alone: predicates, circles, drawings,
 //! boxes, bad pairs of curves, pairs that break a level, meshes, the sweep, places of points, faces,
 //! certificates, their checker, and whole areas.
 //!
@@ -19,6 +19,8 @@ mod certificates;
 mod changed_certificates;
 #[cfg(test)]
 mod changed_numbers;
+#[cfg(test)]
+mod circles;
 #[cfg(test)]
 mod drawings;
 #[cfg(test)]

@@ -5,7 +5,7 @@ ghost use Rattle.plane.specs.Rule.Turns.{AreNear};
 ghost use Rattle.arc_predicates.specs.Circles.{AreClose};
 ghost use Rattle.arc_predicates.specs.Trials.{CurvesAreClose};
 
-use super::{Side, circle, crosses, determinant, dot, is_at_most_zero, place_of};
+use arc_predicates::{Side, circle, crosses, determinant, dot, is_at_most_zero, place_of};
 use plane::{Curve, CurveKind, Point};
 
 fn is_close(a: i64, b: i64) -> bool
