@@ -2,7 +2,7 @@
 ghost use Rattle.std.specs.Prelude.{◌≡◌, ◌≢◌, ◌≤◌, ◌++◌, ℕ, List, [], false, length, map};
 ghost use Rattle.std.specs.Prelude.{IfOk, OnOk, Err, IsTrue, IsFalse};
 ghost use Rattle.itf_lines.specs.Feeds.{line_if};
-ghost use Rattle.itf_lines.specs.Views.{line_seen};
+ghost use Rattle.itf_lines.specs.Views.{line_view};
 ghost use Rattle.itf_reader.specs.Layouts.{form_of};
 ghost use Rattle.itf_reader.specs.Names.{form_in};
 ghost use Rattle.itf_reader.specs.RowFeeds.{after_lines, shown_rows};
@@ -56,13 +56,13 @@ fn take_last(
     requires valid { IsValid (layout_view layout.now) }
     requires named { form_in names.now ≡ form_of (layout_view layout.now) }
     ensures at { OnOk result (rows.new.feed.at ≡ after_lines (form_of (layout_view layout.now))
-        rows.old.feed.at (line_if whole (line_seen line.now))) }
+        rows.old.feed.at (line_if whole (line_view line.now))) }
     ensures sound { OnOk result (rows.old.feed.failed ≡ false
         → rows.new.feed.failed ≡ false) }
     ensures taken { OnOk result ((came : List (ℕ × GivenRow))
         → HasTaken (layout_view layout.now) came rows.old.kept
         → HasTaken (layout_view layout.now) (came ++ shown_rows
-        (form_of (layout_view layout.now)) rows.old.feed.at (line_if whole (line_seen line.now)))
+        (form_of (layout_view layout.now)) rows.old.feed.at (line_if whole (line_view line.now)))
         rows.new.kept) }
 {
     if whole {

@@ -1,6 +1,6 @@
 // How the rows of a transfer are judged, one after another.
 ghost use Rattle.std.specs.Prelude.{◌≡◌, ◌++◌, ◌∷◌, ℕ, List, [], false, IfOk, OnOk, map};
-ghost use Rattle.itf_lines.specs.Views.{line_seen};
+ghost use Rattle.itf_lines.specs.Views.{line_view};
 ghost use Rattle.itf_reader.specs.Forms.{Row as GivenRow};
 ghost use Rattle.itf_reader.specs.Layouts.{form_of};
 ghost use Rattle.itf_reader.specs.Machine.{start};
@@ -113,7 +113,7 @@ impl<'a> RowJudge<'a> {
         requires valid { IsValid (layout_view layout.now) }
         requires named { form_in names.now ≡ form_of (layout_view layout.now) }
         ensures at { OnOk result (self.new.feed.at ≡ next (form_of (layout_view layout.now))
-            self.old.feed.at (line_seen line.now)) }
+            self.old.feed.at (line_view line.now)) }
         ensures sound { OnOk result (self.new.feed.failed ≡ false) }
         ensures taken { OnOk result ((rows : List (ℕ × GivenRow))
             → HasTaken (layout_view layout.now) rows self.old.kept

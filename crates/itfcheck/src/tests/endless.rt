@@ -1,6 +1,7 @@
 //! A transfer that is longer than any that is read, given without being held.
 
-use super::rows::{CHECK, words_of};
+use super::calls::{CHECK, words_of};
+use super::growths::MODEL;
 use delivery::{Status, run};
 use ports::{Failed, MemoryShelf, MemorySink, Shelf};
 use std::test::Fail;
@@ -57,10 +58,8 @@ impl Shelf for Endless {
 #[test]
 fn a_byte_too_many_is_over_the_limit(rt: HostRuntime) -> Result<(), Fail> {
     let alloc = rt.alloc();
-    let model =
-        b"TRANSFER One;\nMODEL M\nTOPIC T =\nTABLE A = N: [0 .. 10]; NO IDENT END A;\nEND T.\nEND M.\nFORMAT FREE;\nCODE BLANK = DEFAULT, UNDEFINED = DEFAULT, CONTINUE = DEFAULT; TID = ANY; END.\n";
     let mut files = MemoryShelf::new(alloc);
-    files.with_file("M", model)?;
+    files.with_file("M", MODEL.as_bytes())?;
     let mut shelf = Endless { files, faults: 0 };
     let mut out = MemorySink::new(alloc);
     let words = words_of(alloc, CHECK)?;

@@ -1,15 +1,9 @@
-//! The program's worked rows: inputs with the answers that a reader of the rules expects.
+//! Calls of the program's `run` that rows of data cannot show: refused growths, files that come in
+//! pieces or without end, the largest trial, and the calls beside `run`. The worked rows stand in
+//! `crates/worked_rows`.
 
-mod arcs;
-mod areas;
-mod compiled;
-mod deliveries;
+mod calls;
 mod endless;
-mod faults;
-mod filed;
-mod inputs;
-mod models;
+mod growths;
 mod pieces;
-mod rows;
 mod trials;
-mod values;

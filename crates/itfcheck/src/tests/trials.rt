@@ -1,8 +1,7 @@
 //! Trials: the words that spell a size, the text of the smallest transfer, and what the program
-//! says of small ones, by their words and by their files.
+//! says of small ones by their files and of the largest by its words.
 
-use super::inputs::report_on;
-use super::rows::{USAGE, words_of};
+use super::calls::{CHECK, words_of};
 use delivery::trial::{model_text, size_of, transfer_text, trial_of};
 use delivery::{Status, run};
 use ports::{MemoryShelf, MemorySink, Shelf};
@@ -57,46 +56,6 @@ struct Call {
     certificate: Option<&'static str>,
 }
 
-const CALLS: [Call; 6] = [
-    Call {
-        words: &["trial", "1", "C"],
-        status: Status::Accepted,
-        report: "AREA Grid Cell Form PROVED 0 4 1\nTRIAL 1 4 4 1\nVERDICT ACCEPTED 5\n",
-        certificate: Some("ITFCERT 1\nAREAS 1\nAREA Grid Cell Form\nSIZES 0 4 4 1\nV "),
-    },
-    Call {
-        words: &["trial", "2", "C"],
-        status: Status::Accepted,
-        report: "AREA Grid Cell Form PROVED 0 12 4\nTRIAL 2 12 9 4\nVERDICT ACCEPTED 16\n",
-        certificate: Some("ITFCERT 1\nAREAS 1\nAREA Grid Cell Form\nSIZES 0 12 9 4\nV "),
-    },
-    Call {
-        words: &["trial", "0", "C"],
-        status: Status::Usage,
-        report: USAGE,
-        certificate: None,
-    },
-    Call {
-        words: &["trial", "01", "C"],
-        status: Status::Usage,
-        report: USAGE,
-        certificate: None,
-    },
-    Call {
-        words: &["trial", "501", "C"],
-        status: Status::Usage,
-        report: USAGE,
-        certificate: None,
-    },
-    Call {
-        words: &["trial", "2", "-C"],
-        status: Status::Usage,
-        report: USAGE,
-        certificate: None,
-    },
-];
-
-// The largest trial: its transfer has some 38 MB.
 const LARGEST: Call = Call {
     words: &["trial", "500", "C"],
     status: Status::Accepted,
@@ -153,8 +112,12 @@ fn reports(rt: &impl Abort, alloc: Global, size: u32, report: &str) -> Result<()
     let transfer = transfer_text(alloc, size)?;
     let model = std::str::from_utf8(&model).unwrap_or("");
     let transfer = std::str::from_utf8(&transfer).unwrap_or("");
-    let got = report_on(alloc, model, transfer)?;
-    assert_eq!(rt; got.as_slice(), report.as_bytes(), "size {size}");
+    let mut shelf = MemoryShelf::new(alloc);
+    shelf.with_file("M", model.as_bytes())?;
+    shelf.with_file("T", transfer.as_bytes())?;
+    let mut out = MemorySink::new(alloc);
+    let _status = run(alloc, &words_of(alloc, CHECK)?, &mut shelf, &mut out);
+    assert_eq!(rt; out.bytes(), report.as_bytes(), "size {size}");
     Ok(())
 }
 
@@ -183,14 +146,6 @@ fn answers(rt: &impl Abort, alloc: Global, call: &Call) -> Result<(), Fail> {
     assert_eq!(rt; status, call.status);
     assert_eq!(rt; out.bytes(), call.report.as_bytes());
     assert!(rt; begins(&mut shelf, call.certificate), "the certificates");
-    Ok(())
-}
-
-#[test]
-fn trials_are_answered(rt: HostRuntime) -> Result<(), Fail> {
-    for call in &CALLS {
-        answers(&rt, rt.alloc(), call)?;
-    }
     Ok(())
 }
 
