@@ -4,7 +4,10 @@
 # (a) a plain C program that parses the same numbers from the transfer and (b) a plain C++ sweep
 # over the straights, whose own reading of binary numbers is taken away. Neither proves anything,
 # names an object or writes a certificate. Then it runs on level strokes that are all live at once,
-# at two sizes. The programs run in turn, the best of five counts. Prints ratios, no absolute times.
+# at two sizes, and on areas with arcs: 883,957 curves, of which 33,286 are half arcs, and 234,252
+# with 72,300, beside the sweep over their straights and chords, and the same with a bad pair and
+# with an undecided half arc. The programs run in turn, the best of five counts, of the bad and the
+# undecided ones the best of three. Prints ratios, no absolute times.
 #
 # usage: bench/check.sh [ITFCHECK]      (crates/itfcheck/out/itfcheck where none is given)
 set -euo pipefail
@@ -104,4 +107,27 @@ for count in 100000 200000; do
     }'
     smaller=$check
     smaller_verify=$verify
+done
+
+for drawing in 'cover 100000' 'arcs 30000'; do
+    python3 "$top/bench/drawings.py" $drawing "$work"
+    "$itfcheck" check $files > /dev/null
+    read -r check check_peak verify verify_peak sweep _ sweep_read _ <<< "$(measure_in_turn \
+        "$itfcheck check $files" "$itfcheck verify $files" './sweep chords' './sweep chords read')"
+    awk -v d="$drawing" -v n="$(( $(stat -c %s straights) / 16 ))" -v a="$(( $(stat -c %s arcs) / 12 ))" -v c="$check" \
+        -v v="$verify" -v s="$(( sweep - sweep_read ))" -v cm="$check_peak" -v vm="$verify_peak" -v t="$(stat -c %s transfer)" 'BEGIN {
+        printf "%s: %d curves, of them %d half arcs, transfer %.0f MB\n", d, n + a, a, t / 1e6
+        printf "CPU time of check: %.2f times the sweep of the straights and chords (aim 2.5)\n", c / s
+        printf "CPU time of verify: %.2f times check (aim 1)\n", v / c
+        printf "peak memory of check: %.1f times the transfer (aim 7), of verify: %.1f\n", cm * 1024 / t, vm * 1024 / t
+    }'
+    status=1
+    for fault in bad undecided; do
+        python3 "$top/bench/drawings.py" ${drawing/ /-$fault } "$work"
+        read -r slow slow_peak <<< "$(measure $status "$itfcheck" check $files)"
+        awk -v f="$fault" -v b="$slow" -v c="$check" -v m="$slow_peak" -v t="$(stat -c %s transfer)" 'BEGIN {
+            printf "%s: %.1f times as long as the good delivery (aim 10), %.1f times the transfer\n", f, b / c, m * 1024 / t
+        }'
+        status=2
+    done
 done

@@ -8,10 +8,19 @@ usage: drawings.py grid N FOLDER        N by N squares, two N (N + 1) straights
        drawings.py cover N FOLDER       the same, but one of 12 borders is an arc
        drawings.py strokes N FOLDER     N straights that all lie above one another, in no order, and
                                         no object: a sweep has all of them live at once
+       drawings.py arcs-bad N FOLDER    the same as arcs, and cover-bad as cover, and one line more
+                                        that goes through an arc
+       drawings.py arcs-undecided N FOLDER    the same as arcs, and cover-undecided as cover, and one
+                                        ring more with a half arc of more than half a turn, which
+                                        has a tube at no level
+       drawings.py fan N FOLDER         N straights from one vertex, all round
+       drawings.py uprights N FOLDER    N upright straights, in columns
+       drawings.py comb N FOLDER        one parcel, a comb of level teeth, N straights in all, half of
+                                        which a sweep has live at once
 
-FOLDER gets `model` and `transfer`, which `check` accepts, and the same as 32-bit numbers in units
-of a millimetre: `straights`, x and y of the start, x and y of the end, `arcs`, x and y of the start,
-of the place on the arc and of the end, `chords`, the straights and the two chords of each arc, and
+FOLDER gets `model` and `transfer`, which `check` accepts where nothing else is said, and the same as
+32-bit numbers in units of a millimetre: `straights`, x and y of the start, x and y of the end,
+`arcs`, x and y of the start, of the place on the arc and of the end, `chords`, the straights and the two chords of each arc, and
 `points`, x and y. The same arguments give the same bytes.
 """
 import os
@@ -108,6 +117,61 @@ def strokes(count):
     return lines, []
 
 
+def with_bad(lines):
+    """The lines, and one that goes through the first arc at the place over which it leads."""
+    start, over, end = next(line for line in lines if len(line[1]) == 3)
+    middle = ((start[0] + end[0]) // 2, (start[1] + end[1]) // 2)
+    beyond = (2 * over[0] - middle[0], 2 * over[1] - middle[1])
+    return lines + [[middle, beyond]]
+
+
+def with_undecided(lines):
+    """The lines, and a ring of three quarters of a circle and its chord, within the first parcel."""
+    x, y = 70500, 50000
+    return lines + [[(x + 1000, y), (x + 960, y + 280, "arc"), (x, y - 1000), (x + 1000, y)]]
+
+
+def fan(count):
+    """Straights from the middle of the window to places on a square about it."""
+    middle, half = 50_000_000, 40_000_000
+    step = 8 * half // count
+
+    def around(place):
+        side, along = divmod(place, 2 * half)
+        return [(along - half, -half), (half, along - half), (half - along, half), (-half, half - along)][side]
+
+    ends = [around(step * i) for i in range(count)]
+    random.Random(1).shuffle(ends)
+    return [[(middle, middle), (middle + x, middle + y)] for x, y in ends], []
+
+
+def uprights(count):
+    """Upright straights of 50 mm with gaps of 50 mm, in columns of as many as there are columns."""
+    high = max(1, round(count ** 0.5))
+    places = list(range(count))
+    random.Random(1).shuffle(places)
+    lines = []
+    for place in places:
+        x, y = 100 * (place // high), 100 * (place % high)
+        lines.append([(x, y), (x, y + 50)])
+    return lines, []
+
+
+def comb(count):
+    """A parcel with level teeth of many lengths on one upright back."""
+    chance = random.Random(1)
+    teeth = max(1, (count - 3) // 4)
+    tops = list(range(teeth))
+    chance.shuffle(tops)
+    lines = []
+    for i in range(teeth):
+        y, top = 100 * i, 50_000_000 + 50 * tops[i]
+        lines.append([(1000, y), (top, y), (top, y + 50), (1000, y + 50), (1000, y + 100)])
+    chance.shuffle(lines)
+    lines.append([(1000, 100 * teeth), (0, 100 * teeth), (0, 0), (1000, 0)])
+    return lines, [(500, 50)]
+
+
 def curves_of(line):
     """The straights and the arcs of a line, in order."""
     vertices = iter(line[1:])
@@ -135,8 +199,13 @@ def main():
         "arcs": lambda count: parcels(count, 3 / 5),
         "cover": lambda count: parcels(count, 1 / 12),
         "strokes": strokes,
+        "fan": fan,
+        "uprights": uprights,
+        "comb": comb,
     }
+    kind, _, fault = kind.partition("-")
     lines, points = kinds[kind](count)
+    lines = {"": list, "bad": with_bad, "undecided": with_undecided}[fault](lines)
     curves = [curve for line in lines for curve in curves_of(line)]
     os.makedirs(folder, exist_ok=True)
     with open(f"{folder}/model", "w") as file:

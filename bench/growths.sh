@@ -65,7 +65,7 @@ MODEL = """TRANSFER Rows; DOMAIN Koord = COORD2 0.000 0.000 1000.000 1000.000;
 MODEL Land TOPIC Cover =
 TABLE Owner = Name: TEXT*12; Art: (private, public (town, state)); NO IDENT END Owner;
 TABLE Parcel = Nr: TEXT*12; Zu: -> Owner;
-Form: AREA WITH (STRAIGHTS) VERTEX Koord WITHOUT OVERLAPS > 0.050; IDENT Nr; END Parcel;
+Form: AREA WITH (STRAIGHTS, ARCS) VERTEX Koord WITHOUT OVERLAPS > 0.050; IDENT Nr; END Parcel;
 END Cover. END Land.
 FORMAT FREE; CODE BLANK = DEFAULT, UNDEFINED = DEFAULT, CONTINUE = DEFAULT; TID = ANY; END.
 """
@@ -89,6 +89,35 @@ STPT 120.000 120.000
 LIPT 130.000 120.000
 ELIN
 """
+CIRCLE = """OBJE 1
+STPT 510.000 500.000
+ARCP 500.000 510.000
+LIPT 490.000 500.000
+ARCP 500.000 490.000
+LIPT 510.000 500.000
+ELIN
+"""
+# beside the circle, and in the tube of its first half arc at level 0
+SMALL = """OBJE 2
+STPT 508.860 503.660
+LIPT 508.880 503.660
+LIPT 508.880 503.680
+LIPT 508.860 503.680
+LIPT 508.860 503.660
+ELIN
+"""
+# two arcs that begin in one direction
+FORKED = """OBJE 1
+STPT 500.000 500.000
+ARCP 506.000 502.000
+LIPT 510.000 510.000
+ELIN
+OBJE 2
+STPT 500.000 500.000
+ARCP 512.000 504.000
+LIPT 520.000 520.000
+ELIN
+"""
 
 
 def transfer(lines, parcels):
@@ -100,6 +129,8 @@ def transfer(lines, parcels):
 SQUARE = transfer(RING, "OBJE 1 77 o1 110.000 150.000\n")
 HOLED = transfer(RING + HOLE, "OBJE 1 77 o1 110.000 150.000\nOBJE 2 78 o2 150.000 150.000\n")
 CROSSED = transfer(RING + RING.replace("STPT 100", "STPT 300"), "OBJE 1 77 o1 110.000 150.000\n")
+ROUND = transfer(CIRCLE, "OBJE 1 77 o1 500.000 500.000\n")
+NEAR = transfer(CIRCLE + SMALL, "OBJE 1 77 o1 500.000 500.000\nOBJE 2 78 o2 508.870 503.670\n")
 WRONG = transfer(RING, "OBJE 1 77 o3 110.000 150.000\nOBJE 2 77 o1 x 1.000\n")
 
 # the command, the model, the transfer, the certificates filed before, and the status
@@ -107,6 +138,9 @@ CHECKS = [
     ("a square", "check", MODEL, SQUARE, None, 0),
     ("a square, filed before", "check", MODEL, SQUARE, b"as it was", 0),
     ("a ring with a hole and a line that ends inside", "check", MODEL, HOLED, None, 0),
+    ("a circle of two arcs", "check", MODEL, ROUND, None, 0),
+    ("a circle, and a square that level 0 does not settle", "check", MODEL, NEAR, None, 0),
+    ("two arcs that begin in one direction", "check", MODEL, transfer(FORKED, ""), None, 2),
     ("two lines that meet", "check", MODEL, CROSSED, None, 1),
     ("wrong rows", "check", MODEL, WRONG, None, 1),
     ("a transfer that ends too soon", "check", MODEL, SQUARE[:150], None, 1),
@@ -180,6 +214,8 @@ for case in CHECKS:
     made.append(refuse_all(*case))
 name, _, model, text, _, _ = CHECKS[2]
 refuse_all(name, "verify", model, text, made[2], 0)
+name, _, model, text, _, _ = CHECKS[4]
+refuse_all(name, "verify", model, text, made[4], 0)
 name, _, model, text, _, _ = CHECKS[0]
 refuse_all(name, "verify", model, text, made[0], 0)
 refuse_all("a square, a label changed", "verify", model, text, made[0].replace(b"R 0 1 R", b"R 0 2 R", 1), 9)

@@ -1,0 +1,53 @@
+#!/usr/bin/env bash
+# Runs `check` and `verify` of the built program on drawings that are made to be hard: straights that
+# are all live at once, one vertex for all, upright straights alone, a comb. Each stands beside
+# parcels with about as many straights. One run each; prints CPU time and peak memory, and the
+# time beside that of the parcels.
+#
+# usage: bench/worst.sh [ITFCHECK]      (crates/itfcheck/out/itfcheck where none is given)
+set -euo pipefail
+top=$(cd "$(dirname "${BASH_SOURCE[0]}")/.." && pwd)
+itfcheck=$(realpath "${1:-$top/crates/itfcheck/out/itfcheck}")
+work=$(mktemp -d)
+trap 'rm -rf "$work"' EXIT
+cd "$work"
+
+# CPU time in milliseconds and peak memory in KiB of one run, and its status
+once() {
+    python3 - "$@" <<'PY'
+import os, sys
+pid = os.fork()
+if pid == 0:
+    sink = os.open(os.devnull, os.O_WRONLY)
+    os.dup2(sink, 1)
+    os.execvp(sys.argv[1], sys.argv[1:])
+_, status, usage = os.wait4(pid, 0)
+print(round((usage.ru_utime + usage.ru_stime) * 1000), usage.ru_maxrss, os.WEXITSTATUS(status))
+PY
+}
+
+# the same of `check` and `verify` of a drawing, and how large its transfer is
+both() {
+    python3 "$top/bench/drawings.py" "$1" "$2" "$work"
+    read -r check check_peak check_status <<< "$(once "$itfcheck" check model transfer certificate)"
+    read -r verify verify_peak verify_status <<< "$(once "$itfcheck" verify model transfer certificate)"
+    size=$(stat -c %s transfer)
+    straights=$(( $(stat -c %s straights) / 16 ))
+}
+
+# so many parcels have about 9 straights each
+for count in 100000 200000 1000000; do
+    both parcels $(( count / 9 ))
+    plain_check=$check plain_verify=$verify plain_size=$size
+    printf 'parcels: %d straights, transfer %d MB: check %.1f s, verify %.1f s\n' \
+        "$straights" "$(( size / 1000000 ))" "$(( check ))e-3" "$(( verify ))e-3"
+    for kind in strokes fan uprights comb; do
+        both $kind $count
+        awk -v k="$kind" -v n="$straights" -v s="$size" -v c="$check" -v v="$verify" -v cm="$check_peak" -v vm="$verify_peak" \
+            -v cs="$check_status" -v vs="$verify_status" -v pc="$plain_check" -v pv="$plain_verify" -v ps="$plain_size" 'BEGIN {
+            scale = s / ps
+            printf "%s: %d straights, transfer %.0f MB: check %.1f s, %.1f times that of parcels of this size, peak %.1f times the transfer, status %d; verify %.1f s, %.1f times, peak %.1f times, status %d\n", \
+                k, n, s / 1e6, c / 1e3, c / (pc * scale), cm * 1024 / s, cs, v / 1e3, v / (pv * scale), vm * 1024 / s, vs
+        }'
+    done
+done
