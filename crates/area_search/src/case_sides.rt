@@ -1,6 +1,6 @@
 // The faces beside the curves of a case, and the sides of curves that bound a face without a point.
-ghost use Rattle.std.specs.Prelude.{◌≡◌, ℕ, ◌+◌, ◌*◌, ◌^◌, ◌<◌, ◌≤◌, ◌↔◌, false, true, IfOk, length};
-ghost use Rattle.std.specs.Prelude.{IsTrue, slice_index};
+ghost use Rattle.std.specs.Prelude.{◌≡◌, ℕ, ◌+◌, ◌*◌, ◌^◌, ◌<◌, ◌≤◌, ◌↔◌, false, true, IfOk};
+ghost use Rattle.std.specs.Prelude.{length, IsTrue, slice_index};
 ghost use Rattle.half_edges.specs.HalfEdges.{size};
 ghost use Rattle.plane.specs.CurveRuns.TubedRuns.{IsOfTube, half_within, third_is_left};
 ghost use Rattle.plane.specs.Faces.Halves.{number, twin};
@@ -15,7 +15,8 @@ ghost use Rattle.area_search.specs.Sides.{IsOnSide};
 ghost use Rattle.area_search.specs.Cases.{HasRun, spot_face, spot_faces, spot_at};
 ghost use Rattle.area_search.specs.CaseSides.{AreBeside, AreFreeSides, IsBeside, IsBesideIn};
 ghost use Rattle.area_search.specs.CaseSides.{IsFreeFace, IsFreeSide, IsSpotOf, IsTurnable};
-ghost use Rattle.area_search.specs.CaseSides.{beside_at, edges_of_kind, first_at, free_of, is_first};
+ghost use Rattle.area_search.specs.CaseSides.{beside_at, edges_of_kind, first_at, free_of};
+ghost use Rattle.area_search.specs.CaseSides.{is_first};
 
 use super::case::{Case, Spot};
 use super::sides::{Side, half_on};

@@ -6,8 +6,8 @@ ghost use Rattle.plane.specs.Rule.Plans.{plan};
 ghost use Rattle.plane.specs.declared.kinds.CurveKind.TheVariants as kind;
 ghost use Rattle.meetings.specs.StraightRuns.{IsClearRun};
 ghost use Rattle.area_search.specs.CurvePoints.{AreArcBoxes, AreArcsTo, AreMarkedFrom, IsFirstOn};
-ghost use Rattle.area_search.specs.CurvePoints.{ArePointBoxes, IsFirstOnCurve, IsLeastOf, IsLesserOn};
-ghost use Rattle.area_search.specs.CurvePoints.{LiesOnArc, LiesOnStraight};
+ghost use Rattle.area_search.specs.CurvePoints.{ArePointBoxes, IsFirstOnCurve, IsLeastOf};
+ghost use Rattle.area_search.specs.CurvePoints.{IsLesserOn, LiesOnArc, LiesOnStraight};
 
 use super::points::{OnCurve, points_at};
 use line_sweep::Swept;

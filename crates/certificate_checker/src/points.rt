@@ -125,8 +125,8 @@ fn is_later(at: Point, upto: Option<Point>) -> bool
     }
 }
 
-/// Marks the half-edges that bound the cell of the point, or notes that it is neither in such a cell
-/// nor in a tube.
+/// Marks the half-edges that bound the cell of the point, or notes that it is neither in such a
+/// cell nor in a tube.
 fn place_point(
     case: &Case,
     event: u32,

@@ -1,6 +1,7 @@
 // What the replay keeps from event to event.
 ghost use Rattle.std.specs.Prelude.{◌≡◌};
-ghost use Rattle.certificate_checker.specs.declared.state.Stop.TheVariants.{Broken, Memory as OutOfMemory};
+ghost use Rattle.certificate_checker.specs.declared.state.Stop.TheVariants.{Broken};
+ghost use Rattle.certificate_checker.specs.declared.state.Stop.TheVariants.{Memory as OutOfMemory};
 
 use half_edges::{HalfEdgeId, Mesh};
 use plane::Point;

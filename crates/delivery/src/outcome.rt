@@ -3,7 +3,8 @@ ghost use Rattle.std.specs.Prelude.{◌≡◌, ◌++◌, map, IfOk, OnOk, Some, 
 ghost use Rattle.certificate.specs.Spelling.{view, views};
 ghost use Rattle.itf_reader.specs.Findings.{findings_of};
 ghost use Rattle.itf_reader.specs.Refusals.{fault_of};
-ghost use Rattle.table_layout.specs.Values.{area_view, areas_view, layout_view, table_view, tables_view};
+ghost use Rattle.table_layout.specs.Values.{area_view, areas_view, layout_view, table_view};
+ghost use Rattle.table_layout.specs.Values.{tables_view};
 ghost use Rattle.delivery.specs.Outcomes.{reported, usage, area_too_large};
 ghost use Rattle.delivery.specs.Outcomes.{refused, compiled, misbuilt, rejected, areas_told};
 ghost use Rattle.delivery.specs.Outcomes.{accepted, area_line, area_lines, table_line};

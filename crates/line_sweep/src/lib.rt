@@ -6,10 +6,10 @@
 //!   the event that made them so; or two edges that are `Bad` by `straight_predicates::meet`. Two
 //!   such edges are named exactly where there are any; which, where there are several, is free.
 //! - **How.** The live list holds the edges that cross the sweep line, from below. At each event
-//!   those that end there are one block, found by a search for the event in the list. The edges that
-//!   start there take its place, by slope. Only edges that become neighbours are tested, and the one
-//!   behind the block, whether it goes through the event. That this is enough is a law of `plane`:
-//!   where nothing is found the events are a complete run, in which no two edges are bad.
+//!   those that end there are one block, found by a search for the event in the list. The edges
+//!   that start there take its place, by slope. Only edges that become neighbours are tested, and
+//!   the one after the block, whether it goes through the event. That this is enough is a law of
+//!   `plane`: where nothing is found the events are a complete run, in which no two edges are bad.
 //! - **What it asks for.** Fewer than 2^31 edges, the low end of each before its high end, and all
 //!   ends within 2^41 of each other in each coordinate.
 //! - **Degenerate cases.** Upright edges, edges of one line, equal edges, many edges in one point,
@@ -17,11 +17,11 @@
 //! - **Not here:** no faces, no half-edges and no points but the edges' ends.
 //!
 //! Cost: O((m + events) log m) for m edges, and what the live list and the keys of the open cells
-//! move. These are kept in blocks (`straight_predicates::Row`): an event moves at most 8,192 entries
-//! of 4 and of 8 bytes, beside those that come and go, however many edges are live, and passes over
-//! the blocks before its place, of which there are at most m / 2,048 + 1. On maps some hundreds of
-//! edges are live, in one block. An event takes memory for the list of its starting edges, and for
-//! the cells and the blocks where they grow.
+//! move. These are kept in blocks (`straight_predicates::Row`): an event moves at most 8,192
+//! entries of 4 and of 8 bytes, beside those that come and go, however many edges are live, and
+//! passes over the blocks before its place, of which there are at most m / 2,048 + 1. On maps some
+//! hundreds of edges are live, in one block. An event takes memory for the list of its starting
+//! edges, and for the cells and the blocks where they grow.
 #![tactic(auto)]
 
 mod blocks;

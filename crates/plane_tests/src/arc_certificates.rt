@@ -30,7 +30,8 @@ const OUTER: &[Line] = &[ROUND, FLAT, Straight([520_000, 510_000, 510_301, 504_2
 
 const END: &[Line] = &[ROUND, FLAT, Straight([520_000, 510_000, 510_000, 500_000])];
 
-// A point off the tubes; two in the first tube, inside the circle and outside; and one on the circle.
+// A point off the tubes; two in the first tube, inside the circle and outside; and one on the
+// circle.
 const MIDDLE: [i64; 2] = [501_000, 501_000];
 
 const INSIDE: [i64; 2] = [508_800, 503_700];
@@ -107,7 +108,8 @@ const TWELVE: &[u8] = b"SIZES 0 12 10 1\n\
     E 1 N 1 2 R 0\nE 1 R 0 2 R 0\nE 0 R 0 2 R 0\nE 2 R 0 0 R 0\nE 2 R 0 0 R 0\nE 1 P 1 3 R 0\n\
     E 1 N 1 3 R 0\nE 3 R 0 0 R 0\nE 3 R 0 0 R 0\nE 0 R 0 3 R 0\nE 0 R 0 1 R 0\nE 0 R 0 0 R 0\n";
 
-// Labels within the first tube that are the point's, and such within the second that are the first's.
+// Labels within the first tube that are the point's, and such within the second that are the
+// first's.
 const OF_POINT: &[u8] =
     b"E 1 N 1 1 R 0\nE 1 R 0 1 R 0\nE 0 R 0 1 R 0\nE 1 R 0 0 R 0\nE 1 R 0 0 R 0\n";
 

@@ -19,7 +19,8 @@ type Case = (&'static str, &'static [Line], u8, Option<[u32; 2]>);
 // ends the inner corner (507071, 507071).
 const ABOVE: Line = Arc([510_000, 500_000, 500_000, 510_000, 490_000, 500_000]);
 
-// Inside the circle, 414 units from it, and over the chord of level 0 but not over those of level 1.
+// Inside the circle, 414 units from it, and over the chord of level 0 but not over those of
+// level 1.
 const SQUARE: [Line; 5] = [
     ABOVE,
     Straight([508_860, 503_660, 508_880, 503_660]),

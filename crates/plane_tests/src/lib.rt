@@ -1,6 +1,6 @@
 //! Tests of the crates of the plane, by their public items alone: predicates, circles, drawings,
-//! boxes, bad pairs of curves, pairs that break a level, meshes, the sweep, places of points, faces,
-//! certificates, their checker, and whole areas.
+//! boxes, bad pairs of curves, pairs that break a level, meshes, the sweep, places of points,
+//! faces, certificates, their checker, and whole areas.
 //!
 //! They stand in a crate of their own since a library with tests is proved once more with them.
 #![tactic(auto)]

@@ -1,6 +1,6 @@
 // Where a point lies in a list of edges.
-ghost use Rattle.std.specs.Prelude.{◌≡◌, ◌+◌, ◌<◌, ◌≤◌, ◌↔◌, ℕ, suc, pos, ◌<ℤ◌, ◌≤ℤ◌, IsTrue, [], length};
-ghost use Rattle.std.specs.Prelude.{slice_index_or};
+ghost use Rattle.std.specs.Prelude.{◌≡◌, ◌+◌, ◌<◌, ◌≤◌, ◌↔◌, ℕ, suc, pos, ◌<ℤ◌, ◌≤ℤ◌, IsTrue, []};
+ghost use Rattle.std.specs.Prelude.{length, slice_index_or};
 ghost use Rattle.plane.specs.Runs.Positions.{turn_at};
 ghost use Rattle.straight_predicates.specs.EdgeLists.{edge_of, AreBelow, IsCloseToAll};
 ghost use Rattle.straight_predicates.specs.Rows.{first_of, joined};

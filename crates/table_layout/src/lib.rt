@@ -31,9 +31,9 @@
 //!   `codes_differ`).
 //! - **Not checked here.** `layout` takes a model as `resolve` gives it (`IsSound`): few names,
 //!   numbers in range, no lines in LINEATTR, narrow windows of areas. That names differ is for the
-//!   resolver, whose rules the laws on names cite. The definition is total: a reference that names no table would name table 0, a
-//!   number in an IDENT list that is no attribute would leave the list out, and an AREA in LINEATTR
-//!   would be a column.
+//!   resolver, whose rules the laws on names cite. The definition is total: a reference that
+//!   names no table would name table 0, a number in an IDENT list that is no attribute would leave
+//!   the list out, and an AREA in LINEATTR would be a column.
 //! - **Degenerate cases.** No topics, topics without tables, tables without attributes, LINEATTR
 //!   without attributes.
 //!

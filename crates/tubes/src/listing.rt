@@ -3,8 +3,8 @@ ghost use Rattle.std.specs.Prelude.{◌≡◌, ◌++◌, ◌∷◌, [], ◌≤�
 ghost use Rattle.plane.specs.Rule.Plans.{plan};
 ghost use Rattle.plane.specs.declared.kinds.CurveKind.TheVariants as kind;
 ghost use Rattle.tubes.specs.DrawnEdges.{edge_from};
-ghost use Rattle.tubes.specs.TubedEdges.{AreDistinct, IsAdded, IsFit, IsListAt, IsTubeAdded, IsUsable};
-ghost use Rattle.tubes.specs.TubedEdges.{chain_edges, each_owner};
+ghost use Rattle.tubes.specs.TubedEdges.{AreDistinct, IsAdded, IsFit, IsListAt, IsTubeAdded};
+ghost use Rattle.tubes.specs.TubedEdges.{IsUsable, chain_edges, each_owner};
 
 use super::kinds::{EdgeList, Owner, Part, Tube};
 use super::making::tube;

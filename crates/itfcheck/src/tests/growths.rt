@@ -30,7 +30,10 @@ const NUMBERS: [(Status, u8); 10] = [
 ];
 
 pub const PARCELS: &str =
-    "TRANSFER Rows;\nDOMAIN\n  Koord = COORD2 0.000 0.000 1000.000 1000.000;\nMODEL Land\n  TOPIC Cover =\n    TABLE Parcel =\n      Nr: TEXT*12;\n      Form: AREA WITH (STRAIGHTS, ARCS) VERTEX Koord WITHOUT OVERLAPS > 0.050;\n    IDENT Nr;\n    END Parcel;\n  END Cover.\n\
+    "TRANSFER Rows;\nDOMAIN\n  Koord = COORD2 0.000 0.000 1000.000 1000.000;\nMODEL Land\n  \
+        TOPIC Cover =\n    TABLE Parcel =\n      Nr: TEXT*12;\n      \
+        Form: AREA WITH (STRAIGHTS, ARCS) VERTEX Koord WITHOUT OVERLAPS > 0.050;\n    \
+        IDENT Nr;\n    END Parcel;\n  END Cover.\n\
         END Land.\nFORMAT FREE;\n\
         CODE BLANK = DEFAULT, UNDEFINED = DEFAULT, CONTINUE = DEFAULT; TID = ANY; END.\n";
 

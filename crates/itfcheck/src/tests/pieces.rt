@@ -59,7 +59,9 @@ impl Shelf for Pieces {
 const ACCEPTED: &str = "AREA Cover Parcel Form PROVED 0 4 1\nVERDICT ACCEPTED 2\n";
 
 const VALUES: &str =
-    "TRANSFER Vals;\nMODEL Small\n  TOPIC T =\n    TABLE A =\n      N: [0.0 .. 99.5];\n      K: OPTIONAL (a, b (c, d), e);\n      S: OPTIONAL TEXT*3;\n    IDENT S;\n    END A;\n    TABLE B =\n      Zu: -> A;\n    NO IDENT\n    END B;\n  END T.\n\
+    "TRANSFER Vals;\nMODEL Small\n  TOPIC T =\n    TABLE A =\n      N: [0.0 .. 99.5];\n      \
+        K: OPTIONAL (a, b (c, d), e);\n      S: OPTIONAL TEXT*3;\n    IDENT S;\n    END A;\n    \
+        TABLE B =\n      Zu: -> A;\n    NO IDENT\n    END B;\n  END T.\n\
         END Small.\nFORMAT FREE;\n\
         CODE BLANK = DEFAULT, UNDEFINED = DEFAULT, CONTINUE = DEFAULT; TID = ANY; END.\n";
 

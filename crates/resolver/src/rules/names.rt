@@ -90,7 +90,8 @@ pub fn check_elements<'a>(
     earliest: &mut Earliest<'a>,
 ) -> Result<(), Memory>
     ensures { OnOk result (fault_in earliest.new
-        ≡ first_from (fault_in earliest.old) (twice_in (element_names (elements_of elements.now)))) }
+        ≡ first_from (fault_in earliest.old)
+        (twice_in (element_names (elements_of elements.now)))) }
 {
     let names = element_names(alloc, elements)?;
     check_unique(alloc, names, earliest)?;

@@ -48,7 +48,8 @@ fn check_table<'a>(
     requires scope { IsSmallScope (scope_of scope.now) }
     requires table { IsSmallTable (table_of table.now) }
     ensures { OnOk result (fault_in earliest.new
-        ≡ first_from (fault_in earliest.old) (table_faults (scope_of scope.now) (table_of table.now))) }
+        ≡ first_from (fault_in earliest.old)
+        (table_faults (scope_of scope.now) (table_of table.now))) }
 {
     check_names(alloc, &table.attributes, &table.idents, earliest)?;
     check_attributes(alloc, scope, &table.attributes, earliest)

@@ -150,7 +150,8 @@ impl<'a> DomainScope<'a> {
     /// The type at the end of the chain of the domain of that name.
     pub fn target(&self, name: &[u8]) -> Option<&'a TypeSyntax>
         ensures target { option_map (λ k. type_of k.now) result
-            ≡ option_and_then (target_in self.now) (place name.now (names_of (domains_in self.now))) }
+            ≡ option_and_then (target_in self.now)
+            (place name.now (names_of (domains_in self.now))) }
         ensures short { All IsSmallDomain (domains_in self.now)
             → IfSome result (λ k. IsSmallType (type_of k.now)) }
     {
