@@ -1,5 +1,6 @@
--- How a number is written: an optional sign, digits, and perhaps a point with digits behind it.
-use Rattle.std.specs.Prelude.{◌≡◌, ℕ, ◌+◌, ◌-◌, ◌*◌, ◌^◌, Bool, true, cond, ◌&&◌, List, [], ◌∷◌, ◌++◌, length, drop, nat_lt, ◌==◌, Option, Some, None}
+-- How a number is written: an optional sign, digits, and perhaps a point with digits after it.
+use Rattle.std.specs.Prelude.{◌≡◌, ℕ, ◌+◌, ◌-◌, ◌*◌, ◌^◌, Bool, true, cond, ◌&&◌, List, [], ◌∷◌}
+use Rattle.std.specs.Prelude.{◌++◌, length, drop, nat_lt, ◌==◌, Option, Some, None}
 use Rattle.std.specs.Str.{all_ascii_digits}
 
 -- a sign, written or not
@@ -13,7 +14,7 @@ sign_bytes unsigned = []
 sign_bytes plus = 43 ∷ []
 sign_bytes minus = 45 ∷ []
 
--- a point and what stands behind it, or no point
+-- a point and what stands after it, or no point
 abbrev pub point_bytes : Option (List ℕ) → List ℕ
 point_bytes None = []
 point_bytes (Some decimals) = 46 ∷ decimals
@@ -22,7 +23,7 @@ point_bytes (Some decimals) = 46 ∷ decimals
 pub record Numeral : Type 0 where
   pub sign : Sign
   pub whole : List ℕ
-  -- what stands behind the point, where there is one
+  -- what stands after the point, where there is one
   pub point : Option (List ℕ)
 
 abbrev pub spelling : Numeral → List ℕ
@@ -32,7 +33,7 @@ spelling n = sign_bytes n.sign ++ (n.whole ++ point_bytes n.point)
 abbrev pub is_digits : List ℕ → Bool
 is_digits bytes = nat_lt 0 (length bytes) && all_ascii_digits bytes
 
--- where there is a point, digits stand behind it
+-- where there is a point, digits stand after it
 abbrev pub has_decimals : Option (List ℕ) → Bool
 has_decimals None = true
 has_decimals (Some decimals) = is_digits decimals
@@ -62,11 +63,16 @@ abbrev pub whole_of : List ℕ → List ℕ
 whole_of [] = []
 whole_of (c ∷ cs) = cond (c == 46) [] (c ∷ whole_of cs)
 
--- what stands behind the first point
+-- what stands after the first point
 abbrev pub point_of : List ℕ → Option (List ℕ)
 point_of [] = None
 point_of (c ∷ cs) = cond (c == 46) (Some cs) (point_of cs)
 
 -- the text cut at its sign and at its first point
 abbrev pub cut : List ℕ → Numeral
-cut bytes = record { sign = sign_of bytes; whole = whole_of (after_sign bytes); point = point_of (after_sign bytes) }
+cut bytes =
+    record {
+      sign = sign_of bytes;
+      whole = whole_of (after_sign bytes);
+      point = point_of (after_sign bytes);
+    }

@@ -1,7 +1,10 @@
 -- The value of a number at a scale: so many units of the scale's last decimal.
-use Rattle.std.specs.Prelude.{◌≡◌, ℕ, ◌-◌, ◌*◌, ◌^◌, ◌<◌, ◌≤◌, Bool, true, false, ◌&&◌, List, [], ◌++◌, length, take, drop, nat_lt, if◌then◌else◌, ◌==◌, Option, Some, None, Result, Ok, Err, ℤ, pos, neg_ℤ}
+use Rattle.std.specs.Prelude.{◌≡◌, ℕ, ◌-◌, ◌*◌, ◌^◌, ◌<◌, ◌≤◌, Bool, true, false, ◌&&◌, List, []}
+use Rattle.std.specs.Prelude.{◌++◌, length, take, drop, nat_lt, if◌then◌else◌, ◌==◌, Option, Some}
+use Rattle.std.specs.Prelude.{None, Result, Ok, Err, ℤ, pos, neg_ℤ}
 use Rattle.std.specs.List.{list_all}
-use Rattle.decimals.specs.Numerals.{Sign, unsigned, plus, minus, Numeral, Spells, is_digits, has_decimals, number, sign_of, after_sign, whole_of, point_of}
+use Rattle.decimals.specs.Numerals.{Sign, unsigned, plus, minus, Numeral, Spells, is_digits}
+use Rattle.decimals.specs.Numerals.{has_decimals, number, sign_of, after_sign, whole_of, point_of}
 use Rattle.decimals.specs.declared.DecimalFault.{DecimalFault}
 use Rattle.decimals.specs.declared.DecimalFault.TheVariants.{NotNumber, TooLong, MoreDecimals}
 
@@ -10,9 +13,11 @@ abbrev pub decimals_in : Option (List ℕ) → List ℕ
 decimals_in None = []
 decimals_in (Some decimals) = decimals
 
--- the number without its sign and without its decimals past the scale; a decimal that is not written counts as 0
+-- the number without its sign and without its decimals past the scale; a decimal that is not
+-- written counts as 0
 abbrev pub magnitude : ℕ → List ℕ → List ℕ → ℕ
-magnitude scale whole decimals = number (whole ++ take scale decimals) * 10 ^ (scale - length decimals)
+magnitude scale whole decimals =
+    number (whole ++ take scale decimals) * 10 ^ (scale - length decimals)
 
 -- each decimal past the scale is 0
 abbrev pub is_exact : ℕ → List ℕ → Bool
@@ -63,7 +68,7 @@ measured scale whole decimals =
     then (if is_exact scale decimals then Ok (magnitude scale whole decimals) else Err MoreDecimals)
     else Err TooLong
 
--- the magnitude of what stands behind a sign, or the first fault
+-- the magnitude of what stands after a sign, or the first fault
 abbrev pub unsigned_of : ℕ → List ℕ → Result ℕ DecimalFault
 unsigned_of scale bytes =
     if is_digits (whole_of bytes) && has_decimals (point_of bytes)

@@ -15,5 +15,7 @@ abbrev pub whole_number_of : List ℕ → Result ℤ DecimalFault
 whole_number_of bytes =
     signed (sign_of bytes)
     (if is_digits (after_sign bytes)
-    then (if nat_lt (number (after_sign bytes)) (10 ^ 18) then Ok (number (after_sign bytes)) else Err TooLong)
+    then (if nat_lt (number (after_sign bytes)) (10 ^ 18)
+    then Ok (number (after_sign bytes))
+    else Err TooLong)
     else Err NotNumber)

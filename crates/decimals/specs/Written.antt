@@ -1,5 +1,7 @@
 -- How a value is written: with exactly so many decimals as the scale has.
-use Rattle.std.specs.Prelude.{◌≡◌, ℕ, ◌-◌, ◌/◌, ◌%◌, ◌^◌, ◌<◌, List, ◌++◌, length, replicate, decimal, ◌==◌, if◌then◌else◌, Option, Some, None, ℤ, pos, negsuc, unsigned_abs, slice_get}
+use Rattle.std.specs.Prelude.{◌≡◌, ℕ, ◌-◌, ◌/◌, ◌%◌, ◌^◌, ◌<◌, List, ◌++◌, length, replicate}
+use Rattle.std.specs.Prelude.{decimal, ◌==◌, if◌then◌else◌, Option, Some, None, ℤ, pos, negsuc}
+use Rattle.std.specs.Prelude.{unsigned_abs, slice_get}
 use Rattle.decimals.specs.Numerals.{Sign, unsigned, plus, minus, Numeral, spelling}
 use Rattle.decimals.specs.Scaled.{decimals_in, magnitude_of}
 
@@ -12,7 +14,7 @@ written_sign (negsuc n) = minus
 abbrev pub padded : ℕ → ℕ → List ℕ
 padded digits n = replicate (digits - length (decimal n)) 48 ++ decimal n
 
--- the decimals behind the point; at scale 0 there is no point
+-- the decimals after the point; at scale 0 there is no point
 abbrev pub written_point : ℕ → ℕ → Option (List ℕ)
 written_point scale decimals = if scale == 0 then None else Some (padded scale decimals)
 
@@ -28,7 +30,8 @@ numeral_of value scale = record {
 abbrev pub spelling_of : ℤ → ℕ → List ℕ
 spelling_of value scale = spelling (numeral_of value scale)
 
--- the form of what is written: no plus, a minus only before another number than 0, no zero before another whole digit, and exactly so many decimals
+-- the form of what is written: no plus, a minus only before another number than 0, no zero before
+-- another whole digit, and exactly so many decimals
 pub record IsInForm (scale : ℕ) (n : Numeral) : Type 0 where
   pub no_plus : n.sign ≡ plus → ⊥
   pub negative : n.sign ≡ minus → 0 < magnitude_of scale n

@@ -5,12 +5,12 @@
 //! at it, and then compare as whole numbers.
 //!
 //! - **What is a number**: an optional `+` or `-`, one or more digits, and optionally a point with
-//!   one or more digits behind it. No blanks, no exponent, no separators of thousands.
+//!   one or more digits after it. No blanks, no exponent, no separators of thousands.
 //! - **What has a value**: a number of at most 18 digits at the scale, where zeros in front do not
 //!   count, and whose decimals past the scale are all 0. Its value is between -(10^18 - 1) and
 //!   10^18 - 1.
-//! - **Which fault is told**: the first of `NotNumber`, `TooLong` and `MoreDecimals` that is true.
-//!   `TooLong` is told of the digits at the scale, with the decimals past it dropped: at scale 1
+//! - **Which fault**: the first of `NotNumber`, `TooLong` and `MoreDecimals` that is true.
+//!   `TooLong` speaks of the digits at the scale, with the decimals past it dropped: at scale 1
 //!   `12345678901234567.89` is `MoreDecimals` and not `TooLong`.
 //! - **Degenerate cases**: `-0` is 0, `007` is 7, `5` at scale 2 is 500; a text without bytes, a
 //!   sign alone, `.5` and `5.` are no numbers. A text may have any length.
@@ -40,7 +40,7 @@ mod writing;
 use thiserror::Error;
 pub use writing::{one_spelling, write_scaled, written_is_short, written_reads_back};
 
-/// Why a text has no value at a scale. Where several are true the first is told.
+/// Why a text has no value at a scale. Where several are true the first is answered.
 #[derive(Debug, Clone, Copy, PartialEq, Eq, Error)]
 pub enum DecimalFault {
     /// The text is not an optional sign, one or more digits, and optionally a point with one or
@@ -85,7 +85,7 @@ fn with_sign(negative: bool, magnitude: u64) -> i64
     if negative { -value } else { value }
 }
 
-/// Whether a minus stands first, and what stands behind the sign.
+/// Whether a minus stands first, and what stands after the sign.
 fn split_sign(bytes: &[u8]) -> (bool, &[u8])
     ensures negative { IsTrue result.0 ↔ (sign_of bytes.now ≡ minus) }
     ensures rest { result.1.now ≡ after_sign bytes.now }
@@ -97,7 +97,7 @@ fn split_sign(bytes: &[u8]) -> (bool, &[u8])
     }
 }
 
-/// The magnitude of what stands behind the sign.
+/// The magnitude of what stands after the sign.
 fn read_unsigned(unsigned: &[u8], scale: u8) -> Result<u64, DecimalFault>
     requires { scale ≤ 9 }
     ensures reading { result ≡ unsigned_of scale unsigned.now }
@@ -117,7 +117,7 @@ fn find_point(unsigned: &[u8]) -> Option<usize>
     unsigned.iter().position(|byte| *byte == b'.')
 }
 
-/// The magnitude of the digits before the point and the decimals behind it.
+/// The magnitude of the digits before the point and the decimals after it.
 fn read_parts(whole: &[u8], decimals: &[u8], scale: u8) -> Result<u64, DecimalFault>
     requires { scale ≤ 9 }
     ensures { result ≡ parts_of scale whole.now decimals.now }

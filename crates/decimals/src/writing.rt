@@ -1,5 +1,6 @@
 // Numbers with a point, written from whole numbers at a scale.
-ghost use Rattle.std.specs.Prelude.{◌≡◌, ◌+◌, ◌≤◌, ◌<◌, ◌^◌, ◌++◌, ℕ, ℤ, List, Ok, length, take, drop};
+ghost use Rattle.std.specs.Prelude.{◌≡◌, ◌+◌, ◌≤◌, ◌<◌, ◌^◌, ◌++◌, ℕ, ℤ, List, Ok, length, take};
+ghost use Rattle.std.specs.Prelude.{drop};
 ghost use Rattle.std.specs.Prelude.{decimal, unsigned_abs};
 ghost use Rattle.decimals.specs.Numerals.{Numeral, Spells, sign_bytes};
 ghost use Rattle.decimals.specs.Scaled.{magnitude_of, scaled_of, with_sign};
@@ -10,7 +11,7 @@ use itoa::Buffer;
 const ZEROS: [u8; 9] = [b'0'; 9];
 
 /// Writes a value in units of the last of `scale` decimals to the front of `into`, with exactly
-/// these decimals, and answers how many bytes it has. What stands behind them stays.
+/// these decimals, and answers how many bytes it has. What stands after them stays.
 pub fn write_scaled(value: i64, scale: u8, into: &mut [u8; 24]) -> usize
     requires digits { unsigned_abs value < 10 ^ 18 }
     requires scale { scale ≤ 9 }
@@ -37,7 +38,7 @@ fn sign_text(value: i64) -> &'static [u8]
     if value < 0 { b"-" } else { b"" }
 }
 
-// Writes bytes from a place on, and answers the place behind them.
+// Writes bytes from a place on, and answers the place after them.
 fn put(into: &mut [u8], at: usize, bytes: &[u8]) -> usize
     requires { at + length bytes.now ≤ length into.old }
     ensures end { result ≡ at + length bytes.now }
@@ -50,7 +51,7 @@ fn put(into: &mut [u8], at: usize, bytes: &[u8]) -> usize
     end
 }
 
-// Writes a number in so many digits from a place on, and answers the place behind them.
+// Writes a number in so many digits from a place on, and answers the place after them.
 fn put_padded(into: &mut [u8], at: usize, digits: usize, number: u64) -> usize
     requires room { at + digits ≤ length into.old }
     requires fits { (length (decimal number) ≤ digits) × (digits ≤ 9) }

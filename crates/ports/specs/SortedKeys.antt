@@ -1,5 +1,6 @@
 -- Keys of a column in order.
-use Rattle.std.specs.Prelude.{◌≡◌, ℕ, Bool, false, nat_eq, List, [], ◌∷◌, length, drop, get_or, min, Option, Some, None}
+use Rattle.std.specs.Prelude.{◌≡◌, ℕ, Bool, false, nat_eq, List, [], ◌∷◌, length, drop, get_or, min}
+use Rattle.std.specs.Prelude.{Option, Some, None}
 use Rattle.std.specs.List.{All, Contains}
 use Rattle.std.specs.List.Sorted.{IsSortedBy}
 use Rattle.std.specs.Cmp.Lexicographic.{pointwise, slice_cmp}
@@ -9,10 +10,11 @@ use Rattle.std.specs.declared.cmp.Ordering.{Ordering}
 use Rattle.ports.specs.declared.sorted_keys.Ranked.{Ranked}
 use Rattle.ports.specs.declared.sorted_keys.SortedKeys.{SortedKeys}
 
--- the number of a length and of the first seven bytes of a rest, those behind its end being 0
+-- the number of a length and of the first seven bytes of a rest, those after its end being 0
 abbrev pub rank_of : ℕ → List ℕ → ℕ
 rank_of len rest =
-    from_be_bytes w64 (min len 255 ∷ get_or rest 0 0 ∷ get_or rest 1 0 ∷ get_or rest 2 0 ∷ get_or rest 3 0 ∷ get_or rest 4 0 ∷ get_or rest 5 0 ∷ get_or rest 6 0 ∷ [])
+    from_be_bytes w64 (min len 255 ∷ get_or rest 0 0 ∷ get_or rest 1 0 ∷ get_or rest 2 0
+    ∷ get_or rest 3 0 ∷ get_or rest 4 0 ∷ get_or rest 5 0 ∷ get_or rest 6 0 ∷ [])
 
 -- the rank of a key, where so many bytes are passed over
 abbrev pub rank : ℕ → List ℕ → ℕ
@@ -53,8 +55,12 @@ is_below keys r key ranked = is_lt (key_cmp (key_of keys ranked) (r, key))
 -- ---- the column
 -- the places of all keys with their ranks, in any order
 pub record IsListed (keys : List (Option (List ℕ))) (skip : ℕ) (ranked : List Ranked) : Type 0 where
-  pub told : All (λ r. (r.rank ≡ rank skip (key_at keys r.place)) × (get_or keys r.place None ≡ Some (key_at keys r.place))) ranked
-  pub whole : (place : ℕ) (key : List ℕ) → get_or keys place None ≡ Some key → Contains ranked (record { rank = rank skip key; place = place })
+  pub told : All
+      (λ r. (r.rank ≡ rank skip (key_at keys r.place))
+      × (get_or keys r.place None ≡ Some (key_at keys r.place)))
+      ranked
+  pub whole : (place : ℕ) (key : List ℕ) → get_or keys place None ≡ Some key
+      → Contains ranked (record { rank = rank skip key; place = place })
 
 -- and in order
 pub record AreSorted (keys : List (Option (List ℕ))) (sorted : SortedKeys) : Type 0 where

@@ -22,7 +22,7 @@ impl Model for Name {
 }
 
 impl Name {
-    /// Copies the bytes. The only error is want of memory.
+    /// Copies the bytes. The only error is out of memory.
     pub fn new(alloc: Global, bytes: &[u8]) -> Result<Name, Memory>
         ensures { IfOk result (λ name. name ≡ bytes.now) }
     {

@@ -1,4 +1,4 @@
-// Real files and the real output. They tell no bytes.
+// Real files and the real output. Their bytes are not known to a contract.
 ghost use Rattle.std.specs.Prelude.{◌≡◌, None, IfOk, OnErr, OnOk, length, ◌<◌, ◌≤◌};
 ghost use Rattle.ports.specs.Faults.{raised};
 

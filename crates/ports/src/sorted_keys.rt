@@ -1,8 +1,10 @@
 // The keys of a column in order, each found by binary search.
-ghost use Rattle.std.specs.Prelude.{◌≡◌, ◌<◌, ◌≤◌, ℕ, List, Option, None, IfOk, get_or, length, map};
+ghost use Rattle.std.specs.Prelude.{◌≡◌, ◌<◌, ◌≤◌, ℕ, List, Option, None, IfOk, get_or, length};
+ghost use Rattle.std.specs.Prelude.{map};
 ghost use Rattle.std.specs.List.{position_from};
 ghost use Rattle.std.specs.Option.{option_map};
-ghost use Rattle.ports.specs.SortedKeys.{IsSortedKeys, IsListed, is_below, is_key, key_at, rank, ranked_cmp};
+ghost use Rattle.ports.specs.SortedKeys.{IsSortedKeys, IsListed, is_below, is_key, key_at, rank};
+ghost use Rattle.ports.specs.SortedKeys.{ranked_cmp};
 
 use super::{Memory, Name};
 use std::alloc::Global;
@@ -47,7 +49,7 @@ pub struct SortedKeys {
     pub ranked: Vec<Ranked>,
 }
 
-// The byte at a place, 0 behind the end.
+// The byte at a place, 0 after the end.
 fn byte_at(bytes: &[u8], place: usize) -> u8
     ensures { result ≡ get_or bytes.now place 0 }
 {
@@ -146,7 +148,7 @@ fn listed<K: Keyed>(alloc: Global, skip: usize, keys: &[K]) -> Result<Vec<Ranked
 
 impl SortedKeys {
     /// Sorts the keys of a column. It takes n log n comparisons for every input, and one walk where
-    /// they stand in order; 16 bytes for each. The only error is want of memory.
+    /// they stand in order; 16 bytes for each. The only error is out of memory.
     pub fn new<K: Keyed>(alloc: Global, keys: &[K]) -> Result<SortedKeys, Memory>
         ensures { IfOk result (λ sorted. IsSortedKeys (map K.key keys.now) sorted) }
     {
