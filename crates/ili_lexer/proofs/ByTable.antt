@@ -42,6 +42,9 @@ right text LongNumber r p s =
 pub stands_at_front : (text : List ℕ) → IsFront text (front_of text)
 stands_at_front text = right text (front_of text) (λ k n s. stands_reaches text k n s) (front_fits text) (sound text)
 
+pub front_is : (text : List ℕ) (f : Front) → front_of text ≡ f → IsFront text f
+front_is text f e = subst (IsFront text) e (stands_at_front text)
+
 -- ---- and what is right is found
 taken_is : (text : List ℕ) (k : Kind) (n : ℕ) → IsTaken text k n → (g : Front) → IsFront text g → Reaches k n text g → g ≡ Token k n
 taken_is text k n t End s r = absurd r

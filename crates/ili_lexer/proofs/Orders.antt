@@ -5,6 +5,7 @@ use Rattle.ili_lexer.specs.declared.fronts.Front.TheVariants as front
 use Rattle.ili_lexer.specs.declared.tokens.Token.{Token}
 use Rattle.ili_lexer.specs.Fronts.{front_of, LiesIn}
 use Rattle.ili_lexer.specs.Tokens.{Answer, tokens, fault, and_before, token_at, Gives, at_end, passing, taking, at_bad_byte, at_open_explanation, at_long_number, AreInOrder}
+use Rattle.ili_lexer.proofs.ByTable.{is_found}
 use Rattle.ili_lexer.proofs.FrontLengths.{IsPartOf, front_fits}
 
 -- what stands behind i bytes is not empty and ends by the end of the text
@@ -35,18 +36,18 @@ one_before end i t (fault f) h g p = tt
 in_order_answer : (text : List ℕ) (i : ℕ) (a : Answer) → i ≤ length text → Gives text i a → InOrder (length text) i a
 in_order_answer text _ _ h (at_end i e) = h
 in_order_answer text _ _ h (passing i n a e g) =
-    let p = lies_at text i (front.Passed n) (sym e) in
+    let p = lies_at text i (front.Passed n) (sym (is_found (drop i text) (front.Passed n) e)) in
     sooner (length text) i (i + n) a (omega arith) (in_order_answer text (i + n) a p.1 g)
   where
     sooner : (end i j : ℕ) (a : Answer) → i ≤ j → InOrder end j a → InOrder end i a
     sooner end i j (tokens ts) h p = earlier end i j ts h p
     sooner end i j (fault f) h p = tt
 in_order_answer text _ _ h (taking i n k a b e g q) =
-    let p = lies_at text i (front.Token k n) (sym e) in
+    let p = lies_at text i (front.Token k n) (sym (is_found (drop i text) (front.Token k n) e)) in
     subst (InOrder (length text) i) (sym q) (one_before (length text) i (token_at text i k n) a (omega arith) (omega (arith, p.0)) (in_order_answer text (i + n) a p.1 g))
 in_order_answer text _ _ h (at_bad_byte i e) = tt
 in_order_answer text _ _ h (at_open_explanation i e) = tt
-in_order_answer text _ _ h (at_long_number i e) = tt
+in_order_answer text _ _ h (at_long_number i n e) = tt
 
 pub in_order : (text : List ℕ) (ts : List Token) → Gives text 0 (tokens ts) → AreInOrder (length text) 0 ts
 in_order text ts g = in_order_answer text 0 (tokens ts) (omega arith) g

@@ -4,20 +4,15 @@ use Rattle.std.proofs.lemmas.List.Elements.{All-nil, All-cons}
 use Rattle.ili_lexer.specs.declared.fronts.Front.TheVariants as front
 use Rattle.ili_lexer.specs.declared.tokens.Token.{Token}
 use Rattle.ili_lexer.specs.declared.tokens.LexFault.{LexFault}
-use Rattle.ili_lexer.specs.declared.fronts.Front.{Front}
-use Rattle.ili_lexer.specs.Fronts.{front_of}
 use Rattle.ili_lexer.specs.Places.{line_after, column_after}
-use Rattle.ili_lexer.specs.Longest.{IsTaken, IsBad, IsOpen, IsTooLong, IsFront}
+use Rattle.ili_lexer.specs.Longest.{IsTaken, IsBad, IsOpen, IsTooLong}
 use Rattle.ili_lexer.specs.Tokens.{Answer, tokens, fault, and_before, token_at, Gives, at_end, passing, taking, at_bad_byte, at_open_explanation, at_long_number, AreLongest, IsAt, IsFaultByTable}
 use Rattle.ili_lexer.proofs.Orders.{lies_at}
-use Rattle.ili_lexer.proofs.ByTable.{stands_at_front}
+use Rattle.ili_lexer.proofs.ByTable.{is_found}
 
 abbrev IsRight : List ℕ → Answer → Type 0
 IsRight text (tokens ts) = AreLongest text ts
 IsRight text (fault f) = IsFaultByTable text f
-
-front_is : (text : List ℕ) (i : ℕ) (f : Front) → front_of (drop i text) ≡ f → IsFront (drop i text) f
-front_is text i f e = subst (IsFront (drop i text)) e (stands_at_front (drop i text))
 
 right_before : (text : List ℕ) (t : Token) (a : Answer) → IsTaken (drop t.from text) t.kind (t.upto - t.from) → IsRight text a → IsRight text (and_before t a)
 right_before text t (tokens ts) h p = All-cons (λ (t : Token). IsTaken (drop t.from text) t.kind (t.upto - t.from)) t ts h p
@@ -28,14 +23,14 @@ is_at text i IsSo h s = record { offset = i; place = record { within = h; on_lin
 
 is_right : (text : List ℕ) (i : ℕ) (a : Answer) → i ≤ length text → Gives text i a → IsRight text a
 is_right text _ _ h (at_end i e) = All-nil (λ (t : Token). IsTaken (drop t.from text) t.kind (t.upto - t.from))
-is_right text _ _ h (passing i n a e g) = is_right text (i + n) a (lies_at text i (front.Passed n) (sym e)).1 g
+is_right text _ _ h (passing i n a e g) = is_right text (i + n) a (lies_at text i (front.Passed n) (sym (is_found (drop i text) (front.Passed n) e))).1 g
 is_right text _ _ h (taking i n k a b e g q) =
     let length-n : n ≡ (i + n) - i = omega arith in
     subst (IsRight text) (sym q)
-    (right_before text (token_at text i k n) a (subst (IsTaken (drop i text) k) length-n (front_is text i (front.Token k n) e)) (is_right text (i + n) a (lies_at text i (front.Token k n) (sym e)).1 g))
-is_right text _ _ h (at_bad_byte i e) = is_at text i IsBad h (front_is text i front.BadByte e)
-is_right text _ _ h (at_open_explanation i e) = is_at text i IsOpen h (front_is text i front.OpenExplanation e)
-is_right text _ _ h (at_long_number i e) = is_at text i (λ rest. (n : ℕ) × IsTooLong rest n) h (front_is text i front.LongNumber e)
+    (right_before text (token_at text i k n) a (subst (IsTaken (drop i text) k) length-n e) (is_right text (i + n) a (lies_at text i (front.Token k n) (sym (is_found (drop i text) (front.Token k n) e))).1 g))
+is_right text _ _ h (at_bad_byte i e) = is_at text i IsBad h e
+is_right text _ _ h (at_open_explanation i e) = is_at text i IsOpen h e
+is_right text _ _ h (at_long_number i n e) = is_at text i (λ rest. (n : ℕ) × IsTooLong rest n) h (n, e)
 
 pub tokens_right : (text : List ℕ) (ts : List Token) → Gives text 0 (tokens ts) → AreLongest text ts
 tokens_right text ts g = is_right text 0 (tokens ts) (omega arith) g

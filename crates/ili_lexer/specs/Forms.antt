@@ -1,11 +1,15 @@
 -- The table of tokens: the form of each kind.
-use Rattle.std.specs.Prelude.{◌≡◌, ℕ, ◌+◌, ◌<◌, ◌≤◌, List, [], ◌∷◌, ◌++◌, length, drop, true, false, codes}
+use Rattle.std.specs.Prelude.{◌≡◌, ℕ, ◌+◌, ◌<◌, ◌≤◌, List, [], ◌∷◌, ◌++◌, length, drop, true, false}
+use Rattle.std.specs.Prelude.{codes}
 use Rattle.std.specs.List.{AllPass}
 use Rattle.std.specs.Char.{is_ascii_alphabetic, is_ascii_digit, is_ascii_hexdigit}
 use Rattle.ili_lexer.specs.declared.tokens.Kind.{Kind}
 use Rattle.ili_lexer.specs.declared.tokens.Kind.TheVariants as kind
 use Rattle.ili_lexer.specs.declared.tokens.Mark.{Mark}
-use Rattle.ili_lexer.specs.declared.tokens.Mark.TheVariants.{Semicolon, Colon, Comma, Equals, LeftParen, RightParen, LeftBracket, RightBracket, Star, Greater, Period, TwoPeriods, Arrow}
+use Rattle.ili_lexer.specs.declared.tokens.Mark.TheVariants.{Semicolon, Colon, Comma, Equals}
+use Rattle.ili_lexer.specs.declared.tokens.Mark.TheVariants.{LeftParen, RightParen, LeftBracket}
+use Rattle.ili_lexer.specs.declared.tokens.Mark.TheVariants.{RightBracket, Star, Greater, Period}
+use Rattle.ili_lexer.specs.declared.tokens.Mark.TheVariants.{TwoPeriods, Arrow}
 use Rattle.ili_lexer.specs.declared.keywords.Keyword.{Keyword}
 use Rattle.ili_lexer.specs.Bytes.{is_name_byte}
 use Rattle.ili_lexer.specs.Keywords.{word_of}
@@ -26,7 +30,7 @@ pub data IsSign : List ℕ → Type 0 where
   plus : IsSign (43 ∷ [])
   minus : IsSign (45 ∷ [])
 
--- a full stop and the digits behind it, or nothing where there are none
+-- a full stop and the digits after it, or nothing where there are none
 abbrev pub fraction : List ℕ → List ℕ
 fraction [] = []
 fraction (d ∷ ds) = 46 ∷ d ∷ ds
@@ -43,7 +47,7 @@ pub record IsNumber (bytes : List ℕ) : Type 0 where
   pub digits : AllPass is_ascii_digit whole
   pub behind : AllPass is_ascii_digit decimals
 
--- at most 18 digits, of which at most 9 stand behind the full stop
+-- at most 18 digits, of which at most 9 stand after the full stop
 pub record IsShort {bytes : List ℕ} (n : IsNumber bytes) : Type 0 where
   pub all : length n.whole + length n.decimals ≤ 18
   pub behind : length n.decimals ≤ 9
@@ -60,7 +64,8 @@ pub record IsHex (bytes : List ℕ) : Type 0 where
 pub record IsExplanation (bytes : List ℕ) : Type 0 where
   pub inside : List ℕ
   pub made : bytes ≡ codes "//" ++ (inside ++ codes "//")
-  pub next : (i : ℕ) → i < length inside → begins (drop i (inside ++ codes "//")) (codes "//") ≡ false
+  pub next : (i : ℕ) → i < length inside
+      → begins (drop i (inside ++ codes "//")) (codes "//") ≡ false
 
 -- the bytes of each mark
 abbrev pub bytes_of_mark : Mark → List ℕ

@@ -1,14 +1,19 @@
 -- What stands at the front of a text: the longest token there is, bytes between tokens, or a fault.
-use Rattle.std.specs.Prelude.{ℕ, ◌+◌, ◌<◌, ◌≤◌, ⊤, List, [], ◌∷◌, take, drop, Bool, ◌||◌, ◌==◌, nat_eq, nat_lt, if◌then◌else◌, Option, Some, None, codes}
+use Rattle.std.specs.Prelude.{ℕ, ◌+◌, ◌<◌, ◌≤◌, ⊤, List, [], ◌∷◌, take, drop, Bool, ◌||◌, ◌==◌}
+use Rattle.std.specs.Prelude.{nat_eq, nat_lt, if◌then◌else◌, Option, Some, None, codes}
 use Rattle.std.specs.List.{prefix_len, starts_with}
 use Rattle.std.specs.Option.{option_map, option_map_or}
 use Rattle.std.specs.Char.{is_ascii_alphabetic, is_ascii_digit, is_ascii_hexdigit}
 use Rattle.ili_lexer.specs.declared.fronts.Front.{Front}
-use Rattle.ili_lexer.specs.declared.fronts.Front.TheVariants.{End, Passed, Token, BadByte, OpenExplanation, LongNumber}
+use Rattle.ili_lexer.specs.declared.fronts.Front.TheVariants.{End, Passed, Token, BadByte}
+use Rattle.ili_lexer.specs.declared.fronts.Front.TheVariants.{OpenExplanation, LongNumber}
 use Rattle.ili_lexer.specs.declared.tokens.Kind.{Kind}
 use Rattle.ili_lexer.specs.declared.tokens.Kind.TheVariants as kind
 use Rattle.ili_lexer.specs.declared.tokens.Mark.{Mark}
-use Rattle.ili_lexer.specs.declared.tokens.Mark.TheVariants.{Semicolon, Colon, Comma, Equals, LeftParen, RightParen, LeftBracket, RightBracket, Star, Greater, Period, TwoPeriods, Arrow}
+use Rattle.ili_lexer.specs.declared.tokens.Mark.TheVariants.{Semicolon, Colon, Comma, Equals}
+use Rattle.ili_lexer.specs.declared.tokens.Mark.TheVariants.{LeftParen, RightParen, LeftBracket}
+use Rattle.ili_lexer.specs.declared.tokens.Mark.TheVariants.{RightBracket, Star, Greater, Period}
+use Rattle.ili_lexer.specs.declared.tokens.Mark.TheVariants.{TwoPeriods, Arrow}
 use Rattle.ili_lexer.specs.Bytes.{is_blank, is_name_byte, is_inside_line}
 use Rattle.ili_lexer.specs.Keywords.{keyword_of}
 
@@ -18,11 +23,13 @@ begins text word = starts_with nat_eq text word
 -- an explanation: the number of bytes up to the first `//` and with it
 abbrev pub closing : List ℕ → Option ℕ
 closing [] = None
-closing (b ∷ bs) = if begins (b ∷ bs) (codes "//") then Some 2 else option_map (λ n. 1 + n) (closing bs)
+closing (b ∷ bs) =
+    if begins (b ∷ bs) (codes "//") then Some 2 else option_map (λ n. 1 + n) (closing bs)
 
 -- `//`, any bytes, and the next `//`
 abbrev pub explanation_front : List ℕ → Front
-explanation_front text = option_map_or (λ n. Token kind.Explanation (2 + n)) (closing (drop 2 text)) OpenExplanation
+explanation_front text =
+    option_map_or (λ n. Token kind.Explanation (2 + n)) (closing (drop 2 text)) OpenExplanation
 
 -- `0x`, one or two hexadecimal digits
 abbrev pub hex_front : List ℕ → Front
@@ -67,12 +74,12 @@ mark_front (b ∷ bs) =
 abbrev pub sign_length : List ℕ → ℕ
 sign_length text = if begins text (codes "+") || begins text (codes "-") then 1 else 0
 
--- how many digits stand behind a full stop at the front
+-- how many digits stand after a full stop at the front
 abbrev pub decimals_of : List ℕ → ℕ
 decimals_of text = if begins text (codes ".") then prefix_len is_ascii_digit (drop 1 text) else 0
 
--- a number, where digits stand at the front behind an optional sign, and else a mark; a full stop belongs to the
--- number where a digit follows it
+-- a number, where digits stand at the front after an optional sign, and else a mark; a full stop
+-- belongs to the number where a digit follows it
 abbrev pub number_front : List ℕ → Front
 number_front text =
     let sign = sign_length text in
@@ -93,7 +100,8 @@ front_of (b ∷ bs) =
     else if is_ascii_alphabetic b then word_front text
     else number_front text
 
--- what stands behind so many bytes of a text of this length is not empty, and ends by the end of the text
+-- what stands after so many bytes of a text of this length is not empty, and ends by the end of
+-- the text
 abbrev pub LiesIn : ℕ → ℕ → Front → Type 0
 LiesIn end offset (Passed n) = (0 < n) × (offset + n ≤ end)
 LiesIn end offset (Token k n) = (0 < n) × (offset + n ≤ end)

@@ -2,7 +2,18 @@
 use Rattle.std.specs.Prelude.{ℕ, List, [], ◌∷◌, cond, Option, Some, None, codes}
 use Rattle.std.specs.Str.{bytes_eq}
 use Rattle.ili_lexer.specs.declared.keywords.Keyword.{Keyword}
-use Rattle.ili_lexer.specs.declared.keywords.Keyword.TheVariants.{Transfer, Domain, Model, Topic, Table, Optional, End, No, Ident, Coord2, Coord3, Dim1, Dim2, Radians, Grads, Degrees, Text, Date, Halignment, Valignment, Polyline, Surface, Area, With, Straights, Arcs, Vertex, Base, Without, Overlaps, Lineattr, Format, Free, Fix, Code, Font, Blank, Undefined, Continue, Default, Tid, I16, I32, Any, View, Derivatives}
+use Rattle.ili_lexer.specs.declared.keywords.Keyword.TheVariants.{Transfer, Domain, Model, Topic}
+use Rattle.ili_lexer.specs.declared.keywords.Keyword.TheVariants.{Table, Optional, End, No, Ident}
+use Rattle.ili_lexer.specs.declared.keywords.Keyword.TheVariants.{Coord2, Coord3, Dim1, Dim2}
+use Rattle.ili_lexer.specs.declared.keywords.Keyword.TheVariants.{Radians, Grads, Degrees, Text}
+use Rattle.ili_lexer.specs.declared.keywords.Keyword.TheVariants.{Date, Halignment, Valignment}
+use Rattle.ili_lexer.specs.declared.keywords.Keyword.TheVariants.{Polyline, Surface, Area, With}
+use Rattle.ili_lexer.specs.declared.keywords.Keyword.TheVariants.{Straights, Arcs, Vertex, Base}
+use Rattle.ili_lexer.specs.declared.keywords.Keyword.TheVariants.{Without, Overlaps, Lineattr}
+use Rattle.ili_lexer.specs.declared.keywords.Keyword.TheVariants.{Format, Free, Fix, Code, Font}
+use Rattle.ili_lexer.specs.declared.keywords.Keyword.TheVariants.{Blank, Undefined, Continue}
+use Rattle.ili_lexer.specs.declared.keywords.Keyword.TheVariants.{Default, Tid, I16, I32, Any, View}
+use Rattle.ili_lexer.specs.declared.keywords.Keyword.TheVariants.{Derivatives}
 
 -- the bytes of each keyword's word
 abbrev pub word_of : Keyword → List ℕ
@@ -55,7 +66,12 @@ word_of Derivatives = codes "DERIVATIVES"
 
 -- every keyword
 abbrev pub keywords : List Keyword
-keywords = Transfer ∷ Domain ∷ Model ∷ Topic ∷ Table ∷ Optional ∷ End ∷ No ∷ Ident ∷ Coord2 ∷ Coord3 ∷ Dim1 ∷ Dim2 ∷ Radians ∷ Grads ∷ Degrees ∷ Text ∷ Date ∷ Halignment ∷ Valignment ∷ Polyline ∷ Surface ∷ Area ∷ With ∷ Straights ∷ Arcs ∷ Vertex ∷ Base ∷ Without ∷ Overlaps ∷ Lineattr ∷ Format ∷ Free ∷ Fix ∷ Code ∷ Font ∷ Blank ∷ Undefined ∷ Continue ∷ Default ∷ Tid ∷ I16 ∷ I32 ∷ Any ∷ View ∷ Derivatives ∷ []
+keywords =
+    Transfer ∷ Domain ∷ Model ∷ Topic ∷ Table ∷ Optional ∷ End ∷ No ∷ Ident ∷ Coord2 ∷ Coord3 ∷ Dim1
+    ∷ Dim2 ∷ Radians ∷ Grads ∷ Degrees ∷ Text ∷ Date ∷ Halignment ∷ Valignment ∷ Polyline ∷ Surface
+    ∷ Area ∷ With ∷ Straights ∷ Arcs ∷ Vertex ∷ Base ∷ Without ∷ Overlaps ∷ Lineattr ∷ Format ∷ Free
+    ∷ Fix ∷ Code ∷ Font ∷ Blank ∷ Undefined ∷ Continue ∷ Default ∷ Tid ∷ I16 ∷ I32 ∷ Any ∷ View
+    ∷ Derivatives ∷ []
 
 abbrev pub keyword_among : List Keyword → List ℕ → Option Keyword
 keyword_among [] word = None

@@ -1,9 +1,11 @@
 -- What stands at the front of a text, by the table of tokens: the longest token.
-use Rattle.std.specs.Prelude.{◌≡◌, ℕ, ◌≤◌, List, [], ◌∷◌, length, take, drop, Bool, true, false, codes}
+use Rattle.std.specs.Prelude.{◌≡◌, ℕ, ◌≤◌, List, [], ◌∷◌, length, take, drop, Bool, true, false}
+use Rattle.std.specs.Prelude.{codes}
 use Rattle.std.specs.List.{prefix_len}
 use Rattle.std.specs.Char.{is_ascii_hexdigit}
 use Rattle.ili_lexer.specs.declared.fronts.Front.{Front}
-use Rattle.ili_lexer.specs.declared.fronts.Front.TheVariants.{End, Passed, Token, BadByte, OpenExplanation, LongNumber}
+use Rattle.ili_lexer.specs.declared.fronts.Front.TheVariants.{End, Passed, Token, BadByte}
+use Rattle.ili_lexer.specs.declared.fronts.Front.TheVariants.{OpenExplanation, LongNumber}
 use Rattle.ili_lexer.specs.declared.tokens.Kind.{Kind}
 use Rattle.ili_lexer.specs.declared.tokens.Kind.TheVariants as kind
 use Rattle.ili_lexer.specs.Bytes.{is_blank, is_inside_line}
@@ -28,7 +30,7 @@ abbrev pub begins_blank : List ℕ → Bool
 begins_blank [] = false
 begins_blank (b ∷ bs) = is_blank b
 
--- `0x` with no hexadecimal digit behind it, which is a fault though the `0` alone is a number
+-- `0x` with no hexadecimal digit after it, which is a fault though the `0` alone is a number
 pub record IsOpenHex (text : List ℕ) : Type 0 where
   pub opened : begins text (codes "0x") ≡ true
   pub none : prefix_len is_ascii_hexdigit (drop 2 text) ≡ 0
@@ -57,7 +59,8 @@ pub record IsTooLong (text : List ℕ) (n : ℕ) : Type 0 where
 
 -- a byte with which nothing begins, or a `0x` without a digit
 pub data IsBad (text : List ℕ) : Type 0 where
-  nothing : (text ≡ [] → ⊥) → begins_blank text ≡ false → begins text (codes "!!") ≡ false → begins text (codes "//") ≡ false → HasNone text → IsBad text
+  nothing : (text ≡ [] → ⊥) → begins_blank text ≡ false → begins text (codes "!!") ≡ false
+      → begins text (codes "//") ≡ false → HasNone text → IsBad text
   open_hex : IsOpenHex text → IsBad text
 
 -- `//`, and no token stands there: the explanation has no end

@@ -3,11 +3,11 @@ use Rattle.std.specs.Prelude.{◌≡◌, ℕ, ◌+◌, ◌≤◌, List, length, 
 use Rattle.std.specs.List.{suffix_len}
 use Rattle.ili_lexer.specs.Bytes.{is_inside_line}
 
--- the line of the byte behind these: one for each LF, and one
+-- the line of the byte after these: one for each LF, and one
 abbrev pub line_after : List ℕ → ℕ
 line_after before = 1 + count_by (λ b. b == 10) before
 
--- the column of the byte behind these: one for each byte behind the last LF, and one
+-- the column of the byte after these: one for each byte after the last LF, and one
 abbrev pub column_after : List ℕ → ℕ
 column_after before = 1 + suffix_len is_inside_line before
 

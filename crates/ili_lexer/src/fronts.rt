@@ -3,7 +3,9 @@ ghost use Rattle.std.specs.Prelude.{◌≡◌, ◌<◌, ◌≤◌, length, drop,
 ghost use Rattle.std.specs.List.{prefix_len};
 ghost use Rattle.std.specs.Char.{is_ascii_digit, is_ascii_hexdigit};
 ghost use Rattle.ili_lexer.specs.Bytes.{is_blank, is_name_byte, is_inside_line};
-ghost use Rattle.ili_lexer.specs.Fronts.{front_of, LiesIn, explanation_front, hex_front, word_front, number_front, mark_front, byte_mark, closing, sign_length, decimals_of};
+ghost use Rattle.ili_lexer.specs.Fronts.{front_of, LiesIn, explanation_front, hex_front};
+ghost use Rattle.ili_lexer.specs.Fronts.{word_front, number_front, mark_front, byte_mark, closing};
+ghost use Rattle.ili_lexer.specs.Fronts.{sign_length, decimals_of};
 
 use super::keywords::find_keyword;
 use super::tokens::{Kind, Mark};
@@ -19,7 +21,7 @@ pub enum Front {
     LongNumber,
 }
 
-/// What stands in the text behind so many bytes.
+/// What stands in the text after so many bytes.
 pub fn front_at(text: &[u8], offset: usize) -> Front
     requires short { length text.now ≤ 4194304 }
     requires offset { offset ≤ length text.now }
@@ -167,7 +169,7 @@ fn digits_of(text: &[u8]) -> usize
     text.iter().take_while(|byte| byte.is_ascii_digit()).count()
 }
 
-// The number of digits behind a full stop at the front.
+// The number of digits after a full stop at the front.
 fn decimals_behind(text: &[u8]) -> usize
     ensures within { result ≤ length text.now }
     ensures length { result ≡ decimals_of text.now }

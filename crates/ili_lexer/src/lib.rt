@@ -8,14 +8,14 @@
 //!
 //! - **What is proved.** `lex` answers exactly the tokens of the text (`AreTokens`), each with
 //!   its kind, line, column and span, or exactly the first fault (`IsFault`), or `Memory`.
-//!   A text has one answer (`one_answer`). Spans are in order, not empty, and end by the end of
-//!   the text (`AreInOrder`). The answer is also said by the table of tokens alone, without an
-//!   order of tests (`text_by_table`): each token has the form of its kind (`IsToken`) and no
-//!   longer front of the rest is a token of any kind (`IsLongest`); a bad byte is where no token,
+//!   Both are defined by the table of tokens, without an order of tests: each token has the form
+//!   of its kind (`IsToken`) and no longer front of the rest is a token of any kind
+//!   (`IsLongest`); between tokens are blanks and comments alone; a bad byte is where no token,
 //!   blank, comment or `//` stands, or an open `0x`; an open explanation is `//` where no token
 //!   stands; a long number is a longest token with too many digits. At any place the table says
-//!   one thing, and it is found (`front_by_table`). The same bytes are tokens of one kind
-//!   (`one_kind`), and keywords are found by their words (`keyword_words`).
+//!   one thing (`front_by_table`), so a text has one answer (`one_answer`). Spans are in order,
+//!   not empty, and end by the end of the text (`AreInOrder`). The same bytes are tokens of one
+//!   kind (`one_kind`), and keywords are found by their words (`keyword_words`).
 //! - **What the next layer may use.** A token's bytes are the slice of the text from `from` up
 //!   to `upto`. Lines and columns count from 1, columns in bytes.
 //! - **Not here:** whether the tokens are a model. The text is lexed whole, so a fault of a

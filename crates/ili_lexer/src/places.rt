@@ -50,7 +50,7 @@ impl Place {
     }
 }
 
-/// The line and the column behind the last byte of a text of at most 4,194,304 bytes: where a
+/// The line and the column after the last byte of a text of at most 4,194,304 bytes: where a
 /// text that ends too soon is at fault.
 pub fn end_place(text: &[u8]) -> (u32, u32)
     requires { length text.now ≤ 4194304 }

@@ -10,8 +10,8 @@ pub enum Kind {
     /// A letter, then letters, digits and `_`, which is no keyword.
     Name,
     Keyword(Keyword),
-    /// An optional sign, digits, and optionally a full stop with digits behind it: at most 18
-    /// digits, of which at most 9 stand behind the full stop.
+    /// An optional sign, digits, and optionally a full stop with digits after it: at most 18
+    /// digits, of which at most 9 stand after the full stop.
     Number,
     /// `0x` and one or two hexadecimal digits.
     Hex,
@@ -20,7 +20,7 @@ pub enum Kind {
     Mark(Mark),
 }
 
-/// A token that is told by its bytes alone.
+/// A token that is known by its bytes alone.
 #[derive(Clone, Copy, Debug, PartialEq, Eq)]
 pub enum Mark {
     Semicolon,
@@ -70,7 +70,7 @@ pub enum LexFault {
     /// An explanation has no end.
     #[error("line {line}, column {column}: the explanation has no end")]
     OpenExplanation { line: u32, column: u32 },
-    /// A number has more than 18 digits, or more than 9 behind its full stop.
+    /// A number has more than 18 digits, or more than 9 after its full stop.
     #[error("line {line}, column {column}: the number has too many digits")]
     LongNumber { line: u32, column: u32 },
     #[error("out of memory")]
