@@ -27,5 +27,6 @@ pub mod Symbols
 pub mod FirstFault
 pub mod Stuck
 pub mod Names
+pub mod NamesSpelled
 pub mod Small
 pub mod NoType

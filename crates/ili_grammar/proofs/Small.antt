@@ -11,6 +11,7 @@ use Rattle.ili_lexer.specs.declared.tokens.Token.{Token}
 use Rattle.ili_lexer.specs.declared.tokens.Kind as kind
 use Rattle.ili_lexer.specs.declared.tokens.Kind.TheVariants as kinds
 use Rattle.ili_lexer.specs.declared.tokens.Mark.TheVariants as marks
+use Rattle.ili_lexer.specs.Tokens.{AreLongest}
 use Rattle.std.specs.Char.{is_ascii_digit}
 use Rattle.ili_grammar.specs.Kinds.{same_kind}
 use Rattle.ili_grammar.specs.Slices.{kind_of, info_of, bytes_of, is_short_token, are_short, toks_behind, toks}
@@ -18,6 +19,8 @@ use Rattle.ili_grammar.proofs.Powers.{small_number}
 use Rattle.ili_grammar.specs.Limits.{IsSmall, IsSmallType, AreSmallAttributes, IsSmallAttribute, IsSmallContent, IsSmallDomain, IsSmallTable, IsSmallTopic, AreNumbersSmall, AreCodes, IsWithinLimits}
 use Rattle.ili_grammar.proofs.Leads.{length-toks}
 use Rattle.ili_grammar.proofs.Names.{names_fit}
+use Rattle.ili_grammar.proofs.Lexed.{short_tokens}
+use Rattle.ili_grammar.proofs.NamesSpelled.{all_named, tokens_named}
 
 -- the numbers of all tokens are small
 pub record And (P Q : Type 0) : Type 0 where
@@ -248,9 +251,10 @@ pub tokens_small : (bytes : List ℕ) (ts : List Token) → are_short bytes ts �
 unfolding toks
 tokens_small bytes ts h = small_behind bytes None ts h
 
-pub limits_kept : (bytes : List ℕ) (ts : List Token) (m : ModelSyntax) → length ts ≤ 4194304 → are_short bytes ts ≡ true → Spells m (toks bytes ts) → IsWithinLimits m
+pub limits_kept : (bytes : List ℕ) (ts : List Token) (m : ModelSyntax) → length ts ≤ 4194304 → AreLongest bytes ts → Spells m (toks bytes ts) → IsWithinLimits m
 limits_kept bytes ts m f h x = record {
-  numbers = numbers_small 32 m (toks bytes ts) [] x (tokens_small bytes ts h);
+  numbers = numbers_small 32 m (toks bytes ts) [] x (tokens_small bytes ts (short_tokens bytes ts h));
   names = omega (arith, f, names_fit 32 m (toks bytes ts) [] x, length-toks bytes ts);
+  named = all_named 32 m (toks bytes ts) [] x (tokens_named bytes ts h);
   codes = codes_differ 32 m (toks bytes ts) [] x;
 }

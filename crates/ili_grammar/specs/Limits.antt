@@ -1,10 +1,18 @@
--- How great the numbers of a model are, how many names it has, and which bytes its codes are.
+-- How great the numbers of a model are, how many names it has and of which form, and which bytes
+-- its codes are.
 use Rattle.std.specs.Prelude.{◌≡◌, ℕ, ◌+◌, ◌^◌, ◌<◌, ◌≤◌, nat_abs, List, length, IfSome}
 use Rattle.std.specs.List.{All, sum_by}
-use Rattle.ili_grammar.specs.Syntax.{Ident, Decimal, Span, Element, an_element, Elements, no_elements, and_element, TypeSyntax, Named, Coord2, Coord3, Dim1, Dim2, Radians, Grads, Degrees, Range, Text, Date, HAlignment, VAlignment, Enumeration, Polyline, Surface, Area, LineSyntax, a_line, Attributes, no_attributes, and_attribute, AttributeSyntax, an_attribute, Content, Value, Reference, DomainSyntax, TableSyntax, TopicSyntax, Codes, ModelSyntax}
+use Rattle.ili_lexer.specs.Forms.{IsName}
+use Rattle.ili_grammar.specs.Syntax.{Ident, Decimal, Span, Element, an_element, Elements}
+use Rattle.ili_grammar.specs.Syntax.{no_elements, and_element, TypeSyntax, Named, Coord2, Coord3}
+use Rattle.ili_grammar.specs.Syntax.{Dim1, Dim2, Radians, Grads, Degrees, Range, Text, Date}
+use Rattle.ili_grammar.specs.Syntax.{HAlignment, VAlignment, Enumeration, Polyline, Surface, Area}
+use Rattle.ili_grammar.specs.Syntax.{LineSyntax, a_line, Attributes, no_attributes, and_attribute}
+use Rattle.ili_grammar.specs.Syntax.{AttributeSyntax, an_attribute, Content, Value, Reference}
+use Rattle.ili_grammar.specs.Syntax.{DomainSyntax, TableSyntax, TopicSyntax, Codes, ModelSyntax}
 
 -- ---- numbers
--- less than 10^18 in magnitude without its full stop, and at most 9 digits behind it
+-- less than 10^18 in magnitude without its full stop, and at most 9 digits after it
 abbrev pub IsSmall : Decimal → Type 0
 IsSmall d = (nat_abs d.digits < 10 ^ 18) × (d.scale ≤ 9)
 
@@ -107,9 +115,26 @@ table_names t = 1 + attributes_names t.attributes + lists_names t.idents
 abbrev pub topic_names : TopicSyntax → ℕ
 topic_names t = 1 + sum_by domain_names t.domains + sum_by table_names t.tables
 
--- how many names are written in a model, those behind END not counted
+-- how many names are written in a model, those after END not counted
 abbrev pub name_count : ModelSyntax → ℕ
-name_count m = 2 + sum_by domain_names m.outer + sum_by domain_names m.domains + sum_by topic_names m.topics
+name_count m =
+    2 + sum_by domain_names m.outer + sum_by domain_names m.domains + sum_by topic_names m.topics
+
+-- ---- the form of names: a letter, then letters, digits and `_` (`IsName`)
+-- each of these attributes has a name; nothing is said of those of a LINEATTR part
+abbrev pub AreNamed : Attributes → Type 0
+AreNamed no_attributes = Unit {0}
+AreNamed (and_attribute (an_attribute n o c) as_) = IsName n.text × AreNamed as_
+
+-- a table has a name, and each of its attributes
+pub record IsNamedTable (t : TableSyntax) : Type 0 where
+  pub name : IsName t.name.text
+  pub attributes : AreNamed t.attributes
+
+-- a topic has a name, and each of its tables
+pub record IsNamedTopic (t : TopicSyntax) : Type 0 where
+  pub name : IsName t.name.text
+  pub tables : All IsNamedTable t.tables
 
 -- ---- codes
 -- three bytes from 33 to 126, no two equal
@@ -124,4 +149,5 @@ pub record AreCodes (c : Codes) : Type 0 where
 pub record IsWithinLimits (m : ModelSyntax) : Type 0 where
   pub numbers : AreNumbersSmall m
   pub names : name_count m ≤ 4194304
+  pub named : All IsNamedTopic m.topics
   pub codes : AreCodes m.codes

@@ -1,5 +1,7 @@
 -- What the bytes of a number, a Hex and a name stand for.
-use Rattle.std.specs.Prelude.{ℕ, ◌+◌, ◌-◌, ◌*◌, ℤ, pos, neg_ℤ, List, [], ◌∷◌, length, drop, Bool, false, cond, ◌&&◌, ◌||◌, nat_eq, nat_le, if◌then◌else◌, count_by, codes, Option, Some, None}
+use Rattle.std.specs.Prelude.{ℕ, ◌+◌, ◌-◌, ◌*◌, ℤ, pos, neg_ℤ, List, [], ◌∷◌, length, drop, Bool}
+use Rattle.std.specs.Prelude.{false, cond, ◌&&◌, ◌||◌, nat_eq, nat_le, if◌then◌else◌, count_by}
+use Rattle.std.specs.Prelude.{codes, Option, Some, None}
 use Rattle.std.specs.List.{starts_with}
 use Rattle.std.specs.Char.{is_ascii_digit}
 use Rattle.ili_grammar.specs.Tokens.{Info}
@@ -15,7 +17,8 @@ read_from n (b ∷ bs) = read_from (cond (between 48 57 b) ((n * 10) + (b - 48))
 
 -- the number with its sign, without its full stop
 abbrev pub signed : List ℕ → ℤ
-signed bs = if starts_with nat_eq bs (codes "-") then neg_ℤ (pos (read_from 0 bs)) else pos (read_from 0 bs)
+signed bs =
+    if starts_with nat_eq bs (codes "-") then neg_ℤ (pos (read_from 0 bs)) else pos (read_from 0 bs)
 
 -- the number of digits after the full stop
 abbrev pub decimals : List ℕ → ℕ
@@ -40,7 +43,7 @@ abbrev pub read_hex : ℕ → List ℕ → ℕ
 read_hex n [] = n
 read_hex n (b ∷ bs) = read_hex ((n * 16) + hex_digit b) bs
 
--- the byte that a Hex stands for, behind its '0x'
+-- the byte that a Hex stands for, after its '0x'
 abbrev pub hex_code : List ℕ → Option ℕ
 hex_code bs = in_range (read_hex 0 (drop 2 bs))
 
@@ -48,8 +51,9 @@ abbrev pub ident : Info → Ident
 ident i = record { text = i.text; line = i.line; column = i.column }
 
 abbrev pub decimal : Info → Decimal
-decimal i = record { digits = signed i.text; scale = decimals i.text; line = i.line; column = i.column }
+decimal i =
+    record { digits = signed i.text; scale = decimals i.text; line = i.line; column = i.column }
 
--- at most 18 digits, and at most 9 behind the full stop
+-- at most 18 digits, and at most 9 after the full stop
 abbrev pub is_short : List ℕ → Bool
 is_short bs = nat_le (count_by is_ascii_digit bs) 18 && nat_le (decimals bs) 9

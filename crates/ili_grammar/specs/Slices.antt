@@ -1,5 +1,6 @@
 -- The tokens of a text as the grammar reads them.
-use Rattle.std.specs.Prelude.{ℕ, ◌-◌, List, [], ◌∷◌, take, drop, length, nat_le, Bool, true, false, cond, ◌&&◌, ◌==◌, Option, Some, None}
+use Rattle.std.specs.Prelude.{ℕ, ◌-◌, List, [], ◌∷◌, take, drop, length, nat_le, Bool, true, false}
+use Rattle.std.specs.Prelude.{cond, ◌&&◌, ◌==◌, Option, Some, None}
 use Rattle.ili_lexer.specs.declared.tokens.Token.{Token}
 use Rattle.ili_lexer.specs.declared.tokens.Kind.TheVariants as kinds
 use Rattle.ili_lexer.specs.declared.tokens.Kind as kind
@@ -7,7 +8,15 @@ use Rattle.ili_lexer.specs.declared.tokens.Mark.TheVariants as marks
 use Rattle.ili_lexer.specs.declared.tokens.Mark as mark
 use Rattle.ili_lexer.specs.declared.keywords.Keyword.TheVariants as keywords
 use Rattle.ili_lexer.specs.declared.keywords.Keyword as keyword
-use Rattle.ili_grammar.specs.Tokens.{Word, TRANSFER, DOMAIN, MODEL, TOPIC, TABLE, OPTIONAL, END, NO, IDENT, COORD2, COORD3, DIM1, DIM2, RADIANS, GRADS, DEGREES, TEXT, DATE, HALIGNMENT, VALIGNMENT, POLYLINE, SURFACE, AREA, WITH, STRAIGHTS, ARCS, VERTEX, BASE, WITHOUT, OVERLAPS, LINEATTR, FORMAT, FREE, FIX, CODE, FONT, BLANK, UNDEFINED, CONTINUE, DEFAULT, TID, I16, I32, ANY, VIEW, DERIVATIVES, Kind, name, number, hex, explanation, word, semicolon, colon, comma, equals, left_paren, right_paren, left_bracket, right_bracket, star, greater, period, two_periods, arrow, Info, Tok, tok}
+use Rattle.ili_grammar.specs.Tokens.{Word, TRANSFER, DOMAIN, MODEL, TOPIC, TABLE, OPTIONAL, END, NO}
+use Rattle.ili_grammar.specs.Tokens.{IDENT, COORD2, COORD3, DIM1, DIM2, RADIANS, GRADS, DEGREES}
+use Rattle.ili_grammar.specs.Tokens.{TEXT, DATE, HALIGNMENT, VALIGNMENT, POLYLINE, SURFACE, AREA}
+use Rattle.ili_grammar.specs.Tokens.{WITH, STRAIGHTS, ARCS, VERTEX, BASE, WITHOUT, OVERLAPS}
+use Rattle.ili_grammar.specs.Tokens.{LINEATTR, FORMAT, FREE, FIX, CODE, FONT, BLANK, UNDEFINED}
+use Rattle.ili_grammar.specs.Tokens.{CONTINUE, DEFAULT, TID, I16, I32, ANY, VIEW, DERIVATIVES, Kind}
+use Rattle.ili_grammar.specs.Tokens.{name, number, hex, explanation, word, semicolon, colon, comma}
+use Rattle.ili_grammar.specs.Tokens.{equals, left_paren, right_paren, left_bracket, right_bracket}
+use Rattle.ili_grammar.specs.Tokens.{star, greater, period, two_periods, arrow, Info, Tok, tok}
 use Rattle.ili_grammar.specs.Kinds.{same_kind}
 use Rattle.ili_grammar.specs.Numbers.{is_short}
 
@@ -92,9 +101,15 @@ is_behind None t = false
 is_behind (Some p) t = same_kind number (kind_of p.kind) && (p.upto == t.from)
 
 abbrev pub info_of : List ℕ → Option Token → Token → Info
-info_of text p t = record { text = bytes_of text t; line = t.line; column = t.column; after_number = is_behind p t }
+info_of text p t =
+    record {
+      text = bytes_of text t;
+      line = t.line;
+      column = t.column;
+      after_number = is_behind p t;
+    }
 
--- tokens behind another
+-- tokens after another
 abbrev pub toks_behind : List ℕ → Option Token → List Token → List Tok
 toks_behind text p [] = []
 toks_behind text p (t ∷ ts) = tok (kind_of t.kind) (info_of text p t) ∷ toks_behind text (Some t) ts
@@ -103,7 +118,7 @@ toks_behind text p (t ∷ ts) = tok (kind_of t.kind) (info_of text p t) ∷ toks
 unfoldable pub toks : List ℕ → List Token → List Tok
 toks text ts = toks_behind text None ts
 
--- a number has at most 18 digits and at most 9 behind its full stop, a Hex has at most 4 bytes
+-- a number has at most 18 digits and at most 9 after its full stop, a Hex has at most 4 bytes
 abbrev pub is_short_token : List ℕ → Token → Bool
 is_short_token text t =
     cond (same_kind number (kind_of t.kind)) (is_short (bytes_of text t)) true

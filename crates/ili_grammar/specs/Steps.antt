@@ -1,20 +1,24 @@
--- Words for the contracts of the reader.
-use Rattle.std.specs.Prelude.{◌≡◌, ℕ, List, [], ◌∷◌, ◌++◌, drop, Bool, true, false, Option, Some, None, ⊤, ◌&&◌, ◌||◌, not, cond}
+-- Words for the contracts of the reader's private functions.
+use Rattle.std.specs.Prelude.{◌≡◌, ℕ, List, [], ◌∷◌, ◌++◌, drop, Bool, true, false, Option, Some}
+use Rattle.std.specs.Prelude.{None, ⊤, ◌&&◌, ◌||◌, not, cond}
 use Rattle.ili_grammar.specs.declared.source.Source.{Source}
 use Rattle.ili_grammar.specs.declared.source.Wanted as wanted
 use Rattle.ili_grammar.specs.Wants.{symbol_of, is_too_deep}
 use Rattle.ili_grammar.specs.declared.syntax.SyntaxFault as fault
 use Rattle.ili_grammar.specs.declared.syntax.SyntaxFault.TheVariants as faults
-use Rattle.ili_grammar.specs.Tokens.{Kind, name, number, hex, word, VIEW, DERIVATIVES, FIX, FREE, STRAIGHTS, DEFAULT, Info, Tok, tok}
+use Rattle.ili_grammar.specs.Tokens.{Kind, name, number, hex, word, VIEW, DERIVATIVES, FIX, FREE}
+use Rattle.ili_grammar.specs.Tokens.{STRAIGHTS, DEFAULT, Info, Tok, tok}
 use Rattle.ili_grammar.specs.Kinds.{same_kind}
 use Rattle.ili_grammar.specs.Syntax.{Ident, Decimal, Elements, an_element}
 use Rattle.ili_grammar.specs.Types.{IsElement}
 use Rattle.ili_grammar.specs.Numbers.{ident, decimal, whole_code, hex_code}
-use Rattle.ili_grammar.specs.Codes.{Code, Expected, EndName, FixFormat, Views, LineForm, Scaling, Codes, Deep, begins_with_s, code_of}
+use Rattle.ili_grammar.specs.Codes.{Code, Expected, EndName, FixFormat, Views, LineForm, Scaling}
+use Rattle.ili_grammar.specs.Codes.{Codes, Deep, begins_with_s, code_of}
 use Rattle.ili_grammar.specs.Machine.{Sym, blank_value, undefined_value, continue_value}
 use Rattle.ili_lexer.specs.declared.keywords.Keyword as keyword
 use Rattle.ili_lexer.specs.declared.keywords.Keyword.TheVariants as keywords
-use Rattle.ili_grammar.specs.Run.{wants_free, wants_form, wants_end_name, wants_value, Outcome, short, stopped, run}
+use Rattle.ili_grammar.specs.Run.{wants_free, wants_form, wants_end_name, wants_value, Outcome}
+use Rattle.ili_grammar.specs.Run.{short, stopped, run}
 use Rattle.ili_grammar.specs.Slices.{toks}
 
 abbrev pub all : Source → List Tok
@@ -43,14 +47,15 @@ abbrev pub kind_at : List Tok → Option Kind
 kind_at [] = None
 kind_at (tok k i ∷ r) = Some k
 
--- the fault tells where a run of the machine stopped, and with which code; want of memory tells nothing
+-- the fault says where a run of the machine stopped, and with which code; out of memory says
+-- nothing
 abbrev pub IsToldBy : List Tok → Outcome → fault.SyntaxFault → Type 0
 IsToldBy all o faults.Memory = ⊤
 IsToldBy all short (faults.At c None) = code_of c ≡ Expected
 IsToldBy all (stopped e v) (faults.At c (Some k)) = (code_of c ≡ e) × (v ≡ drop k all)
 IsToldBy all _ (faults.At c t) = ⊥
 
--- whatever comes behind these symbols, the machine stops as the fault tells
+-- whatever comes after these symbols, the machine stops as the fault says
 pub record Refuses (all w : List Tok) (new : List Sym) (f : fault.SyntaxFault) : Type 0 where
   pub told : (stack : List Sym) → IsToldBy all (run w (new ++ stack)) f
 
@@ -59,11 +64,12 @@ abbrev pub Left : List Sym → Type 0
 Left [] = ⊥
 Left (s ∷ stack) = Unit {0}
 
--- from the one list and these symbols the machine goes on to the other list and those, where something is left to come
+-- from the one list and these symbols the machine goes on to the other list and those, where
+-- something is left to come
 pub record Goes (w : List Tok) (new : List Sym) (v : List Tok) (left : List Sym) : Type 0 where
   pub by : (stack : List Sym) → Left (left ++ stack) → run w (new ++ stack) ≡ run v (left ++ stack)
 
--- the list behind a first token of this kind
+-- the list after a first token of this kind
 abbrev pub past : Kind → List Tok → List Tok
 past k [] = []
 past k (tok h i ∷ r) = cond (same_kind k h) r (tok h i ∷ r)
@@ -83,7 +89,9 @@ NoWord (tok _ i ∷ r) = Unit {0}
 -- the byte that the first token stands for as a value with this default
 abbrev pub value_here : ℕ → List Tok → Option ℕ
 value_here d [] = None
-value_here d (tok k i ∷ r) = cond (same_kind (word DEFAULT) k) (Some d) (cond (same_kind number k) (whole_code i.text) (cond (same_kind hex k) (hex_code i.text) None))
+value_here d (tok k i ∷ r) =
+    cond (same_kind (word DEFAULT) k) (Some d)
+    (cond (same_kind number k) (whole_code i.text) (cond (same_kind hex k) (hex_code i.text) None))
 
 -- a symbol for a value: its default, and the bytes that it may not stand for
 pub data TakesValue : ℕ → List ℕ → Sym → Type 0 where
@@ -115,13 +123,16 @@ code_here w d =
     (cond (leads_with name w && scales_here w) Scaling
     (cond (leads_with name w && wants_form s) LineForm
     (cond (leads_with name w && wants_end_name s) EndName
-    (cond ((leads_with number w || (leads_with hex w || leads_with (word DEFAULT) w)) && wants_value s) Codes
+    (cond
+    ((leads_with number w || (leads_with hex w || leads_with (word DEFAULT) w)) && wants_value s)
+    Codes
     (cond (is_too_deep d) Deep Expected))))))
 
 -- a fault at these tokens, where this must come
 abbrev pub IsFaultAt : List Tok → List Tok → wanted.Wanted → fault.SyntaxFault → Type 0
 IsFaultAt all [] d (faults.At c None) = code_of c ≡ Expected
-IsFaultAt all (t ∷ r) d (faults.At c (Some n)) = (code_of c ≡ code_here (t ∷ r) d) × (t ∷ r ≡ drop n all)
+IsFaultAt all (t ∷ r) d (faults.At c (Some n)) =
+    (code_of c ≡ code_here (t ∷ r) d) × (t ∷ r ≡ drop n all)
 IsFaultAt all w d f = ⊥
 
 -- neither FREE nor STRAIGHTS nor a Hex, whose absence has a code of its own
@@ -129,6 +140,6 @@ abbrev pub is_plain : Kind → Bool
 is_plain k = not (same_kind k (word FREE) || (same_kind k (word STRAIGHTS) || same_kind k hex))
 
 -- ---- elements
--- behind a name: the parts of its element
+-- after a name: the parts of its element
 abbrev pub ReadsParts : ℕ → Elements → List Tok → List Tok → Type 0
 ReadsParts d es w r = (n : Info) → IsElement d (an_element (ident n) es) (tok name n ∷ w) r

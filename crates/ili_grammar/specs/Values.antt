@@ -15,13 +15,20 @@ use Rattle.ili_grammar.specs.declared.syntax.Content as content
 use Rattle.ili_grammar.specs.declared.syntax.TypeSyntax as kind
 use Rattle.ili_grammar.specs.declared.syntax.LineSyntax as line
 use Rattle.ili_grammar.specs.declared.syntax.Content.TheOpen as opened
-use Rattle.ili_grammar.specs.declared.syntax.Content.TheFolds.{fold-TypeSyntax, fold-LineSyntax, fold-AttributeSyntax, fold-Content}
+use Rattle.ili_grammar.specs.declared.syntax.Content.TheFolds.{fold-TypeSyntax, fold-LineSyntax}
+use Rattle.ili_grammar.specs.declared.syntax.Content.TheFolds.{fold-AttributeSyntax, fold-Content}
 use Rattle.ili_grammar.specs.declared.syntax.DomainSyntax as domain
 use Rattle.ili_grammar.specs.declared.syntax.TableSyntax as table
 use Rattle.ili_grammar.specs.declared.syntax.TopicSyntax as topic
 use Rattle.ili_grammar.specs.declared.syntax.Codes as codes
 use Rattle.ili_grammar.specs.declared.syntax.ModelSyntax as model
-use Rattle.ili_grammar.specs.Syntax.{Ident, Decimal, Span, Corners2, Corners3, Element, an_element, Elements, no_elements, and_element, TypeSyntax, Named, Coord2, Coord3, Dim1, Dim2, Radians, Grads, Degrees, Range, Text, Date, HAlignment, VAlignment, Enumeration, Polyline, Surface, Area, LineSyntax, a_line, Attributes, no_attributes, and_attribute, AttributeSyntax, an_attribute, Content, Value, Reference, DomainSyntax, TableSyntax, TopicSyntax, Codes, ModelSyntax}
+use Rattle.ili_grammar.specs.Syntax.{Ident, Decimal, Span, Corners2, Corners3, Element, an_element}
+use Rattle.ili_grammar.specs.Syntax.{Elements, no_elements, and_element, TypeSyntax, Named, Coord2}
+use Rattle.ili_grammar.specs.Syntax.{Coord3, Dim1, Dim2, Radians, Grads, Degrees, Range, Text, Date}
+use Rattle.ili_grammar.specs.Syntax.{HAlignment, VAlignment, Enumeration, Polyline, Surface, Area}
+use Rattle.ili_grammar.specs.Syntax.{LineSyntax, a_line, Attributes, no_attributes, and_attribute}
+use Rattle.ili_grammar.specs.Syntax.{AttributeSyntax, an_attribute, Content, Value, Reference}
+use Rattle.ili_grammar.specs.Syntax.{DomainSyntax, TableSyntax, TopicSyntax, Codes, ModelSyntax}
 
 abbrev pub ident_of : ident.Ident → Ident
 ident_of i = record { text = i.text; line = i.line; column = i.column }
@@ -67,7 +74,8 @@ abbrev pub content_step : opened.Content-F Content TypeSyntax AttributeSyntax Li
 content_step (opened.Value t) = Value t
 content_step (opened.Reference n) = Reference (ident_of n)
 
-abbrev pub type_step : opened.TypeSyntax-F Content TypeSyntax AttributeSyntax LineSyntax → TypeSyntax
+abbrev pub type_step : opened.TypeSyntax-F Content TypeSyntax AttributeSyntax LineSyntax
+    → TypeSyntax
 type_step (opened.Named n) = Named (ident_of n)
 type_step (opened.Coord2 c) = Coord2 (corners2_of c)
 type_step (opened.Coord3 c) = Coord3 (corners3_of c)
@@ -86,23 +94,41 @@ type_step (opened.Polyline l) = Polyline l
 type_step (opened.Surface l) = Surface l
 type_step (opened.Area l) = Area l
 
-abbrev pub line_step : opened.LineSyntax-F Content TypeSyntax AttributeSyntax LineSyntax → LineSyntax
-line_step l = a_line (record { straights = l.straights; arcs = l.arcs; vertex = ident_of l.vertex; overlap = option_map decimal_of l.overlap }) (attributes_in l.attributes.items) (lists_of l.idents.items)
+abbrev pub line_step : opened.LineSyntax-F Content TypeSyntax AttributeSyntax LineSyntax
+    → LineSyntax
+line_step l =
+    a_line
+    (record {
+      straights = l.straights;
+      arcs = l.arcs;
+      vertex = ident_of l.vertex;
+      overlap = option_map decimal_of l.overlap;
+    })
+    (attributes_in l.attributes.items) (lists_of l.idents.items)
 
-abbrev pub attribute_step : opened.AttributeSyntax-F Content TypeSyntax AttributeSyntax LineSyntax → AttributeSyntax
+abbrev pub attribute_step : opened.AttributeSyntax-F Content TypeSyntax AttributeSyntax LineSyntax
+    → AttributeSyntax
 attribute_step a = an_attribute (ident_of a.name) a.optional a.content
 
 abbrev pub type_of : kind.TypeSyntax → TypeSyntax
-type_of = fold-TypeSyntax Content TypeSyntax AttributeSyntax LineSyntax content_step type_step attribute_step line_step
+type_of =
+    fold-TypeSyntax Content TypeSyntax AttributeSyntax LineSyntax content_step type_step
+    attribute_step line_step
 
 abbrev pub line_of : line.LineSyntax → LineSyntax
-line_of = fold-LineSyntax Content TypeSyntax AttributeSyntax LineSyntax content_step type_step attribute_step line_step
+line_of =
+    fold-LineSyntax Content TypeSyntax AttributeSyntax LineSyntax content_step type_step
+    attribute_step line_step
 
 abbrev pub attribute_of : attribute.AttributeSyntax → AttributeSyntax
-attribute_of = fold-AttributeSyntax Content TypeSyntax AttributeSyntax LineSyntax content_step type_step attribute_step line_step
+attribute_of =
+    fold-AttributeSyntax Content TypeSyntax AttributeSyntax LineSyntax content_step type_step
+    attribute_step line_step
 
 abbrev pub content_of : content.Content → Content
-content_of = fold-Content Content TypeSyntax AttributeSyntax LineSyntax content_step type_step attribute_step line_step
+content_of =
+    fold-Content Content TypeSyntax AttributeSyntax LineSyntax content_step type_step attribute_step
+    line_step
 
 abbrev pub attributes_of : List attribute.AttributeSyntax → Attributes
 attributes_of as_ = attributes_in (map attribute_of as_)
@@ -115,13 +141,24 @@ abbrev pub domains_of : List domain.DomainSyntax → List DomainSyntax
 domains_of ds = map domain_of ds
 
 abbrev pub table_of : table.TableSyntax → TableSyntax
-table_of t = record { name = ident_of t.name; optional = t.optional; attributes = attributes_of t.attributes.items; idents = lists_of t.idents.items }
+table_of t =
+    record {
+      name = ident_of t.name;
+      optional = t.optional;
+      attributes = attributes_of t.attributes.items;
+      idents = lists_of t.idents.items;
+    }
 
 abbrev pub tables_of : List table.TableSyntax → List TableSyntax
 tables_of ts = map table_of ts
 
 abbrev pub topic_of : topic.TopicSyntax → TopicSyntax
-topic_of t = record { name = ident_of t.name; domains = domains_of t.domains.items; tables = tables_of t.tables.items }
+topic_of t =
+    record {
+      name = ident_of t.name;
+      domains = domains_of t.domains.items;
+      tables = tables_of t.tables.items;
+    }
 
 abbrev pub topics_of : List topic.TopicSyntax → List TopicSyntax
 topics_of ts = map topic_of ts
@@ -130,4 +167,12 @@ abbrev pub codes_of : codes.Codes → Codes
 codes_of c = record { blank = c.blank; undefined = c.undefined; continued = c.continued }
 
 abbrev pub model_of : model.ModelSyntax → ModelSyntax
-model_of m = record { transfer = ident_of m.transfer; outer = domains_of m.outer.items; model = ident_of m.model; domains = domains_of m.domains.items; topics = topics_of m.topics.items; codes = codes_of m.codes }
+model_of m =
+    record {
+      transfer = ident_of m.transfer;
+      outer = domains_of m.outer.items;
+      model = ident_of m.model;
+      domains = domains_of m.domains.items;
+      topics = topics_of m.topics.items;
+      codes = codes_of m.codes;
+    }

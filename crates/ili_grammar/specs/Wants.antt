@@ -1,4 +1,4 @@
--- What must come, as the machine sees it.
+-- What must come, as the machine sees it. Only clauses of private functions cite it.
 use Rattle.std.specs.Prelude.{[], Bool, true, false}
 use Rattle.ili_grammar.specs.declared.source.Wanted.{Wanted}
 use Rattle.ili_grammar.specs.declared.source.Wanted.TheVariants as wants

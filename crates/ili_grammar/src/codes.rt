@@ -1,4 +1,4 @@
-// The three codes, and what stands behind them.
+// The three codes, and what stands after them.
 ghost use Rattle.std.specs.Prelude.{◌≡◌, ◌+◌, ◌<◌, ◌≤◌, ◌∷◌, [], ℕ, List, length, IfOk, IfErr};
 ghost use Rattle.std.specs.Prelude.{IfSome, IsTrue};
 ghost use Rattle.ili_grammar.specs.Tokens.{word, BLANK, TID, END, semicolon, equals, period};
@@ -94,7 +94,7 @@ impl Source<'_> {
         None
     }
 
-    // From the semicolon behind the codes to the end of the model.
+    // From the semicolon after the codes to the end of the model.
     fn identification(&self, at: usize) -> Result<usize, SyntaxFault>
         ensures reads { IfOk result (λ next. ReadsTid (rest self.now at) (rest self.now next)) }
         ensures within { IfOk result (λ next. next ≤ length self.now.tokens.now) }

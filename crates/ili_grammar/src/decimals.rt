@@ -41,7 +41,7 @@ fn with_digit(value: u64, digit: u8) -> u64
     value * 10 + (digit - b'0') as u64
 }
 
-/// How many digits stand behind the full stop.
+/// How many digits stand after the full stop.
 pub fn decimals_of(bytes: &[u8]) -> u8
     requires { decimals bytes.now ≤ 20 }
     ensures { result ≡ decimals bytes.now }
@@ -65,7 +65,7 @@ pub fn byte_of_number(bytes: &[u8]) -> Option<u8>
     byte_in_range(value_of(bytes))
 }
 
-/// The byte from 33 to 126 that a hexadecimal number stands for, behind its `0x`.
+/// The byte from 33 to 126 that a hexadecimal number stands for, after its `0x`.
 pub fn byte_of_hex(bytes: &[u8]) -> Option<u8>
     requires { length bytes.now ≤ 4 }
     ensures { result ≡ hex_code bytes.now }

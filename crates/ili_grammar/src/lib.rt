@@ -12,11 +12,11 @@
 //!   list of tokens (`one_model`).
 //! - **Faults.** A fault is the first token with which the tokens begin no model, or the end of
 //!   the text, with the first code that fits (`IsFirstFault`). Tokens that spell a model are
-//!   refused only for want of memory. No tokens have two faults, or a fault and a model
+//!   refused only for out of memory. No tokens have two faults, or a fault and a model
 //!   (`one_fault`).
 //! - **What the next layer may use.** The syntax as it is written, in the order of the text. Its
-//!   twin without memory is `model_of`. Numbers, the count of names and the three codes keep the
-//!   limits of `IsWithinLimits`.
+//!   twin without memory is `model_of`. Numbers, the count of names, the form of the names of
+//!   topics, tables and attributes, and the three codes keep the limits of `IsWithinLimits`.
 //! - **Not here:** what names mean, whether bounds are in order, and which types may stand where.
 //!   OPTIONAL before a topic, explanations, FONT and the form of identifications leave no mark.
 //! - **Degenerate cases:** a topic without tables and a table without attributes are good. A

@@ -103,7 +103,7 @@ impl Source<'_> {
         Ok((domains, next))
     }
 
-    // The domains that stand behind DOMAIN.
+    // The domains that stand after DOMAIN.
     fn domains(&self, at: usize) -> Result<(Vec<DomainSyntax>, usize), SyntaxFault>
         requires { at ≤ length self.now.tokens.now }
         ensures reads { IfOk result (λ p. IsDomains 32 (domains_of p.0.items) (rest self.now at)

@@ -79,7 +79,7 @@ impl Source<'_> {
         Ok((Corners3 { x, y, z }, next))
     }
 
-    // A range behind its bracket.
+    // A range after its bracket.
     pub fn range(&self, at: usize) -> Result<(Span, usize), SyntaxFault>
         ensures reads { IfOk result (λ p. ReadsRange (span_of p.0) (rest self.now at)
             (rest self.now p.1)) }

@@ -11,7 +11,7 @@ use ports::Name;
 use std::alloc::Global;
 
 /// A text and its tokens. Readers are given the number of the token to begin at, and give the
-/// number of the token behind what they read.
+/// number of the token after what they read.
 #[derive(Clone, Copy)]
 pub struct Source<'a> {
     pub alloc: Global,
@@ -21,8 +21,8 @@ pub struct Source<'a> {
     ghost short: { IsTrue (are_short text.now tokens.now) },
 }
 
-/// What must come, as far as it tells the code of a fault.
-#[derive(Clone, Copy, PartialEq, Eq)]
+/// What must come, as far as it gives the code of a fault.
+#[derive(Clone, Copy)]
 pub enum Wanted {
     Free,
     LineForm,

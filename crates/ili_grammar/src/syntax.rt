@@ -10,7 +10,7 @@ pub struct Ident {
     pub column: u32,
 }
 
-/// A number as it is written: `digits` with `scale` of them behind the full stop, and the place
+/// A number as it is written: `digits` with `scale` of them after the full stop, and the place
 /// of its first byte.
 #[derive(Clone, Copy)]
 pub struct Decimal {
@@ -45,7 +45,7 @@ pub struct TopicSyntax {
     pub tables: Vec<TableSyntax>,
 }
 
-/// A table. `optional` tells whether OPTIONAL stands before it. Without IDENT lists it is
+/// A table. `optional` says whether OPTIONAL stands before it. Without IDENT lists it is
 /// written NO IDENT.
 #[derive(Drop)]
 pub struct TableSyntax {

@@ -39,7 +39,7 @@ returns c =
     let x = spelt_read c.args.text.now c.args.tokens.now (model_of c.in_ok-model.model) c.in_ok-model.next c.in_ok-model.ensures.reads c.if-next-tokens.false in
     let few : length c.args.tokens.now ≤ 4194304 = omega (arith, few_tokens c.args.text.now c.args.tokens.now (c.tokens_in_order.ensures c.args.text.now c.args.tokens.now c.requires.tokens), c.requires.short) in record {
       spelt = x;
-      within = limits_kept c.args.text.now c.args.tokens.now (model_of c.in_ok-model.model) few (short_tokens c.args.text.now c.args.tokens.now (c.text_by_table.ensures.tokens c.args.text.now c.args.tokens.now c.requires.tokens)) x;
+      within = limits_kept c.args.text.now c.args.tokens.now (model_of c.in_ok-model.model) few (c.text_by_table.ensures.tokens c.args.text.now c.args.tokens.now c.requires.tokens) x;
       fault = tt;
       complete = λ m y. tt;
     }
