@@ -22,6 +22,7 @@ pub mod Checked
 pub mod PlacedNames
 pub mod SoundForms
 pub mod SoundAttributes
+pub mod NamedModels
 pub mod SoundModels
 pub mod Ends
 pub mod ExactNumbers
@@ -40,3 +41,4 @@ pub mod BrokenRules
 pub mod RuleLaws
 pub mod BoundValues
 pub mod NumberTokens
+pub mod NumberTypes

@@ -9,7 +9,7 @@ use Rattle.resolver.specs.Resolved.{Limits, Window, Block, Form}
 use Rattle.resolver.specs.Numbers.{scale_of}
 use Rattle.resolver.specs.Scopes.{Scope, Meaning, is_among, place, texts, names_of, name_alone, outside}
 use Rattle.resolver.specs.Rules.{attribute_names}
-use Rattle.resolver.specs.Standing.{StandsFor, as_written, as_outside, as_declared, AreLimits, IsLength, IsForm, IsReference, AreIdents, AreVertices, IsOverlap}
+use Rattle.resolver.specs.Standing.{StandsFor, as_written, as_outside, as_declared, AreLimits, IsLength, IsNumber, IsForm, IsReference, AreIdents, AreVertices, IsOverlap}
 
 pub one_some : {X : Type 0} (o : Option X) (x y : X) → o ≡ Some x → o ≡ Some y → x ≡ y
 one_some {X} o x y a b = ap (λ (p : Option X). unwrap_or p x) (sym a ∙ b)
@@ -46,7 +46,7 @@ one_limits scale s a b f g =
 one_length : (d : Decimal) (m n : ℕ) → IsLength d m → IsLength d n → m ≡ n
 one_length d m n f g = ap unsigned_abs (sym f.value ∙ g.value)
 
-of_limits : (kind : Limits → Form) (scale : ℕ) (s : Span) (f g : Form) → (l : Limits) × (f ≡ kind l) × AreLimits scale s l → (l : Limits) × (g ≡ kind l) × AreLimits scale s l → f ≡ g
+of_limits : (kind : Limits → Form) (scale : ℕ) (s : Span) (f g : Form) → IsNumber kind scale s f → IsNumber kind scale s g → f ≡ g
 of_limits kind scale s f g a b = a.1 ∙ ap kind (one_limits scale s a.0 b.0 a.2 b.2) ∙ sym b.1
 
 -- ---- values

@@ -15,6 +15,7 @@ use Rattle.resolver.specs.Scopes.{Scope, names_of, domain_names, table_names, le
 use Rattle.resolver.specs.Sound as resolved
 use Rattle.resolver.specs.Sound.{listed, IsSoundTable, IsSoundTopic, IsSound}
 use Rattle.resolver.proofs.Checked.{AreChecked}
+use Rattle.resolver.proofs.NamedModels.{topics_named}
 use Rattle.resolver.proofs.NoFault.{none_broken, none_before, none_behind, none_in_each}
 use Rattle.resolver.proofs.PlacedNames.{lists_placed}
 use Rattle.resolver.proofs.SoundAttributes.{names_counted, all_listed, attributes_sound}
@@ -51,13 +52,13 @@ topic_sound above t checked e modest =
     All-map (IsSoundTable n) (table s) t.tables (λ i x lt. table_sound n s (get_or t.tables i x) le checked own (each i x lt) (modest.tables i x lt))
 
 -- ---- names
-tables_named : (s : Scope) (ts : List TableSyntax) → sum_by resolved.table_names (map (table s) ts) ≤ sum_by written.table_names ts
-tables_named s [] = omega arith
-tables_named s (t ∷ ts) = omega (arith, tables_named s ts, all_listed s t.attributes, names_counted t.attributes, sum_by-cons resolved.table_names (table s t) (map (table s) ts), sum_by-cons written.table_names t ts)
+tables_counted : (s : Scope) (ts : List TableSyntax) → sum_by resolved.table_name_count (map (table s) ts) ≤ sum_by written.table_names ts
+tables_counted s [] = omega arith
+tables_counted s (t ∷ ts) = omega (arith, tables_counted s ts, all_listed s t.attributes, names_counted t.attributes, sum_by-cons resolved.table_name_count (table s t) (map (table s) ts), sum_by-cons written.table_names t ts)
 
-topics_named : (above : List DomainSyntax) (ts : List TopicSyntax) → sum_by resolved.topic_names (map (topic above) ts) ≤ sum_by written.topic_names ts
-topics_named above [] = omega arith
-topics_named above (t ∷ ts) = omega (arith, topics_named above ts, tables_named (inside above t) t.tables, sum_by-cons resolved.topic_names (topic above t) (map (topic above) ts), sum_by-cons written.topic_names t ts)
+topics_counted : (above : List DomainSyntax) (ts : List TopicSyntax) → sum_by resolved.topic_name_count (map (topic above) ts) ≤ sum_by written.topic_names ts
+topics_counted above [] = omega arith
+topics_counted above (t ∷ ts) = omega (arith, topics_counted above ts, tables_counted (inside above t) t.tables, sum_by-cons resolved.topic_name_count (topic above t) (map (topic above) ts), sum_by-cons written.topic_names t ts)
 
 pub is_sound : (m : ModelSyntax) → first_fault m ≡ None → IsWithinLimits m → IsSound (resolved_model m)
 is_sound m e w =
@@ -68,6 +69,8 @@ is_sound m e w =
     let checked : AreChecked (outside (everywhere m)) = domains_checked (outside (everywhere m)) (none_before outer (names ++ topics) none) (modest_everywhere m w) in
     let each : All (λ t. topic_faults (everywhere m) t ≡ []) m.topics = none_in_each (topic_faults (everywhere m)) m.topics (none_behind names topics (none_behind outer (names ++ topics) none)) in
     record {
-      few = omega (arith, topics_named (everywhere m) m.topics, w.names);
+      few = omega (arith, topics_counted (everywhere m) m.topics, w.names);
+      named = topics_named (everywhere m) m.topics w.named;
+      codes = w.codes;
       topics = All-map IsSoundTopic (topic (everywhere m)) m.topics (λ i t lt. topic_sound (everywhere m) (get_or m.topics i t) checked (each i t lt) (modest_topics m w i t lt));
     }

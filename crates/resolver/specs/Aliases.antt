@@ -1,5 +1,6 @@
 -- Chains of names, as the code follows them.
-use Rattle.std.specs.Prelude.{◌≡◌, ℕ, ◌<◌, List, length, slice_get, slice_index, slice_index_or, Bool, false, Option, None}
+use Rattle.std.specs.Prelude.{◌≡◌, ℕ, ◌<◌, List, length, slice_get, slice_index, slice_index_or}
+use Rattle.std.specs.Prelude.{Bool, false, Option, None}
 use Rattle.std.specs.Option.{unwrap_or, IfSome}
 use Rattle.resolver.specs.Scopes.{reached, comes_to, longest}
 
@@ -20,4 +21,5 @@ pub record IsJump (step : ℕ → Option ℕ) (count n : ℕ) (jumps : List ℕ)
 -- for each domain whether it leads back to itself
 pub record AreCyclic (steps : List (Option ℕ)) (marks : List Bool) : Type 0 where
   pub long : length marks ≡ length steps
-  pub found : (i : ℕ) → i < length steps → slice_index_or marks i false ≡ comes_to (step_in steps) i longest i
+  pub found : (i : ℕ) → i < length steps
+      → slice_index_or marks i false ≡ comes_to (step_in steps) i longest i

@@ -1,16 +1,23 @@
--- Each rule on the names and types of a model, by what is written: where it is broken, and at which name.
-use Rattle.std.specs.Prelude.{◌≡◌, ◌⊎◌, ℕ, ◌^◌, ◌≤◌, ◌<ℤ◌, Bool, true, false, List, [], ◌∷◌, ◌++◌, Contains, map, slice_get, Some}
-use Rattle.ili_grammar.specs.Syntax.{Ident, Decimal, Span, TypeSyntax, Named, Text, LineHead, a_line, Elements, Attributes, no_attributes, and_attribute, an_attribute, Content, Value, Reference, DomainSyntax, TableSyntax, TopicSyntax, ModelSyntax}
+-- Each rule on the names and types of a model, by what is written: where it is broken, and at which
+-- name.
+use Rattle.std.specs.Prelude.{◌≡◌, ◌⊎◌, ℕ, ◌^◌, ◌≤◌, ◌<ℤ◌, Bool, true, false, List, [], ◌∷◌, ◌++◌}
+use Rattle.std.specs.Prelude.{Contains, map, slice_get, Some}
+use Rattle.ili_grammar.specs.Syntax.{Ident, Decimal, Span, TypeSyntax, Named, Text, LineHead}
+use Rattle.ili_grammar.specs.Syntax.{a_line, Elements, Attributes, no_attributes, and_attribute}
+use Rattle.ili_grammar.specs.Syntax.{an_attribute, Content, Value, Reference, DomainSyntax}
+use Rattle.ili_grammar.specs.Syntax.{TableSyntax, TopicSyntax, ModelSyntax}
 use Rattle.resolver.specs.declared.faults.ModelCode.{ModelCode}
 use Rattle.resolver.specs.declared.faults.ModelCode.TheVariants as code
 use Rattle.resolver.specs.declared.shape.Shape.{Shape}
 use Rattle.resolver.specs.declared.shape.Shape.TheVariants as shapes
-use Rattle.resolver.specs.Scopes.{Scope, Meaning, place, texts, names_of, domain_names, everywhere, inside}
+use Rattle.resolver.specs.Scopes.{Scope, Meaning, place, texts, names_of, domain_names, everywhere}
+use Rattle.resolver.specs.Scopes.{inside}
 use Rattle.resolver.specs.Numbers.{spans, scale_of, magnitude, in_units, is_wide}
 use Rattle.resolver.specs.Lines.{suits, is_coord, is_line, is_boundary}
 use Rattle.resolver.specs.Rules.{Entry, entry, attribute_names, element_names, helper_name}
 use Rattle.resolver.specs.Standing.{StandsFor, IsLength}
-use Rattle.resolver.specs.Occurring.{IsScope, HasType, HasAttributes, HasAttribute, HasLine, HasReference, HasElements, line_type}
+use Rattle.resolver.specs.Occurring.{IsScope, HasType, HasAttributes, HasAttribute, HasLine}
+use Rattle.resolver.specs.Occurring.{HasReference, HasElements, line_type}
 
 -- ---- names
 abbrev pub IsVisible : Scope → List ℕ → Type 0

@@ -27,4 +27,5 @@ StepsFrom above l = l.steps.items ≡ steps_of above (domains_in l)
 
 -- the type at the end of the chain from a domain
 abbrev pub target_in : DomainScope → ℕ → Option TypeSyntax
-target_in l i = option_map (λ d. d.kind) (slice_get (domains_in l) (reached (step_in l.steps.items) longest i))
+target_in l i =
+    option_map (λ d. d.kind) (slice_get (domains_in l) (reached (step_in l.steps.items) longest i))

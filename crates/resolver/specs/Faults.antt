@@ -1,9 +1,12 @@
 -- What is at fault in a model, and which fault counts.
-use Rattle.std.specs.Prelude.{◌≡◌, ℕ, Bool, cond, ◌&&◌, ◌||◌, ◌==◌, nat_lt, List, [], ◌∷◌, Option, Some, None, ⊤}
+use Rattle.std.specs.Prelude.{◌≡◌, ℕ, Bool, cond, ◌&&◌, ◌||◌, ◌==◌, nat_lt, List, [], ◌∷◌, Option}
+use Rattle.std.specs.Prelude.{Some, None, ⊤}
 use Rattle.ili_grammar.specs.Syntax.{Ident}
 use Rattle.ili_grammar.specs.Values.{ident_of}
 use Rattle.resolver.specs.declared.faults.ModelCode.{ModelCode}
-use Rattle.resolver.specs.declared.faults.ModelCode.TheVariants.{Unknown, Twice, NotTable, Cycle, Bounds, Decimals, Wide, NotCoord, LineAttr, IdentUnknown}
+use Rattle.resolver.specs.declared.faults.ModelCode.TheVariants.{Unknown, Twice, NotTable, Cycle}
+use Rattle.resolver.specs.declared.faults.ModelCode.TheVariants.{Bounds, Decimals, Wide, NotCoord}
+use Rattle.resolver.specs.declared.faults.ModelCode.TheVariants.{LineAttr, IdentUnknown}
 use Rattle.resolver.specs.declared.faults.ModelFault.{ModelFault}
 use Rattle.resolver.specs.declared.faults.ModelFault.TheVariants.{At, Memory}
 
@@ -29,9 +32,12 @@ rank IdentUnknown = 9
 abbrev pub is_less : ℕ → ℕ → Bool → Bool
 is_less m n then_ = nat_lt m n || (m == n && then_)
 
--- a fault counts before another where its line is less, on one line its column, at one name its rank
+-- a fault counts before another where its line is less, on one line its column, at one name its
+-- rank
 abbrev pub is_before : Fault → Fault → Bool
-is_before f g = is_less f.name.line g.name.line (is_less f.name.column g.name.column (nat_lt (rank f.code) (rank g.code)))
+is_before f g =
+    is_less f.name.line g.name.line
+    (is_less f.name.column g.name.column (nat_lt (rank f.code) (rank g.code)))
 
 -- the one of two faults that counts, the older one if neither is before the other
 abbrev pub earlier : Option Fault → Fault → Option Fault
@@ -47,7 +53,7 @@ first_from best (f ∷ fs) = first_from (earlier best f) fs
 abbrev pub fault_if : Bool → ModelCode → Ident → List Fault
 fault_if broken code name = cond broken (record { code = code; name = name } ∷ []) []
 
--- the answer names the fault that counts; want of memory tells nothing
-abbrev pub Names : ModelFault → Option Fault → Type 0
-Names (At code name) first = first ≡ Some (record { code = code; name = ident_of name })
-Names Memory first = ⊤
+-- the answer names the fault that counts, if it names one; out of memory says nothing
+abbrev pub NamesFault : ModelFault → Option Fault → Type 0
+NamesFault (At code name) first = first ≡ Some (record { code = code; name = ident_of name })
+NamesFault Memory first = ⊤

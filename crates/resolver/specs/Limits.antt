@@ -1,8 +1,12 @@
--- What holds of the numbers to which a name may lead: each is as small as in any model that is read.
+-- What holds of the numbers to which a name may lead: each is as small as in any model that is
+-- read.
 use Rattle.std.specs.Prelude.{◌≤◌, IfSome, List, Option, length}
 use Rattle.std.specs.List.{All}
-use Rattle.ili_grammar.specs.Limits.{IsSmall, IsSmallType, IsSmallDomain, IsSmallContent, AreSmallAttributes, type_names, content_names, attributes_names}
-use Rattle.ili_grammar.specs.Syntax.{AttributeSyntax, an_attribute, Attributes, Content, Decimal, DomainSyntax, TableSyntax, TopicSyntax, TypeSyntax}
+use Rattle.ili_grammar.specs.Limits.{IsSmall, IsSmallType, IsSmallDomain, IsSmallContent}
+use Rattle.ili_grammar.specs.Limits.{AreSmallAttributes, type_names, content_names}
+use Rattle.ili_grammar.specs.Limits.{attributes_names}
+use Rattle.ili_grammar.specs.Syntax.{AttributeSyntax, an_attribute, Attributes, Content, Decimal}
+use Rattle.ili_grammar.specs.Syntax.{DomainSyntax, TableSyntax, TopicSyntax, TypeSyntax}
 use Rattle.resolver.specs.Scopes.{Scope}
 
 -- each number in the types to which a name may lead

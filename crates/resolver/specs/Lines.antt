@@ -1,7 +1,8 @@
 -- Types of lines, and the coordinates of their vertices.
 use Rattle.std.specs.Prelude.{Bool, true, false, ◌&&◌, Option}
 use Rattle.std.specs.Option.{option_map_or}
-use Rattle.ili_grammar.specs.Syntax.{Decimal, TypeSyntax, Coord2, Coord3, Polyline, Surface, Area, Content, Value, Reference}
+use Rattle.ili_grammar.specs.Syntax.{Decimal, TypeSyntax, Coord2, Coord3, Polyline, Surface, Area}
+use Rattle.ili_grammar.specs.Syntax.{Content, Value, Reference}
 use Rattle.resolver.specs.declared.shape.Shape.{Shape}
 use Rattle.resolver.specs.declared.shape.Shape.TheVariants as shape
 use Rattle.resolver.specs.Scopes.{Scope, meant}
@@ -28,7 +29,8 @@ suits _ kind = is_coord2 kind
 
 -- the overlap has more than 18 digits at the scale of the vertices
 abbrev pub is_long_overlap : Option Decimal → TypeSyntax → Bool
-is_long_overlap overlap kind = is_coord kind && option_map_or (is_long (scale_of kind)) overlap false
+is_long_overlap overlap kind =
+    is_coord kind && option_map_or (is_long (scale_of kind)) overlap false
 
 abbrev pub is_line : TypeSyntax → Bool
 is_line (Polyline l) = true
@@ -42,7 +44,8 @@ is_boundary (Surface l) = true
 is_boundary (Area l) = true
 is_boundary _ = false
 
--- what an attribute stands for passes a test of types; a reference, or a way that ends at no type, does not
+-- what an attribute stands for passes a test of types; a reference, or a chain that ends at no
+-- type, does not
 abbrev pub stands_for : (TypeSyntax → Bool) → Scope → Content → Bool
 stands_for test s (Value t) = option_map_or (λ m. test m.kind) (meant s t) false
 stands_for test s (Reference n) = false

@@ -1,11 +1,18 @@
--- What a model without fault stands for. Where a rule is broken it is some model, which nobody sees.
-use Rattle.std.specs.Prelude.{ℕ, ℤ, pos, unsigned_abs, Bool, cond, ◌||◌, List, map, Option, Some, None}
+-- What a model without fault stands for. Where a rule is broken it is some model, which nobody
+-- sees.
+use Rattle.std.specs.Prelude.{ℕ, ℤ, pos, unsigned_abs, Bool, cond, ◌||◌, List, map, Option, Some}
+use Rattle.std.specs.Prelude.{None}
 use Rattle.std.specs.Option.{unwrap_or, option_map}
 use Rattle.ili_grammar.specs.Syntax as syntax
-use Rattle.ili_grammar.specs.Syntax.{Ident, Decimal, Span, Corners2, Corners3, LineHead, LineSyntax, a_line, Attributes, no_attributes, and_attribute, AttributeSyntax, an_attribute, Content, Value, TypeSyntax, Named, TableSyntax, TopicSyntax, ModelSyntax, DomainSyntax}
+use Rattle.ili_grammar.specs.Syntax.{Ident, Decimal, Span, Corners2, Corners3, LineHead, LineSyntax}
+use Rattle.ili_grammar.specs.Syntax.{a_line, Attributes, no_attributes, and_attribute}
+use Rattle.ili_grammar.specs.Syntax.{AttributeSyntax, an_attribute, Content, Value, TypeSyntax}
+use Rattle.ili_grammar.specs.Syntax.{Named, TableSyntax, TopicSyntax, ModelSyntax, DomainSyntax}
 use Rattle.resolver.specs.Resolved as resolved
-use Rattle.resolver.specs.Resolved.{Limits, Window, Block, Form, LineForm, AttributeForm, LinePart, ModelTable, Topic, ResolvedModel}
-use Rattle.resolver.specs.Numbers.{scale_of, in_units, is_long, is_reversed, has_long_bound, is_text_length, leaves}
+use Rattle.resolver.specs.Resolved.{Limits, Window, Block, Form, LineForm, AttributeForm, LinePart}
+use Rattle.resolver.specs.Resolved.{ModelTable, Topic, ResolvedModel}
+use Rattle.resolver.specs.Numbers.{scale_of, in_units, is_long, is_reversed, has_long_bound}
+use Rattle.resolver.specs.Numbers.{is_text_length, leaves}
 use Rattle.resolver.specs.Lines.{is_coord}
 use Rattle.resolver.specs.Scopes.{Scope, Meaning, texts, place, everywhere, inside, meaning, meant}
 use Rattle.resolver.specs.Rules.{attribute_names}
@@ -16,7 +23,9 @@ no_limits = record { low = pos 0; high = pos 0; scale = 0 }
 
 -- the bounds that are written; none where they break a rule
 abbrev pub limits : ℕ → Span → Limits
-limits scale s = cond (is_reversed scale s || has_long_bound scale s) no_limits (record { low = in_units scale s.low; high = in_units scale s.high; scale = scale })
+limits scale s =
+    cond (is_reversed scale s || has_long_bound scale s) no_limits
+    (record { low = in_units scale s.low; high = in_units scale s.high; scale = scale })
 
 abbrev pub window : ℕ → Corners2 → Window
 window scale c = record { x = limits scale c.x; y = limits scale c.y }
@@ -69,7 +78,11 @@ places as_ lists = map (numbers (texts (attribute_names as_))) lists
 -- where x and y of vertices of a type lie
 abbrev pub window_in : TypeSyntax → Window
 window_in (syntax.Coord2 c) = window (scale_of (syntax.Coord2 c)) c
-window_in (syntax.Coord3 c) = record { x = limits (scale_of (syntax.Coord3 c)) c.x; y = limits (scale_of (syntax.Coord3 c)) c.y }
+window_in (syntax.Coord3 c) =
+    record {
+      x = limits (scale_of (syntax.Coord3 c)) c.x;
+      y = limits (scale_of (syntax.Coord3 c)) c.y;
+    }
 window_in _ = record { x = no_limits; y = no_limits }
 
 -- where their heights lie, if they have any
@@ -92,11 +105,19 @@ vertex_kind (Some m) = m.kind
 -- a line of the attribute of that name, whose vertices are of this type
 abbrev pub line_with : List ℕ → Bool → LineHead → TypeSyntax → LineForm
 line_with name optional head kind =
-    record { name = name; optional = optional; arcs = head.arcs; window = window_in kind; height = heights_in kind; overlap = option_map (overlap_at (vertex_scale kind)) head.overlap }
+    record {
+      name = name;
+      optional = optional;
+      arcs = head.arcs;
+      window = window_in kind;
+      height = heights_in kind;
+      overlap = option_map (overlap_at (vertex_scale kind)) head.overlap;
+    }
 
 -- the same, in the scope where the line is written
 abbrev pub line_form : List ℕ → Bool → Scope → LineSyntax → LineForm
-line_form name optional s (a_line head as_ lists) = line_with name optional head (vertex_kind (meaning s head.vertex.text))
+line_form name optional s (a_line head as_ lists) =
+    line_with name optional head (vertex_kind (meaning s head.vertex.text))
 
 -- the attributes of a line are values and references
 abbrev pub line_attribute : Scope → AttributeSyntax → resolved.Attribute
@@ -104,7 +125,8 @@ line_attribute s (an_attribute n o c) = resolved.an_attribute n.text o (resolved
 
 abbrev pub line_attributes : Scope → Attributes → resolved.Attributes
 line_attributes s no_attributes = resolved.no_attributes
-line_attributes s (and_attribute a as_) = resolved.and_attribute (line_attribute s a) (line_attributes s as_)
+line_attributes s (and_attribute a as_) =
+    resolved.and_attribute (line_attribute s a) (line_attributes s as_)
 
 abbrev pub line_part : Scope → LineSyntax → LinePart
 line_part s (a_line head as_ lists) = resolved.a_part (line_attributes s as_) (places as_ lists)
@@ -112,8 +134,10 @@ line_part s (a_line head as_ lists) = resolved.a_part (line_attributes s as_) (p
 -- ---- attributes of tables
 abbrev pub type_form : List ℕ → Bool → Scope → TypeSyntax → AttributeForm
 type_form name optional s (syntax.Polyline l) = resolved.Polyline (line_form name optional s l)
-type_form name optional s (syntax.Surface l) = resolved.Surface (line_form name optional s l) (line_part s l)
-type_form name optional s (syntax.Area l) = resolved.Area (line_form name optional s l) (line_part s l)
+type_form name optional s (syntax.Surface l) =
+    resolved.Surface (line_form name optional s l) (line_part s l)
+type_form name optional s (syntax.Area l) =
+    resolved.Area (line_form name optional s l) (line_part s l)
 type_form name optional s kind = resolved.Value (form kind)
 
 abbrev pub meaning_form : List ℕ → Bool → Option Meaning → AttributeForm
@@ -133,7 +157,12 @@ attributes s (and_attribute a as_) = resolved.and_attribute (attribute s a) (att
 
 -- ---- what holds attributes
 abbrev pub table : Scope → TableSyntax → ModelTable
-table s t = record { name = t.name.text; attributes = attributes s t.attributes; idents = places t.attributes t.idents }
+table s t =
+    record {
+      name = t.name.text;
+      attributes = attributes s t.attributes;
+      idents = places t.attributes t.idents;
+    }
 
 -- a topic in its scope
 abbrev pub topic_in : Scope → TopicSyntax → Topic
@@ -143,4 +172,5 @@ abbrev pub topic : List DomainSyntax → TopicSyntax → Topic
 topic above t = topic_in (inside above t) t
 
 abbrev pub resolved_model : ModelSyntax → ResolvedModel
-resolved_model m = record { name = m.model.text; codes = m.codes; topics = map (topic (everywhere m)) m.topics }
+resolved_model m =
+    record { name = m.model.text; codes = m.codes; topics = map (topic (everywhere m)) m.topics }

@@ -1,6 +1,10 @@
 -- Bounds and overlaps at a scale: in units of the last of so many decimals.
-use Rattle.std.specs.Prelude.{ℕ, ◌+◌, ◌-◌, ◌*◌, ◌/◌, ◌^◌, max, ℤ, pos, negsuc, neg_ℤ, ◌-ℤ◌, int_lt, int_le, unsigned_abs, nat_le, Bool, false, ◌&&◌, ◌||◌, ◌==◌, List, [], ◌∷◌}
-use Rattle.ili_grammar.specs.Syntax.{Decimal, Span, TypeSyntax, Coord2, Coord3, Dim1, Dim2, Radians, Grads, Degrees, Range, Element, an_element, Elements, no_elements, and_element}
+use Rattle.std.specs.Prelude.{ℕ, ◌+◌, ◌-◌, ◌*◌, ◌/◌, ◌^◌, max, ℤ, pos, negsuc, neg_ℤ, ◌-ℤ◌, int_lt}
+use Rattle.std.specs.Prelude.{int_le, unsigned_abs, nat_le, Bool, false, ◌&&◌, ◌||◌, ◌==◌, List, []}
+use Rattle.std.specs.Prelude.{◌∷◌}
+use Rattle.ili_grammar.specs.Syntax.{Decimal, Span, TypeSyntax, Coord2, Coord3, Dim1, Dim2, Radians}
+use Rattle.ili_grammar.specs.Syntax.{Grads, Degrees, Range, Element, an_element, Elements}
+use Rattle.ili_grammar.specs.Syntax.{no_elements, and_element}
 
 -- the bounds that are written in a type
 abbrev pub spans : TypeSyntax → List Span
@@ -52,8 +56,10 @@ is_wide_span scale s = int_le (pos (2 ^ 40)) (in_units scale s.high -ℤ in_unit
 
 -- an area with such vertices is too wide, in x or in y
 abbrev pub is_wide : TypeSyntax → Bool
-is_wide (Coord2 c) = is_wide_span (scale_of (Coord2 c)) c.x || is_wide_span (scale_of (Coord2 c)) c.y
-is_wide (Coord3 c) = is_wide_span (scale_of (Coord3 c)) c.x || is_wide_span (scale_of (Coord3 c)) c.y
+is_wide (Coord2 c) =
+    is_wide_span (scale_of (Coord2 c)) c.x || is_wide_span (scale_of (Coord2 c)) c.y
+is_wide (Coord3 c) =
+    is_wide_span (scale_of (Coord3 c)) c.x || is_wide_span (scale_of (Coord3 c)) c.y
 is_wide _ = false
 
 -- a greatest number of bytes: whole, from 1 to 65,535

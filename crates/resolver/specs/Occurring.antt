@@ -1,6 +1,11 @@
--- What is written in a model and in which scope: types, lines, attributes with their IDENT lists, enumerations.
+-- What is written in a model and in which scope: types, lines, attributes with their IDENT lists,
+-- enumerations.
 use Rattle.std.specs.Prelude.{◌≡◌, ◌⊎◌, Bool, List, Contains}
-use Rattle.ili_grammar.specs.Syntax.{Ident, Element, an_element, Elements, no_elements, and_element, TypeSyntax, Enumeration, Polyline, Surface, Area, LineHead, LineSyntax, a_line, Attributes, no_attributes, and_attribute, AttributeSyntax, an_attribute, Value, Reference, DomainSyntax, TableSyntax, TopicSyntax, ModelSyntax}
+use Rattle.ili_grammar.specs.Syntax.{Ident, Element, an_element, Elements, no_elements, and_element}
+use Rattle.ili_grammar.specs.Syntax.{TypeSyntax, Enumeration, Polyline, Surface, Area, LineHead}
+use Rattle.ili_grammar.specs.Syntax.{LineSyntax, a_line, Attributes, no_attributes, and_attribute}
+use Rattle.ili_grammar.specs.Syntax.{AttributeSyntax, an_attribute, Value, Reference, DomainSyntax}
+use Rattle.ili_grammar.specs.Syntax.{TableSyntax, TopicSyntax, ModelSyntax}
 use Rattle.resolver.specs.declared.shape.Shape.{Shape}
 use Rattle.resolver.specs.declared.shape.Shape.TheVariants as shapes
 use Rattle.resolver.specs.Scopes.{Scope, everywhere, outside, inside}
@@ -8,7 +13,8 @@ use Rattle.resolver.specs.Scopes.{Scope, everywhere, outside, inside}
 -- the scope outside the topics, or that of one topic
 pub data IsScope (m : ModelSyntax) : Scope → Type 0 where
   of_model : (s : Scope) → s ≡ outside (everywhere m) → IsScope m s
-  of_topic : (s : Scope) (t : TopicSyntax) → Contains m.topics t → s ≡ inside (everywhere m) t → IsScope m s
+  of_topic : (s : Scope) (t : TopicSyntax) → Contains m.topics t → s ≡ inside (everywhere m) t
+      → IsScope m s
 
 -- an attribute is one of some
 abbrev pub HasAttribute : Attributes → AttributeSyntax → Type 0
@@ -44,7 +50,8 @@ mutual
         → HasAttributes m s as_ lists
 
 -- a line of that shape is written in a scope as the type of the domain or attribute of that name
-pub record HasLine (m : ModelSyntax) (s : Scope) (owner : Ident) (shape : Shape) (head : LineHead) : Type 0 where
+pub record HasLine (m : ModelSyntax) (s : Scope) (owner : Ident) (shape : Shape)
+    (head : LineHead) : Type 0 where
   pub attributes : Attributes
   pub lists : List (List Ident)
   pub written : HasType m s owner (line_type shape (a_line head attributes lists))

@@ -1,11 +1,20 @@
 -- The rules on the names and types of a model, and the fault of a model that breaks some.
-use Rattle.std.specs.Prelude.{ℕ, ◌+◌, true, cond, not, ◌&&◌, List, [], ◌∷◌, ◌++◌, map, flat_map, codes, Option, Some, None}
+use Rattle.std.specs.Prelude.{ℕ, ◌+◌, true, cond, not, ◌&&◌, List, [], ◌∷◌, ◌++◌, map, flat_map}
+use Rattle.std.specs.Prelude.{codes, Option, Some, None}
 use Rattle.std.specs.List.{list_any}
-use Rattle.ili_grammar.specs.Syntax.{Ident, Decimal, Span, Element, an_element, Elements, no_elements, and_element, TypeSyntax, Named, Coord2, Coord3, Dim1, Dim2, Radians, Grads, Degrees, Range, Text, Date, HAlignment, VAlignment, Enumeration, Polyline, Surface, Area, LineSyntax, a_line, Attributes, no_attributes, and_attribute, AttributeSyntax, an_attribute, Content, Value, Reference, DomainSyntax, TableSyntax, TopicSyntax, ModelSyntax}
+use Rattle.ili_grammar.specs.Syntax.{Ident, Decimal, Span, Element, an_element, Elements}
+use Rattle.ili_grammar.specs.Syntax.{no_elements, and_element, TypeSyntax, Named, Text}
+use Rattle.ili_grammar.specs.Syntax.{Enumeration, Polyline, Surface, Area}
+use Rattle.ili_grammar.specs.Syntax.{LineSyntax, a_line, Attributes, no_attributes, and_attribute}
+use Rattle.ili_grammar.specs.Syntax.{AttributeSyntax, an_attribute, Content, Value, Reference}
+use Rattle.ili_grammar.specs.Syntax.{DomainSyntax, TableSyntax, TopicSyntax, ModelSyntax}
 use Rattle.resolver.specs.declared.faults.ModelCode.TheVariants as code
 use Rattle.resolver.specs.Faults.{Fault, fault_if, first_from}
-use Rattle.resolver.specs.Numbers.{spans, scale_of, is_reversed, has_long_bound, is_wide, is_text_length}
-use Rattle.resolver.specs.Scopes.{Scope, Meaning, is_among, is_visible, domain_names, names_of, texts, everywhere, outside, inside, leads, comes_to, longest, meaning}
+use Rattle.resolver.specs.Numbers.{spans, scale_of, is_reversed, has_long_bound, is_wide}
+use Rattle.resolver.specs.Numbers.{is_text_length}
+use Rattle.resolver.specs.Scopes.{Scope, Meaning, is_among, is_visible, domain_names, names_of}
+use Rattle.resolver.specs.Scopes.{texts, everywhere, outside, inside, leads, comes_to, longest}
+use Rattle.resolver.specs.Scopes.{meaning}
 use Rattle.resolver.specs.declared.shape.Shape.{Shape}
 use Rattle.resolver.specs.declared.shape.Shape.TheVariants as shapes
 use Rattle.resolver.specs.Lines.{is_area, suits, is_long_overlap, is_line, is_boundary, stands_for}
@@ -23,7 +32,8 @@ entry n = record { key = n.text; name = n }
 -- each name that stands among those before it
 abbrev pub twice : List (List ℕ) → List Entry → List Fault
 twice before [] = []
-twice before (e ∷ es) = fault_if (is_among e.key before) code.Twice e.name ++ twice (before ++ (e.key ∷ [])) es
+twice before (e ∷ es) =
+    fault_if (is_among e.key before) code.Twice e.name ++ twice (before ++ (e.key ∷ [])) es
 
 abbrev pub twice_in : List Ident → List Fault
 twice_in names = twice [] (map entry names)
@@ -44,7 +54,9 @@ abbrev mutual
 
 -- ---- numbers
 abbrev pub spans_faults : Ident → ℕ → List Span → List Fault
-spans_faults owner scale ss = fault_if (list_any (is_reversed scale) ss) code.Bounds owner ++ fault_if (list_any (has_long_bound scale) ss) code.Decimals owner
+spans_faults owner scale ss =
+    fault_if (list_any (is_reversed scale) ss) code.Bounds owner
+    ++ fault_if (list_any (has_long_bound scale) ss) code.Decimals owner
 
 abbrev pub numbers_faults : Ident → TypeSyntax → List Fault
 numbers_faults owner t = spans_faults owner (scale_of t) (spans t)
@@ -54,7 +66,9 @@ abbrev pub type_name_faults : Scope → Ident → List Fault
 type_name_faults s n = fault_if (not (is_visible s n.text)) code.Unknown n
 
 abbrev pub reference_faults : Scope → Ident → List Fault
-reference_faults s n = cond (is_among n.text s.tables) [] (fault_if true (cond (is_visible s n.text) code.NotTable code.Unknown) n)
+reference_faults s n =
+    cond (is_among n.text s.tables) []
+    (fault_if true (cond (is_visible s n.text) code.NotTable code.Unknown) n)
 
 -- ---- the vertices of a line
 
@@ -62,14 +76,16 @@ reference_faults s n = cond (is_among n.text s.tables) [] (fault_if true (cond (
 abbrev pub kind_faults : Ident → Shape → Ident → Option Decimal → TypeSyntax → List Fault
 kind_faults owner shape vertex overlap kind =
     fault_if (is_long_overlap overlap kind) code.Decimals owner
-    ++ (fault_if (not (suits shape kind)) code.NotCoord vertex ++ fault_if (is_area shape && is_wide kind) code.Wide vertex)
+    ++ (fault_if (not (suits shape kind)) code.NotCoord vertex
+    ++ fault_if (is_area shape && is_wide kind) code.Wide vertex)
 
 abbrev pub meaning_faults : Ident → Shape → Ident → Option Decimal → Option Meaning → List Fault
 meaning_faults owner shape vertex overlap None = []
 meaning_faults owner shape vertex overlap (Some m) = kind_faults owner shape vertex overlap m.kind
 
 abbrev pub vertex_faults : Scope → Ident → Shape → Ident → Option Decimal → List Fault
-vertex_faults s owner shape vertex overlap = type_name_faults s vertex ++ meaning_faults owner shape vertex overlap (meaning s vertex.text)
+vertex_faults s owner shape vertex overlap =
+    type_name_faults s vertex ++ meaning_faults owner shape vertex overlap (meaning s vertex.text)
 
 -- ---- attributes and IDENT lists, of a table or of a line
 abbrev pub attribute_names : Attributes → List Ident
@@ -87,7 +103,8 @@ lists_faults attributes lists = flat_map (list_faults attributes) lists
 
 -- no attribute has the name of another, and the IDENT lists name attributes
 abbrev pub names_faults : Attributes → List (List Ident) → List Fault
-names_faults as_ lists = twice_in (attribute_names as_) ++ lists_faults (texts (attribute_names as_)) lists
+names_faults as_ lists =
+    twice_in (attribute_names as_) ++ lists_faults (texts (attribute_names as_)) lists
 
 -- no attribute of a line is a line
 abbrev pub line_attribute_fault : Scope → AttributeSyntax → List Fault
@@ -95,7 +112,8 @@ line_attribute_fault s (an_attribute n o c) = fault_if (stands_for is_line s c) 
 
 abbrev pub line_attribute_faults : Scope → Attributes → List Fault
 line_attribute_faults s no_attributes = []
-line_attribute_faults s (and_attribute a as_) = line_attribute_fault s a ++ line_attribute_faults s as_
+line_attribute_faults s (and_attribute a as_) =
+    line_attribute_fault s a ++ line_attribute_faults s as_
 
 -- ---- types: `owner` is the name of the attribute or domain at which the type is written
 abbrev mutual
@@ -106,21 +124,13 @@ abbrev mutual
   type_faults s owner (Polyline l) = line_faults s owner shapes.Polyline l
   type_faults s owner (Surface l) = line_faults s owner shapes.Surface l
   type_faults s owner (Area l) = line_faults s owner shapes.Area l
-  type_faults s owner (Coord2 c) = numbers_faults owner (Coord2 c)
-  type_faults s owner (Coord3 c) = numbers_faults owner (Coord3 c)
-  type_faults s owner (Dim1 p) = numbers_faults owner (Dim1 p)
-  type_faults s owner (Dim2 p) = numbers_faults owner (Dim2 p)
-  type_faults s owner (Radians p) = numbers_faults owner (Radians p)
-  type_faults s owner (Grads p) = numbers_faults owner (Grads p)
-  type_faults s owner (Degrees p) = numbers_faults owner (Degrees p)
-  type_faults s owner (Range p) = numbers_faults owner (Range p)
-  type_faults s owner Date = []
-  type_faults s owner HAlignment = []
-  type_faults s owner VAlignment = []
+  -- coordinates and numbers by their bounds; a date and an alignment have none
+  type_faults s owner t = numbers_faults owner t
 
   pub line_faults : Scope → Ident → Shape → LineSyntax → List Fault
   line_faults s owner shape (a_line head as_ lists) =
-      vertex_faults s owner shape head.vertex head.overlap ++ (names_faults as_ lists ++ (line_attribute_faults s as_ ++ attributes_faults s as_))
+      vertex_faults s owner shape head.vertex head.overlap
+      ++ (names_faults as_ lists ++ (line_attribute_faults s as_ ++ attributes_faults s as_))
 
   pub attributes_faults : Scope → Attributes → List Fault
   attributes_faults s no_attributes = []
@@ -136,13 +146,16 @@ abbrev mutual
 -- ---- domains
 abbrev pub cycle_faults : (ℕ → Option ℕ) → ℕ → List DomainSyntax → List Fault
 cycle_faults step i [] = []
-cycle_faults step i (d ∷ ds) = fault_if (comes_to step i longest i) code.Cycle d.name ++ cycle_faults step (i + 1) ds
+cycle_faults step i (d ∷ ds) =
+    fault_if (comes_to step i longest i) code.Cycle d.name ++ cycle_faults step (i + 1) ds
 
 abbrev pub domain_faults : Scope → DomainSyntax → List Fault
 domain_faults s d = type_faults s d.name d.kind
 
 abbrev pub domains_faults : Scope → List Fault
-domains_faults s = twice (names_of s.above) (map entry (domain_names s.own)) ++ (cycle_faults (leads s) 0 s.own ++ flat_map (domain_faults s) s.own)
+domains_faults s =
+    twice (names_of s.above) (map entry (domain_names s.own))
+    ++ (cycle_faults (leads s) 0 s.own ++ flat_map (domain_faults s) s.own)
 
 -- ---- tables
 
@@ -152,7 +165,8 @@ helper_name table attribute = table ++ (codes "_" ++ attribute)
 
 -- the helper table that an attribute gives its table, at the attribute
 abbrev pub helper : Scope → List ℕ → AttributeSyntax → List Entry
-helper s table (an_attribute n o c) = cond (stands_for is_boundary s c) (record { key = helper_name table n.text; name = n } ∷ []) []
+helper s table (an_attribute n o c) =
+    cond (stands_for is_boundary s c) (record { key = helper_name table n.text; name = n } ∷ []) []
 
 abbrev pub helpers : Scope → List ℕ → Attributes → List Entry
 helpers s table no_attributes = []
@@ -174,7 +188,9 @@ topic_faults above t = domains_faults (inside above t) ++ tables_faults (inside 
 
 -- all that is at fault in a model
 abbrev pub faults : ModelSyntax → List Fault
-faults m = domains_faults (outside (everywhere m)) ++ (twice_in (map (λ t. t.name) m.topics) ++ flat_map (topic_faults (everywhere m)) m.topics)
+faults m =
+    domains_faults (outside (everywhere m))
+    ++ (twice_in (map (λ t. t.name) m.topics) ++ flat_map (topic_faults (everywhere m)) m.topics)
 
 -- the fault that counts, or none
 abbrev pub first_fault : ModelSyntax → Option Fault

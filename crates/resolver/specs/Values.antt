@@ -13,11 +13,17 @@ use Rattle.resolver.specs.declared.models.Attribute as attribute
 use Rattle.resolver.specs.declared.models.AttributeForm as content
 use Rattle.resolver.specs.declared.models.LinePart as part
 use Rattle.resolver.specs.declared.models.AttributeForm.TheOpen as opened
-use Rattle.resolver.specs.declared.models.AttributeForm.TheFolds.{fold-Attribute, fold-AttributeForm, fold-LinePart}
+use Rattle.resolver.specs.declared.models.AttributeForm.TheFolds.{fold-Attribute}
+use Rattle.resolver.specs.declared.models.AttributeForm.TheFolds.{fold-AttributeForm, fold-LinePart}
 use Rattle.resolver.specs.declared.models.ModelTable as table
 use Rattle.resolver.specs.declared.models.Topic as topic
 use Rattle.resolver.specs.declared.models.ResolvedModel as model
-use Rattle.resolver.specs.Resolved.{Limits, Window, Block, Form, Range, Dim1, Dim2, Radians, Grads, Degrees, Coord2, AreaPoint, Coord3, Text, Enumeration, Reference, Date, HAlignment, VAlignment, LineForm, Attribute, an_attribute, AttributeForm, Value, Polyline, Surface, Area, LinePart, a_part, Attributes, no_attributes, and_attribute, ModelTable, Topic, ResolvedModel}
+use Rattle.resolver.specs.Resolved.{Limits, Window, Block, Form, Range, Dim1, Dim2, Radians, Grads}
+use Rattle.resolver.specs.Resolved.{Degrees, Coord2, AreaPoint, Coord3, Text, Enumeration}
+use Rattle.resolver.specs.Resolved.{Reference, Date, HAlignment, VAlignment, LineForm, Attribute}
+use Rattle.resolver.specs.Resolved.{an_attribute, AttributeForm, Value, Polyline, Surface, Area}
+use Rattle.resolver.specs.Resolved.{LinePart, a_part, Attributes, no_attributes, and_attribute}
+use Rattle.resolver.specs.Resolved.{ModelTable, Topic, ResolvedModel}
 
 abbrev pub limits_of : limits.Limits → Limits
 limits_of l = record { low = l.low; high = l.high; scale = l.scale }
@@ -46,7 +52,15 @@ form_of (forms.Reference k) = Reference k
 form_of (forms.AreaPoint w) = AreaPoint (window_of w)
 
 abbrev pub line_of : line.LineForm → LineForm
-line_of l = record { name = l.name; optional = l.optional; arcs = l.arcs; window = window_of l.window; height = option_map limits_of l.height; overlap = l.overlap }
+line_of l =
+    record {
+      name = l.name;
+      optional = l.optional;
+      arcs = l.arcs;
+      window = window_of l.window;
+      height = option_map limits_of l.height;
+      overlap = l.overlap;
+    }
 
 abbrev pub places_of : List places.Places → List (List ℕ)
 places_of ps = map (λ p. p.places.items) ps
@@ -72,7 +86,8 @@ abbrev pub attribute_of : attribute.Attribute → Attribute
 attribute_of = fold-Attribute AttributeForm Attribute LinePart content_step attribute_step part_step
 
 abbrev pub content_of : content.AttributeForm → AttributeForm
-content_of = fold-AttributeForm AttributeForm Attribute LinePart content_step attribute_step part_step
+content_of =
+    fold-AttributeForm AttributeForm Attribute LinePart content_step attribute_step part_step
 
 abbrev pub part_of : part.LinePart → LinePart
 part_of = fold-LinePart AttributeForm Attribute LinePart content_step attribute_step part_step
@@ -82,7 +97,12 @@ attributes_of as_ = attributes_in (map attribute_of as_)
 
 -- ---- what holds attributes
 abbrev pub table_of : table.ModelTable → ModelTable
-table_of t = record { name = t.name; attributes = attributes_of t.attributes.items; idents = places_of t.idents.items }
+table_of t =
+    record {
+      name = t.name;
+      attributes = attributes_of t.attributes.items;
+      idents = places_of t.idents.items;
+    }
 
 abbrev pub tables_of : List table.ModelTable → List ModelTable
 tables_of ts = map table_of ts

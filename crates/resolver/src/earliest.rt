@@ -56,8 +56,8 @@ impl<'a> FaultAt<'a> {
 impl<'a> Earliest<'a> {
     ghost use Rattle.std.specs.Prelude.{◌≡◌, None};
     ghost use Rattle.ili_grammar.specs.Values.{ident_of};
-    ghost use Rattle.resolver.specs.Faults.{first_from, fault_if};
-    ghost use Rattle.resolver.specs.FaultViews.{fault_in, fault_of};
+    ghost use Rattle.resolver.specs.Faults.{fault_if};
+    ghost use Rattle.resolver.specs.FaultViews.{fault_in, fault_of, Reports};
     ghost use Rattle.std.specs.Option.{option_map};
 
     /// Nothing is reported yet.
@@ -69,8 +69,7 @@ impl<'a> Earliest<'a> {
 
     /// Reports a fault at a name, if the rule is broken there.
     pub fn report(&mut self, broken: bool, code: ModelCode, name: &'a Ident)
-        ensures { fault_in self.new ≡ first_from (fault_in self.old)
-            (fault_if broken code (ident_of name.now)) }
+        ensures { Reports self.old self.new (fault_if broken code (ident_of name.now)) }
     {
         if !broken {
             return;

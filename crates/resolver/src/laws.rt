@@ -20,7 +20,7 @@ ghost use Rattle.resolver.specs.Resolved.{ResolvedModel};
 ghost use Rattle.resolver.specs.Standing.{IsModel};
 
 /// Where no rule is broken, each part of a model stands for what is written, and for no value in
-/// place of a missing one: the way from each name ends at a type, references and IDENT lists name
+/// place of a missing one: the chain from each name ends at a type, references and IDENT lists name
 /// what is there, bounds are kept exactly and in order, vertices have coordinates. What is
 /// written stands for one model at most.
 pub fn stands_for_what_is_written()

@@ -17,8 +17,8 @@
 //!   over one scope:
 //!   - `scope`: the names of a scope with their first declarations (`name_index`), the domains
 //!     whose type is another domain's name, with the last domain of each such chain and the
-//!     domains on a cycle (`aliases`, `domain_scope`), what a model declares (`declared`), and
-//!     what a name and a type stand for in a scope;
+//!     domains on a cycle (`aliases`, `domain_scope`), what a model declares (`declared`), the
+//!     scope of a topic (`topic_scope`), and what a name and a type stand for in a scope;
 //!   - `rules`: the rules on names, types, lines, domains, tables and topics, each of which
 //!     reports its faults to `earliest`;
 //!   - `build`: what types, lines, attributes, tables and topics stand for.
@@ -27,7 +27,9 @@
 //! - **What the next layer may use.** A resolved model is sound (`IsSound`), as the layout of
 //!   tables asks: each reference is the number of a table of its topic, each place in an IDENT
 //!   list that of an attribute, the attributes of LINEATTR are values and references, the window
-//!   of an AREA is less than 2^40 units wide in each axis, and there are at most 4,194,304 names.
+//!   of an AREA is less than 2^40 units wide in each axis, there are at most 4,194,304 names, those
+//!   of topics, tables and attributes have the form of names, and the three codes are bytes from
+//!   33 to 126, no two equal.
 //! - **No value in place of a missing one.** Where a rule is broken `resolved_model` gives some
 //!   harmless value. A model without fault meets none: `specs/Standing` says of each part what it
 //!   stands for by what is written alone (`IsModel`), and the law `stands_for_what_is_written`

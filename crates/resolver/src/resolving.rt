@@ -2,7 +2,7 @@
 ghost use Rattle.std.specs.Prelude.{◌≡◌, [], IfErr, IfOk, None, Some};
 ghost use Rattle.ili_grammar.specs.Limits.{IsWithinLimits};
 ghost use Rattle.ili_grammar.specs.Values.{model_of};
-ghost use Rattle.resolver.specs.Faults.{Names};
+ghost use Rattle.resolver.specs.Faults.{NamesFault};
 ghost use Rattle.resolver.specs.FaultViews.{fault_of};
 ghost use Rattle.resolver.specs.Scopes.{everywhere};
 ghost use Rattle.resolver.specs.DomainScopes.{domains_in, StepsFrom};
@@ -24,7 +24,7 @@ use std::alloc::Global;
 
 // The answer that names a fault.
 fn refusal(alloc: Global, fault: FaultAt<'_>) -> Result<ModelFault, Memory>
-    ensures { IfOk result (λ f. Names f (Some (fault_of fault.entry))) }
+    ensures { IfOk result (λ f. NamesFault f (Some (fault_of fault.entry))) }
 {
     Ok(ModelFault::At {
         code: fault.code,
@@ -48,7 +48,7 @@ fn resolve_within<'a>(
     requires domains { domains_in above.now ≡ everywhere (model_of syntax.now) }
     ensures model { IfOk result (λ m. (first_fault (model_of syntax.now) ≡ None)
         × (built_model m ≡ resolved_model (model_of syntax.now))) }
-    ensures fault { IfErr result (λ f. Names f (first_fault (model_of syntax.now))) }
+    ensures fault { IfErr result (λ f. NamesFault f (first_fault (model_of syntax.now))) }
 {
     match first_fault(alloc, above, syntax)? {
         Some(fault) => Err(refusal(alloc, fault)?),
@@ -60,14 +60,14 @@ fn resolve_within<'a>(
 ///
 /// The syntax is as small as the grammar's reader gives it. A model that is given is sound: its
 /// numbers of tables and attributes are those of tables and attributes that it has, the window of
-/// an AREA is narrow, and its names are few. The error names the rule that is broken first in the
-/// text, and the name at which it is; or it is out of memory.
+/// an AREA is narrow, its names are few, and its codes differ. The error names the rule that is
+/// broken first in the text, and the name at which it is; or it is out of memory.
 pub fn resolve(alloc: Global, syntax: &ModelSyntax) -> Result<ResolvedModel, ModelFault>
     requires { IsWithinLimits (model_of syntax.now) }
     ensures model { IfOk result (λ m. (first_fault (model_of syntax.now) ≡ None)
         × (built_model m ≡ resolved_model (model_of syntax.now))) }
     ensures sound { IfOk result (λ m. IsSound (built_model m)) }
-    ensures fault { IfErr result (λ f. Names f (first_fault (model_of syntax.now))) }
+    ensures fault { IfErr result (λ f. NamesFault f (first_fault (model_of syntax.now))) }
 {
     let above = everywhere(alloc, syntax)?;
     resolve_within(alloc, &above, syntax)

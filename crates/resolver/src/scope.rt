@@ -8,6 +8,7 @@ pub mod aliases;
 pub mod declared;
 pub mod domain_scope;
 pub mod name_index;
+pub mod topic_scope;
 
 use aliases::alias_of;
 use domain_scope::DomainScope;
@@ -70,10 +71,7 @@ impl<'s, 'a> Scope<'s, 'a> {
     fn is_above(&self, name: &[u8]) -> bool
         ensures { result ≡ is_among name.now (names_of (scope_of self.now).above) }
     {
-        match self.above {
-            Some(above) => above.names().has(name),
-            None => false,
-        }
+        NameIndex::is_in(self.names_above(), name)
     }
 
     /// Whether a domain of that name is visible.

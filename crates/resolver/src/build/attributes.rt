@@ -1,7 +1,6 @@
 // What attributes stand for, of tables and of the lines of a boundary.
 ghost use Rattle.std.specs.Prelude.{◌≡◌, ◌≤◌, IfOk};
 ghost use Rattle.ili_grammar.specs.Limits.{IsSmallLine, line_names};
-ghost use Rattle.ili_grammar.specs.Syntax.{Area, Polyline, Surface};
 ghost use Rattle.ili_grammar.specs.Values.{attribute_of, attributes_of, content_of, lists_of};
 ghost use Rattle.ili_grammar.specs.Values.{type_of, line_of};
 ghost use Rattle.resolver.specs.NameIndexes.{names_in};
@@ -99,9 +98,10 @@ fn line_part<'a>(
     requires names { line_names (line_of line.now) ≤ 4194304 }
     ensures { IfOk result (λ p. part_of p ≡ line_part (scope_of scope.now) (line_of line.now)) }
 {
-    let attributes = line_attributes(alloc, scope, &line.attributes)?;
-    let idents = ident_places(alloc, &line.attributes, &line.idents)?;
-    Ok(LinePart { attributes, idents })
+    Ok(LinePart {
+        idents: ident_places(alloc, &line.attributes, &line.idents)?,
+        attributes: line_attributes(alloc, scope, &line.attributes)?,
+    })
 }
 
 // What the lines of a boundary stand for, and what they have of their own.
@@ -126,61 +126,8 @@ fn boundary<'a>(
     Ok((lines, part))
 }
 
-// What a POLYLINE of that name stands for.
-#[tactic(auto, using(crate::proofs::Modest::small_scope))]
-fn polyline<'a>(
-    alloc: Global,
-    scope: &Scope<'_, 'a>,
-    name: &Ident,
-    optional: bool,
-    line: &'a LineSyntax,
-) -> Result<AttributeForm, Memory>
-    requires scope { IsModestScope (scope_of scope.now) }
-    requires numbers { IsSmallLine (line_of line.now) }
-    ensures { IfOk result (λ f. resolved_content f
-        ≡ type_form name.now.text optional (scope_of scope.now) (Polyline (line_of line.now))) }
-{
-    let polyline = line_form(alloc, scope, name, optional, line)?;
-    Ok(AttributeForm::Polyline(polyline))
-}
-
-// What a SURFACE of that name stands for.
-fn surface<'a>(
-    alloc: Global,
-    scope: &Scope<'_, 'a>,
-    name: &Ident,
-    optional: bool,
-    line: &'a LineSyntax,
-) -> Result<AttributeForm, Memory>
-    requires scope { IsModestScope (scope_of scope.now) }
-    requires numbers { IsSmallLine (line_of line.now) }
-    requires names { line_names (line_of line.now) ≤ 4194304 }
-    ensures { IfOk result (λ f. resolved_content f
-        ≡ type_form name.now.text optional (scope_of scope.now) (Surface (line_of line.now))) }
-{
-    let (lines, part) = boundary(alloc, scope, name, optional, line)?;
-    Ok(AttributeForm::Surface(lines, part))
-}
-
-// What an AREA of that name stands for.
-fn area<'a>(
-    alloc: Global,
-    scope: &Scope<'_, 'a>,
-    name: &Ident,
-    optional: bool,
-    line: &'a LineSyntax,
-) -> Result<AttributeForm, Memory>
-    requires scope { IsModestScope (scope_of scope.now) }
-    requires numbers { IsSmallLine (line_of line.now) }
-    requires names { line_names (line_of line.now) ≤ 4194304 }
-    ensures { IfOk result (λ f. resolved_content f
-        ≡ type_form name.now.text optional (scope_of scope.now) (Area (line_of line.now))) }
-{
-    let (lines, part) = boundary(alloc, scope, name, optional, line)?;
-    Ok(AttributeForm::Area(lines, part))
-}
-
 // What the type of an attribute of that name stands for, in the scope where it is written.
+#[tactic(auto, using(crate::proofs::Modest::small_scope))]
 fn type_form<'a>(
     alloc: Global,
     scope: &Scope<'_, 'a>,
@@ -194,9 +141,18 @@ fn type_form<'a>(
         ≡ type_form name.now.text optional (scope_of scope.now) (type_of kind.now)) }
 {
     match kind {
-        TypeSyntax::Polyline(line) => polyline(alloc, scope, name, optional, line),
-        TypeSyntax::Surface(line) => surface(alloc, scope, name, optional, line),
-        TypeSyntax::Area(line) => area(alloc, scope, name, optional, line),
+        TypeSyntax::Polyline(line) => {
+            let lines = line_form(alloc, scope, name, optional, line)?;
+            Ok(AttributeForm::Polyline(lines))
+        }
+        TypeSyntax::Surface(line) => {
+            let (lines, part) = boundary(alloc, scope, name, optional, line)?;
+            Ok(AttributeForm::Surface(lines, part))
+        }
+        TypeSyntax::Area(line) => {
+            let (lines, part) = boundary(alloc, scope, name, optional, line)?;
+            Ok(AttributeForm::Area(lines, part))
+        }
         _ => Ok(AttributeForm::Value(form(kind))),
     }
 }
@@ -239,11 +195,10 @@ fn attribute<'a>(
         ≡ attribute (scope_of scope.now) (attribute_of written.now)) }
 {
     let (name, optional) = (&written.name, written.optional);
-    let content = content_form(alloc, scope, name, optional, &written.content)?;
     Ok(Attribute {
         name: Name::new(alloc, name.text.bytes())?,
         optional,
-        content,
+        content: content_form(alloc, scope, name, optional, &written.content)?,
     })
 }
 

@@ -15,8 +15,8 @@ ghost use Rattle.resolver.specs.Values.{topics_of as built_topics};
 use super::attributes::{attributes, ident_places};
 use crate::models::{ModelTable, ResolvedModel, Topic};
 use crate::scope::Scope;
-use crate::scope::declared::{table_index, topic_domains};
 use crate::scope::domain_scope::DomainScope;
+use crate::scope::topic_scope::TopicScope;
 use ili_grammar::{ModelSyntax, TableSyntax, TopicSyntax};
 use ports::{Memory, Name};
 use std::alloc::Global;
@@ -33,8 +33,8 @@ fn table<'a>(
 {
     Ok(ModelTable {
         name: Name::new(alloc, written.name.text.bytes())?,
-        attributes: attributes(alloc, scope, &written.attributes)?,
         idents: ident_places(alloc, &written.attributes, &written.idents)?,
+        attributes: attributes(alloc, scope, &written.attributes)?,
     })
 }
 
@@ -85,14 +85,8 @@ fn topic<'a>(
     ensures { IfOk result
         (λ t. built_topic t ≡ topic (domains_in above.now) (topic_of written.now)) }
 {
-    let own = topic_domains(alloc, above, &written.domains)?;
-    let directory = table_index(alloc, &written.tables)?;
-    let scope = Scope {
-        above: Some(above),
-        own: &own,
-        tables: Some(&directory),
-    };
-    topic_in(alloc, &scope, written)
+    let own = TopicScope::new(alloc, above, written)?;
+    topic_in(alloc, &own.scope(), written)
 }
 
 // What topics stand for, where the domains of `above` are declared outside.
@@ -125,10 +119,9 @@ pub fn model<'a>(
     requires domains { domains_in above.now ≡ everywhere (model_of written.now) }
     ensures { IfOk result (λ m. built_model m ≡ resolved_model (model_of written.now)) }
 {
-    let topics = topics(alloc, above, &written.topics)?;
     Ok(ResolvedModel {
         name: Name::new(alloc, written.model.text.bytes())?,
         codes: written.codes,
-        topics,
+        topics: topics(alloc, above, &written.topics)?,
     })
 }

@@ -1,8 +1,6 @@
 // The rules on the domains of a scope.
-ghost use Rattle.std.specs.Prelude.{◌≡◌, All, flat_map, OnOk};
-ghost use Rattle.ili_grammar.specs.Values.{domain_of};
-ghost use Rattle.resolver.specs.Faults.{first_from};
-ghost use Rattle.resolver.specs.FaultViews.{fault_in};
+ghost use Rattle.std.specs.Prelude.{All, flat_map, OnOk};
+ghost use Rattle.resolver.specs.FaultViews.{Reports};
 ghost use Rattle.resolver.specs.ScopeViews.{scope_of};
 ghost use Rattle.resolver.specs.Steps.{domains_at};
 ghost use Rattle.ili_grammar.specs.Limits.{IsSmallDomain};
@@ -16,22 +14,6 @@ use ili_grammar::DomainSyntax;
 use ports::Memory;
 use std::alloc::Global;
 
-// Checks the type of a domain.
-fn check_domain<'a>(
-    alloc: Global,
-    scope: &Scope<'_, 'a>,
-    domain: &'a DomainSyntax,
-    earliest: &mut Earliest<'a>,
-) -> Result<(), Memory>
-    requires scope { IsSmallScope (scope_of scope.now) }
-    requires domain { IsSmallDomain (domain_of domain.now) }
-    ensures { OnOk result (fault_in earliest.new
-        ≡ first_from (fault_in earliest.old)
-        (domain_faults (scope_of scope.now) (domain_of domain.now))) }
-{
-    check_type(&domain.kind, &domain.name, alloc, scope, earliest)
-}
-
 // Checks the types of some domains.
 fn check_types<'a>(
     alloc: Global,
@@ -41,12 +23,11 @@ fn check_types<'a>(
 ) -> Result<(), Memory>
     requires scope { IsSmallScope (scope_of scope.now) }
     requires domains { All IsSmallDomain (domains_at domains.now) }
-    ensures { OnOk result (fault_in earliest.new
-        ≡ first_from (fault_in earliest.old)
+    ensures { OnOk result (Reports earliest.old earliest.new
         (flat_map (domain_faults (scope_of scope.now)) (domains_at domains.now))) }
 {
     for domain in domains {
-        check_domain(alloc, scope, domain, earliest)?;
+        check_type(&domain.kind, &domain.name, alloc, scope, earliest)?;
     }
     Ok(())
 }
@@ -59,8 +40,8 @@ pub fn check_domains<'a>(
 ) -> Result<(), Memory>
     requires scope { IsSmallScope (scope_of scope.now) }
     requires few { AreFew (scope_of scope.now).own }
-    ensures { OnOk result (fault_in earliest.new
-        ≡ first_from (fault_in earliest.old) (domains_faults (scope_of scope.now))) }
+    ensures { OnOk result (Reports earliest.old earliest.new
+        (domains_faults (scope_of scope.now))) }
 {
     scope
         .own

@@ -1,12 +1,11 @@
 // The names of tables and of the helper tables that boundaries give them.
-ghost use Rattle.std.specs.Prelude.{◌≡◌, [], ◌∷◌, ◌++◌, List, flat_map, IfOk, OnOk};
+ghost use Rattle.std.specs.Prelude.{◌≡◌, [], ◌∷◌, flat_map, IfOk, OnOk};
 ghost use Rattle.indexmap.specs.IndexSet.{keys};
 ghost use Rattle.ili_grammar.specs.Values.{ident_of, attribute_of, attributes_of, table_of};
 ghost use Rattle.ili_grammar.specs.Values.{tables_of};
-ghost use Rattle.resolver.specs.Faults.{first_from};
-ghost use Rattle.resolver.specs.FaultViews.{fault_in};
+ghost use Rattle.resolver.specs.FaultViews.{Declares, Reports};
 ghost use Rattle.resolver.specs.ScopeViews.{scope_of};
-ghost use Rattle.resolver.specs.Rules.{Entry, twice, helper_name, helper, helpers, table_entries};
+ghost use Rattle.resolver.specs.Rules.{twice, helper_name, helper, helpers, table_entries};
 
 use super::lines::stands_for_boundary;
 use crate::earliest::Earliest;
@@ -35,10 +34,8 @@ fn check_key<'a>(
     name: &'a Ident,
     earliest: &mut Earliest<'a>,
 ) -> Result<(), Memory>
-    ensures { OnOk result ((rest : List Entry)
-        → first_from (fault_in earliest.new) (twice (keys names.new) rest)
-        ≡ first_from (fault_in earliest.old)
-        (twice (keys names.old) (record { key = key; name = ident_of name.now } ∷ rest))) }
+    ensures { OnOk result (Declares earliest.old earliest.new (keys names.old) (keys names.new)
+        (record { key = key; name = ident_of name.now } ∷ [])) }
 {
     let new = names.insert(key)?;
     earliest.report(!new, ModelCode::Twice, name);
@@ -55,11 +52,8 @@ fn check_helper<'a>(
     names: &mut IndexSet<Name>,
     earliest: &mut Earliest<'a>,
 ) -> Result<(), Memory>
-    ensures { OnOk result ((rest : List Entry)
-        → first_from (fault_in earliest.new) (twice (keys names.new) rest)
-        ≡ first_from (fault_in earliest.old)
-        (twice (keys names.old) (helper (scope_of scope.now) table.now.text
-        (attribute_of attribute.now) ++ rest))) }
+    ensures { OnOk result (Declares earliest.old earliest.new (keys names.old) (keys names.new)
+        (helper (scope_of scope.now) table.now.text (attribute_of attribute.now))) }
 {
     if !stands_for_boundary(scope, &attribute.content) {
         return Ok(());
@@ -76,11 +70,9 @@ fn check_helpers<'a>(
     names: &mut IndexSet<Name>,
     earliest: &mut Earliest<'a>,
 ) -> Result<(), Memory>
-    ensures { OnOk result ((rest : List Entry)
-        → first_from (fault_in earliest.new) (twice (keys names.new) rest)
-        ≡ first_from (fault_in earliest.old)
-        (twice (keys names.old) (helpers (scope_of scope.now) table.now.name.text
-        (attributes_of table.now.attributes.items) ++ rest))) }
+    ensures { OnOk result (Declares earliest.old earliest.new (keys names.old) (keys names.new)
+        (helpers (scope_of scope.now) table.now.name.text
+        (attributes_of table.now.attributes.items))) }
 {
     for attribute in &table.attributes {
         check_helper(alloc, scope, &table.name, attribute, names, earliest)?;
@@ -97,11 +89,8 @@ fn check_table_name<'a>(
     names: &mut IndexSet<Name>,
     earliest: &mut Earliest<'a>,
 ) -> Result<(), Memory>
-    ensures { OnOk result ((rest : List Entry)
-        → first_from (fault_in earliest.new) (twice (keys names.new) rest)
-        ≡ first_from (fault_in earliest.old)
-        (twice (keys names.old)
-        (table_entries (scope_of scope.now) (table_of table.now) ++ rest))) }
+    ensures { OnOk result (Declares earliest.old earliest.new (keys names.old) (keys names.new)
+        (table_entries (scope_of scope.now) (table_of table.now))) }
 {
     let key = Name::new(alloc, table.name.text.bytes())?;
     check_key(names, key, &table.name, earliest)?;
@@ -115,8 +104,7 @@ pub fn check_table_names<'a>(
     tables: &'a [TableSyntax],
     earliest: &mut Earliest<'a>,
 ) -> Result<(), Memory>
-    ensures { OnOk result (fault_in earliest.new
-        ≡ first_from (fault_in earliest.old)
+    ensures { OnOk result (Reports earliest.old earliest.new
         (twice [] (flat_map (table_entries (scope_of scope.now)) (tables_of tables.now)))) }
 {
     let mut names = IndexSet::new(alloc);

@@ -2,8 +2,7 @@
 ghost use Rattle.std.specs.Prelude.{◌≡◌, flat_map, IfOk, OnOk};
 ghost use Rattle.ili_grammar.specs.Values.{ident_of, names_of, lists_of, element_of, elements_of};
 ghost use Rattle.ili_grammar.specs.Values.{attributes_of, content_of};
-ghost use Rattle.resolver.specs.Faults.{first_from};
-ghost use Rattle.resolver.specs.FaultViews.{fault_in};
+ghost use Rattle.resolver.specs.FaultViews.{Reports};
 ghost use Rattle.resolver.specs.Indexed.{idents};
 ghost use Rattle.resolver.specs.NameIndexes.{names_in};
 ghost use Rattle.resolver.specs.Scopes.{texts};
@@ -23,7 +22,7 @@ use std::alloc::Global;
 
 /// Reports a name of a domain that is not visible.
 pub fn check_type_name<'a>(scope: &Scope<'_, 'a>, name: &'a Ident, earliest: &mut Earliest<'a>)
-    ensures { fault_in earliest.new ≡ first_from (fault_in earliest.old)
+    ensures { Reports earliest.old earliest.new
         (type_name_faults (scope_of scope.now) (ident_of name.now)) }
 {
     let visible = scope.is_visible(name.text.bytes());
@@ -32,7 +31,7 @@ pub fn check_type_name<'a>(scope: &Scope<'_, 'a>, name: &'a Ident, earliest: &mu
 
 /// Reports a reference that names no table.
 pub fn check_reference<'a>(scope: &Scope<'_, 'a>, name: &'a Ident, earliest: &mut Earliest<'a>)
-    ensures { fault_in earliest.new ≡ first_from (fault_in earliest.old)
+    ensures { Reports earliest.old earliest.new
         (reference_faults (scope_of scope.now) (ident_of name.now)) }
 {
     if NameIndex::is_in(scope.tables, name.text.bytes()) {
@@ -74,8 +73,8 @@ pub fn check_unique<'a>(
     names: Vec<&'a Ident>,
     earliest: &mut Earliest<'a>,
 ) -> Result<NameIndex<'a>, Memory>
-    ensures reported { OnOk result (fault_in earliest.new
-        ≡ first_from (fault_in earliest.old) (twice_in (idents names.entry.items))) }
+    ensures reported { OnOk result (Reports earliest.old earliest.new
+        (twice_in (idents names.entry.items))) }
     ensures names { IfOk result (λ d. names_in d ≡ idents names.entry.items) }
 {
     let names = NameIndex::new(alloc, names)?;
@@ -89,8 +88,7 @@ pub fn check_elements<'a>(
     elements: &'a [Element],
     earliest: &mut Earliest<'a>,
 ) -> Result<(), Memory>
-    ensures { OnOk result (fault_in earliest.new
-        ≡ first_from (fault_in earliest.old)
+    ensures { OnOk result (Reports earliest.old earliest.new
         (twice_in (element_names (elements_of elements.now)))) }
 {
     let names = element_names(alloc, elements)?;
@@ -104,7 +102,7 @@ fn check_attribute_names<'a>(
     attributes: &'a [AttributeSyntax],
     earliest: &mut Earliest<'a>,
 ) -> Result<NameIndex<'a>, Memory>
-    ensures reported { OnOk result (fault_in earliest.new ≡ first_from (fault_in earliest.old)
+    ensures reported { OnOk result (Reports earliest.old earliest.new
         (twice_in (attribute_names (attributes_of attributes.now)))) }
     ensures names { IfOk result (λ d. names_in d ≡ attribute_names (attributes_of attributes.now)) }
 {
@@ -114,7 +112,7 @@ fn check_attribute_names<'a>(
 
 // Reports a name of an IDENT list that is no attribute.
 fn check_listed_name<'a>(attributes: &NameIndex<'a>, name: &'a Ident, earliest: &mut Earliest<'a>)
-    ensures { fault_in earliest.new ≡ first_from (fault_in earliest.old)
+    ensures { Reports earliest.old earliest.new
         (no_attribute (texts (names_in attributes.now)) (ident_of name.now)) }
 {
     let there = attributes.has(name.text.bytes());
@@ -127,7 +125,7 @@ fn check_listed_names<'a>(
     list: &'a IdentList,
     earliest: &mut Earliest<'a>,
 )
-    ensures { fault_in earliest.new ≡ first_from (fault_in earliest.old)
+    ensures { Reports earliest.old earliest.new
         (flat_map (no_attribute (texts (names_in attributes.now))) (names_of list.now)) }
 {
     for name in &list.names {
@@ -143,8 +141,7 @@ fn check_list<'a>(
     list: &'a IdentList,
     earliest: &mut Earliest<'a>,
 ) -> Result<(), Memory>
-    ensures { OnOk result (fault_in earliest.new
-        ≡ first_from (fault_in earliest.old)
+    ensures { OnOk result (Reports earliest.old earliest.new
         (list_faults (texts (names_in attributes.now)) (names_of list.now))) }
 {
     let names = listed_names(alloc, list)?;
@@ -160,8 +157,7 @@ fn check_lists<'a>(
     lists: &'a [IdentList],
     earliest: &mut Earliest<'a>,
 ) -> Result<(), Memory>
-    ensures { OnOk result (fault_in earliest.new
-        ≡ first_from (fault_in earliest.old)
+    ensures { OnOk result (Reports earliest.old earliest.new
         (lists_faults (texts (names_in attributes.now)) (lists_of lists.now))) }
 {
     for list in lists {
@@ -179,8 +175,7 @@ pub fn check_names<'a>(
     lists: &'a [IdentList],
     earliest: &mut Earliest<'a>,
 ) -> Result<(), Memory>
-    ensures { OnOk result (fault_in earliest.new
-        ≡ first_from (fault_in earliest.old)
+    ensures { OnOk result (Reports earliest.old earliest.new
         (names_faults (attributes_of attributes.now) (lists_of lists.now))) }
 {
     let names = check_attribute_names(alloc, attributes, earliest)?;

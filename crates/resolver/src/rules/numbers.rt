@@ -1,10 +1,9 @@
 // The rules on bounds.
-ghost use Rattle.std.specs.Prelude.{◌≡◌, ◌∷◌, []};
+ghost use Rattle.std.specs.Prelude.{◌∷◌, []};
 ghost use Rattle.ili_grammar.specs.Syntax.{Coord2, Coord3};
 ghost use Rattle.ili_grammar.specs.Limits.{IsSmallSpan, IsSmallType};
 ghost use Rattle.ili_grammar.specs.Values.{ident_of, span_of, corners2_of, corners3_of, type_of};
-ghost use Rattle.resolver.specs.Faults.{first_from};
-ghost use Rattle.resolver.specs.FaultViews.{fault_in};
+ghost use Rattle.resolver.specs.FaultViews.{Reports};
 ghost use Rattle.resolver.specs.Numbers.{most_decimals};
 ghost use Rattle.resolver.specs.Rules.{spans_faults, numbers_faults};
 
@@ -17,7 +16,7 @@ use ili_grammar::{Corners2, Corners3, Ident, Span, TypeSyntax};
 #[tactic(auto, using(crate::proofs::Folds::first_append))]
 fn check_span<'a>(owner: &'a Ident, span: Span, earliest: &mut Earliest<'a>)
     requires { IsSmallSpan (span_of span) }
-    ensures { fault_in earliest.new ≡ first_from (fault_in earliest.old)
+    ensures { Reports earliest.old earliest.new
         (spans_faults (ident_of owner.now) (most_decimals (span_of span ∷ []))
         (span_of span ∷ [])) }
 {
@@ -30,7 +29,7 @@ fn check_span<'a>(owner: &'a Ident, span: Span, earliest: &mut Earliest<'a>)
 #[tactic(auto, using(crate::proofs::Folds::first_append))]
 fn check_corners2<'a>(owner: &'a Ident, corners: Corners2, earliest: &mut Earliest<'a>)
     requires { IsSmallSpan (corners2_of corners).x × IsSmallSpan (corners2_of corners).y }
-    ensures { fault_in earliest.new ≡ first_from (fault_in earliest.old)
+    ensures { Reports earliest.old earliest.new
         (numbers_faults (ident_of owner.now) (Coord2 (corners2_of corners))) }
 {
     let scale = scale2(corners);
@@ -45,7 +44,7 @@ fn check_corners2<'a>(owner: &'a Ident, corners: Corners2, earliest: &mut Earlie
 fn check_corners3<'a>(owner: &'a Ident, corners: Corners3, earliest: &mut Earliest<'a>)
     requires { IsSmallSpan (corners3_of corners).x × IsSmallSpan (corners3_of corners).y
         × IsSmallSpan (corners3_of corners).z }
-    ensures { fault_in earliest.new ≡ first_from (fault_in earliest.old)
+    ensures { Reports earliest.old earliest.new
         (numbers_faults (ident_of owner.now) (Coord3 (corners3_of corners))) }
 {
     let scale = scale3(corners);
@@ -62,18 +61,18 @@ fn check_corners3<'a>(owner: &'a Ident, corners: Corners3, earliest: &mut Earlie
 /// Reports the rules on numbers that the bounds of a type break.
 pub fn check_numbers<'a>(owner: &'a Ident, kind: &TypeSyntax, earliest: &mut Earliest<'a>)
     requires { IsSmallType (type_of kind.now) }
-    ensures { fault_in earliest.new ≡ first_from (fault_in earliest.old)
+    ensures { Reports earliest.old earliest.new
         (numbers_faults (ident_of owner.now) (type_of kind.now)) }
 {
     match kind {
         TypeSyntax::Coord2(corners) => check_corners2(owner, *corners, earliest),
         TypeSyntax::Coord3(corners) => check_corners3(owner, *corners, earliest),
-        TypeSyntax::Dim1(span) => check_span(owner, *span, earliest),
-        TypeSyntax::Dim2(span) => check_span(owner, *span, earliest),
-        TypeSyntax::Radians(span) => check_span(owner, *span, earliest),
-        TypeSyntax::Grads(span) => check_span(owner, *span, earliest),
-        TypeSyntax::Degrees(span) => check_span(owner, *span, earliest),
-        TypeSyntax::Range(span) => check_span(owner, *span, earliest),
+        TypeSyntax::Dim1(span)
+        | TypeSyntax::Dim2(span)
+        | TypeSyntax::Radians(span)
+        | TypeSyntax::Grads(span)
+        | TypeSyntax::Degrees(span)
+        | TypeSyntax::Range(span) => check_span(owner, *span, earliest),
         _ => {}
     }
 }

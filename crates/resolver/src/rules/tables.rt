@@ -1,8 +1,7 @@
 // The rules on the tables of a topic.
-ghost use Rattle.std.specs.Prelude.{◌≡◌, All, OnOk};
+ghost use Rattle.std.specs.Prelude.{All, OnOk};
 ghost use Rattle.ili_grammar.specs.Values.{attributes_of, table_of, tables_of};
-ghost use Rattle.resolver.specs.Faults.{first_from};
-ghost use Rattle.resolver.specs.FaultViews.{fault_in};
+ghost use Rattle.resolver.specs.FaultViews.{Reports};
 ghost use Rattle.resolver.specs.ScopeViews.{scope_of};
 ghost use Rattle.ili_grammar.specs.Limits.{IsSmallTable, AreSmallAttributes};
 ghost use Rattle.resolver.specs.Limits.{IsSmallScope};
@@ -27,8 +26,7 @@ fn check_attributes<'a>(
 ) -> Result<(), Memory>
     requires scope { IsSmallScope (scope_of scope.now) }
     requires attributes { AreSmallAttributes (attributes_of attributes.now) }
-    ensures { OnOk result (fault_in earliest.new
-        ≡ first_from (fault_in earliest.old)
+    ensures { OnOk result (Reports earliest.old earliest.new
         (attributes_faults (scope_of scope.now) (attributes_of attributes.now))) }
 {
     for attribute in attributes {
@@ -47,8 +45,7 @@ fn check_table<'a>(
 ) -> Result<(), Memory>
     requires scope { IsSmallScope (scope_of scope.now) }
     requires table { IsSmallTable (table_of table.now) }
-    ensures { OnOk result (fault_in earliest.new
-        ≡ first_from (fault_in earliest.old)
+    ensures { OnOk result (Reports earliest.old earliest.new
         (table_faults (scope_of scope.now) (table_of table.now))) }
 {
     check_names(alloc, &table.attributes, &table.idents, earliest)?;
@@ -65,8 +62,7 @@ pub fn check_tables<'a>(
 ) -> Result<(), Memory>
     requires scope { IsSmallScope (scope_of scope.now) }
     requires tables { All IsSmallTable (tables_of tables.now) }
-    ensures { OnOk result (fault_in earliest.new
-        ≡ first_from (fault_in earliest.old)
+    ensures { OnOk result (Reports earliest.old earliest.new
         (tables_faults (scope_of scope.now) (tables_of tables.now))) }
 {
     check_table_names(alloc, scope, tables, earliest)?;

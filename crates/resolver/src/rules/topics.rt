@@ -1,8 +1,7 @@
 // The rules on the topics of a model.
 ghost use Rattle.std.specs.Prelude.{◌≡◌, ◌++◌, [], All, map, flat_map, IfOk, OnOk};
 ghost use Rattle.ili_grammar.specs.Values.{tables_of, topic_of, topics_of};
-ghost use Rattle.resolver.specs.Faults.{first_from};
-ghost use Rattle.resolver.specs.FaultViews.{fault_in};
+ghost use Rattle.resolver.specs.FaultViews.{Reports};
 ghost use Rattle.resolver.specs.ScopeViews.{scope_of};
 ghost use Rattle.resolver.specs.Indexed.{idents};
 ghost use Rattle.resolver.specs.DomainScopes.{domains_in, StepsFrom};
@@ -15,8 +14,8 @@ use super::names::check_unique;
 use super::tables::check_tables;
 use crate::earliest::Earliest;
 use crate::scope::Scope;
-use crate::scope::declared::{table_index, topic_domains};
 use crate::scope::domain_scope::DomainScope;
+use crate::scope::topic_scope::TopicScope;
 use ili_grammar::{Ident, TableSyntax, TopicSyntax};
 use ports::Memory;
 use std::alloc::Global;
@@ -32,8 +31,7 @@ fn check_parts<'a>(
     requires scope { IsSmallScope (scope_of scope.now) }
     requires few { AreFew (scope_of scope.now).own }
     requires tables { All IsSmallTable (tables_of tables.now) }
-    ensures { OnOk result (fault_in earliest.new
-        ≡ first_from (fault_in earliest.old)
+    ensures { OnOk result (Reports earliest.old earliest.new
         (domains_faults (scope_of scope.now)
         ++ tables_faults (scope_of scope.now) (tables_of tables.now))) }
 {
@@ -52,18 +50,11 @@ fn check_topic<'a>(
     requires above { All IsSmallDomain (domains_in above.now) }
     requires topic { IsSmallTopic (topic_of topic.now) }
     requires few { HasFewDomains (topic_of topic.now) }
-    ensures { OnOk result (fault_in earliest.new
-        ≡ first_from (fault_in earliest.old)
+    ensures { OnOk result (Reports earliest.old earliest.new
         (topic_faults (domains_in above.now) (topic_of topic.now))) }
 {
-    let own = topic_domains(alloc, above, &topic.domains)?;
-    let tables = table_index(alloc, &topic.tables)?;
-    let scope = Scope {
-        above: Some(above),
-        own: &own,
-        tables: Some(&tables),
-    };
-    check_parts(alloc, &scope, &topic.tables, earliest)
+    let own = TopicScope::new(alloc, above, topic)?;
+    check_parts(alloc, &own.scope(), &topic.tables, earliest)
 }
 
 // The names of some topics.
@@ -88,8 +79,7 @@ fn check_each<'a>(
     requires above { All IsSmallDomain (domains_in above.now) }
     requires topics { All IsSmallTopic (topics_of topics.now) }
     requires few { All HasFewDomains (topics_of topics.now) }
-    ensures { OnOk result (fault_in earliest.new
-        ≡ first_from (fault_in earliest.old)
+    ensures { OnOk result (Reports earliest.old earliest.new
         (flat_map (topic_faults (domains_in above.now)) (topics_of topics.now))) }
 {
     for topic in topics {
@@ -111,8 +101,7 @@ pub fn check_topics<'a>(
     requires above { All IsSmallDomain (domains_in above.now) }
     requires topics { All IsSmallTopic (topics_of topics.now) }
     requires few { All HasFewDomains (topics_of topics.now) }
-    ensures { OnOk result (fault_in earliest.new
-        ≡ first_from (fault_in earliest.old)
+    ensures { OnOk result (Reports earliest.old earliest.new
         (twice_in (map (λ t. t.name) (topics_of topics.now))
         ++ flat_map (topic_faults (domains_in above.now)) (topics_of topics.now))) }
 {

@@ -1,10 +1,9 @@
 // The rules on types: of a domain, of an attribute, and of the attributes of a line.
-ghost use Rattle.std.specs.Prelude.{◌≡◌, ◌++◌, OnOk};
+ghost use Rattle.std.specs.Prelude.{◌++◌, OnOk};
 ghost use Rattle.std.specs.Option.{option_map};
 ghost use Rattle.ili_grammar.specs.Values.{ident_of, decimal_of, element_of, elements_of, type_of};
 ghost use Rattle.ili_grammar.specs.Values.{line_of, attribute_of, attributes_of};
-ghost use Rattle.resolver.specs.Faults.{first_from};
-ghost use Rattle.resolver.specs.FaultViews.{fault_in};
+ghost use Rattle.resolver.specs.FaultViews.{Reports};
 ghost use Rattle.resolver.specs.ScopeViews.{scope_of};
 ghost use Rattle.ili_grammar.specs.Limits.{IsSmallType, IsSmallLine, IsSmallAttribute};
 ghost use Rattle.ili_grammar.specs.Limits.{AreSmallAttributes};
@@ -38,7 +37,7 @@ fn check_vertex_type<'a>(
 )
     requires kind { IsSmallType (type_of kind.now) }
     requires overlap { IsSmallOverlap (option_map decimal_of overlap) }
-    ensures { fault_in earliest.new ≡ first_from (fault_in earliest.old)
+    ensures { Reports earliest.old earliest.new
         (kind_faults (ident_of owner.now) shape (ident_of vertex.now)
         (option_map decimal_of overlap) (type_of kind.now)) }
 {
@@ -60,7 +59,7 @@ fn check_vertex<'a>(
 )
     requires scope { IsSmallScope (scope_of scope.now) }
     requires overlap { IsSmallOverlap (option_map decimal_of overlap) }
-    ensures { fault_in earliest.new ≡ first_from (fault_in earliest.old)
+    ensures { Reports earliest.old earliest.new
         (vertex_faults (scope_of scope.now) (ident_of owner.now) shape (ident_of vertex.now)
         (option_map decimal_of overlap)) }
 {
@@ -78,7 +77,7 @@ fn check_line_attribute<'a>(
     attribute: &'a AttributeSyntax,
     earliest: &mut Earliest<'a>,
 )
-    ensures { fault_in earliest.new ≡ first_from (fault_in earliest.old)
+    ensures { Reports earliest.old earliest.new
         (line_attribute_fault (scope_of scope.now) (attribute_of attribute.now)) }
 {
     let line = stands_for_line(scope, &attribute.content);
@@ -91,7 +90,7 @@ fn check_line_attributes<'a>(
     attributes: &'a [AttributeSyntax],
     earliest: &mut Earliest<'a>,
 )
-    ensures { fault_in earliest.new ≡ first_from (fault_in earliest.old)
+    ensures { Reports earliest.old earliest.new
         (line_attribute_faults (scope_of scope.now) (attributes_of attributes.now)) }
 {
     for attribute in attributes {
@@ -105,8 +104,8 @@ fn check_parts<'a>(
     alloc: Global,
     earliest: &mut Earliest<'a>,
 ) -> Result<(), Memory>
-    ensures { OnOk result (fault_in earliest.new
-        ≡ first_from (fault_in earliest.old) (element_faults (element_of element.now))) }
+    ensures { OnOk result (Reports earliest.old earliest.new
+        (element_faults (element_of element.now))) }
 {
     check_elements(alloc, &element.parts, earliest)?;
     for part in &element.parts {
@@ -122,8 +121,7 @@ fn check_enumeration<'a>(
     alloc: Global,
     earliest: &mut Earliest<'a>,
 ) -> Result<(), Memory>
-    ensures { OnOk result (fault_in earliest.new
-        ≡ first_from (fault_in earliest.old)
+    ensures { OnOk result (Reports earliest.old earliest.new
         (twice_in (element_names (elements_of elements.now))
         ++ parts_faults (elements_of elements.now))) }
 {
@@ -145,8 +143,7 @@ pub fn check_type<'a>(
 ) -> Result<(), Memory>
     requires kind { IsSmallType (type_of kind.now) }
     requires scope { IsSmallScope (scope_of scope.now) }
-    ensures { OnOk result (fault_in earliest.new
-        ≡ first_from (fault_in earliest.old)
+    ensures { OnOk result (Reports earliest.old earliest.new
         (type_faults (scope_of scope.now) (ident_of owner.now) (type_of kind.now))) }
 {
     match kind {
@@ -186,8 +183,7 @@ fn check_line<'a>(
 ) -> Result<(), Memory>
     requires line { IsSmallLine (line_of line.now) }
     requires scope { IsSmallScope (scope_of scope.now) }
-    ensures { OnOk result (fault_in earliest.new
-        ≡ first_from (fault_in earliest.old)
+    ensures { OnOk result (Reports earliest.old earliest.new
         (line_faults (scope_of scope.now) (ident_of owner.now) shape (line_of line.now))) }
 {
     check_vertex(scope, owner, shape, &line.vertex, line.overlap, earliest);
@@ -209,8 +205,7 @@ pub fn check_attribute<'a>(
 ) -> Result<(), Memory>
     requires attribute { IsSmallAttribute (attribute_of attribute.now) }
     requires scope { IsSmallScope (scope_of scope.now) }
-    ensures { OnOk result (fault_in earliest.new
-        ≡ first_from (fault_in earliest.old)
+    ensures { OnOk result (Reports earliest.old earliest.new
         (attribute_faults (scope_of scope.now) (attribute_of attribute.now))) }
 {
     match &attribute.content {

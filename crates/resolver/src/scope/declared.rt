@@ -1,15 +1,13 @@
-// What a model declares: domains outside the topics and in them, tables and attributes.
+// What a model declares: domains, tables and attributes.
 ghost use Rattle.std.specs.Prelude.{◌≡◌, ◌++◌, [], IfOk, OnOk};
 ghost use Rattle.ili_grammar.specs.Values.{attributes_of, domains_of, model_of, tables_of};
 ghost use Rattle.resolver.specs.Rules.{attribute_names};
-ghost use Rattle.resolver.specs.Scopes.{domain_names, everywhere, table_names, texts};
+ghost use Rattle.resolver.specs.Scopes.{everywhere, table_names};
 ghost use Rattle.resolver.specs.Indexed.{idents};
-ghost use Rattle.resolver.specs.NameIndexes.{names_in};
 ghost use Rattle.resolver.specs.Steps.{domains_at};
 ghost use Rattle.resolver.specs.DomainScopes.{domains_in, StepsFrom};
 
 use super::domain_scope::DomainScope;
-use super::name_index::NameIndex;
 use ili_grammar::{AttributeSyntax, DomainSyntax, Ident, ModelSyntax, TableSyntax};
 use ports::Memory;
 use std::alloc::Global;
@@ -37,27 +35,6 @@ pub fn table_names<'a>(alloc: Global, tables: &'a [TableSyntax]) -> Result<Vec<&
         names.push(&table.name)?;
     }
     Ok(names)
-}
-
-/// The domains of a topic, where those of `above` are declared further out.
-pub fn topic_domains<'a>(
-    alloc: Global,
-    above: &DomainScope<'a>,
-    domains: &'a [DomainSyntax],
-) -> Result<DomainScope<'a>, Memory>
-    ensures domains { IfOk result (λ l. domains_in l ≡ domains_of domains.now) }
-    ensures steps { IfOk result (StepsFrom (texts (domain_names (domains_in above.now)))) }
-{
-    let mut all = Vec::new(alloc);
-    push_domains(domains, &mut all)?;
-    DomainScope::new(alloc, Some(above.names()), all)
-}
-
-/// The names of some tables, each with its place.
-pub fn table_index<'a>(alloc: Global, tables: &'a [TableSyntax]) -> Result<NameIndex<'a>, Memory>
-    ensures { IfOk result (λ d. names_in d ≡ table_names (tables_of tables.now)) }
-{
-    NameIndex::new(alloc, table_names(alloc, tables)?)
 }
 
 /// The domains that are declared outside the topics.

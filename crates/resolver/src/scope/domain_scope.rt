@@ -116,8 +116,7 @@ impl<'a> DomainScope<'a> {
     ghost use Rattle.ili_grammar.specs.Limits.{IsSmallDomain, IsSmallType};
     ghost use Rattle.resolver.specs.DomainScopes.{domains_in, StepsFrom, target_in};
     ghost use Rattle.std.specs.Prelude.{◌≤◌, OnOk};
-    ghost use Rattle.resolver.specs.Faults.{first_from};
-    ghost use Rattle.resolver.specs.FaultViews.{fault_in};
+    ghost use Rattle.resolver.specs.FaultViews.{Reports};
     ghost use Rattle.resolver.specs.Rules.{cycle_faults};
     ghost use Rattle.resolver.specs.Scopes.{place};
 
@@ -169,8 +168,7 @@ impl<'a> DomainScope<'a> {
     /// Reports each domain that leads back to itself.
     pub fn check_cycles(&self, alloc: Global, earliest: &mut Earliest<'a>) -> Result<(), Memory>
         requires { length (domains_in self.now) ≤ 4194304 }
-        ensures { OnOk result (fault_in earliest.new
-            ≡ first_from (fault_in earliest.old)
+        ensures { OnOk result (Reports earliest.old earliest.new
             (cycle_faults (step_in self.now.steps.items) 0 (domains_in self.now))) }
     {
         let marks = cyclic(alloc, &self.steps, &self.targets)?;

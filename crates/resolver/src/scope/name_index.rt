@@ -39,11 +39,10 @@ fn first_places<'a>(alloc: Global, names: &[&'a Ident]) -> Result<IndexMap<Key<'
 impl<'a> NameIndex<'a> {
     ghost use Rattle.std.specs.Prelude.{◌≡◌, ◌++◌, map, take, IfOk};
     ghost use Rattle.resolver.specs.Scopes.{texts, place, is_among};
-    ghost use Rattle.resolver.specs.Faults.{first_from};
     ghost use Rattle.resolver.specs.Rules.{twice, entry};
     ghost use Rattle.resolver.specs.Indexed.{idents};
     ghost use Rattle.resolver.specs.NameIndexes.{names_in, names_if};
-    ghost use Rattle.resolver.specs.FaultViews.{fault_in};
+    ghost use Rattle.resolver.specs.FaultViews.{Reports};
 
     /// The names in their order.
     pub fn new(alloc: Global, names: Vec<&'a Ident>) -> Result<NameIndex<'a>, Memory>
@@ -89,7 +88,7 @@ impl<'a> NameIndex<'a> {
 
     /// Reports each name that stands among those of `above` or among the names before it.
     pub fn check_unique(&self, above: Option<&NameIndex<'a>>, earliest: &mut Earliest<'a>)
-        ensures { fault_in earliest.new ≡ first_from (fault_in earliest.old)
+        ensures { Reports earliest.old earliest.new
             (twice (texts (names_if above.entry)) (map entry (names_in self.now))) }
     {
         for (place, name) in self.names.iter().enumerate() {

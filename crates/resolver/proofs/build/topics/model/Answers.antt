@@ -18,7 +18,7 @@ topics-requires-clause-written c = subst (λ (l : List topic.TopicSyntax). All I
 
 pub returns : goal.returns
 returns c =
-    let ts : built_topics c.in_ok-topics.topics.items ≡ map (spec_topic (everywhere (model_of c.args.written.now))) (topics_of c.args.written.now.topics.items) =
+    let ts : built_topics c.in_ok-topics.field-0.items ≡ map (spec_topic (everywhere (model_of c.args.written.now))) (topics_of c.args.written.now.topics.items) =
     c.in_ok-topics.ensures ∙ ap (λ (ds : List DomainSyntax). map (spec_topic ds) (topics_of c.deref.result.now)) c.requires.domains
     ∙ ap (λ (l : List topic.TopicSyntax). map (spec_topic (everywhere (model_of c.args.written.now))) (topics_of l)) c.deref.ensures.value in
     let name = c.in_ok-new.ensures ∙ c.bytes.ensures in

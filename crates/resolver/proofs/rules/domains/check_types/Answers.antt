@@ -11,12 +11,12 @@ use Rattle.resolver.proofs.Folds.{told_over}
 use Rattle.resolver.proofs.DomainRules.{short_item}
 use Rattle.resolver.proofs.rules.domains.check_types.Goals as goal
 
-pub check_domain-requires-clause-domain : goal.check_domain-requires-clause-domain
-check_domain-requires-clause-domain c = short_item c.args.domains.now c.loop-domain.domain-index c.domain-item.result c.requires.domains c.loop-domain-test.true c.domain-item.is
+pub check_type-requires-clause-kind : goal.check_type-requires-clause-kind
+check_type-requires-clause-kind c = short_item c.args.domains.now c.loop-domain.domain-index c.domain-item.result c.requires.domains c.loop-domain-test.true c.domain-item.is
 
 pub loop-domain-preserved : goal.loop-domain-preserved
 loop-domain-preserved c =
     told_over (λ (l : List (Bor domain.DomainSyntax)). flat_map (domain_faults (scope_of c.args.scope.now)) (domains_at l)) c.loop-domain.domain-index c.args.domains.now c.args.domains.now c.domain-item.result
-    (domain_faults (scope_of c.args.scope.now) (domain_of c.domain-item.result.now)) (fault_in c.loop-domain.earliest) (fault_in c.check_domain.new.earliest)
-    (λ rest. refl) refl c.loop-domain-test.true c.domain-item.is c.in_ok-check_domain.ensures
+    (domain_faults (scope_of c.args.scope.now) (domain_of c.domain-item.result.now)) (fault_in c.loop-domain.earliest) (fault_in c.check_type.new.earliest)
+    (λ rest. refl) refl c.loop-domain-test.true c.domain-item.is c.in_ok-check_type.ensures
     ∙ c.loop-domain.invariant

@@ -2,7 +2,7 @@ use Rattle.std.proofs.Common.{List, length, refl, ◌∙◌, ap, sym}
 use Rattle.std.specs.Borrow.{Bor}
 use Rattle.ili_grammar.specs.declared.syntax.DomainSyntax as domain
 use Rattle.resolver.specs.Scopes.{texts, domain_names}
-use Rattle.resolver.specs.NameIndexes.{names_in, names_if}
+use Rattle.resolver.specs.NameIndexes.{names_if}
 use Rattle.resolver.specs.Steps.{domains_at, steps_of}
 use Rattle.resolver.proofs.Levels.{within_some}
 use Rattle.resolver.proofs.scope.domain_scope.DomainScope.new.Goals as goal
