@@ -110,7 +110,7 @@ fn each_keyword_and_each_mark_is_read(rt: HostRuntime) {
     has_kinds(&rt, rt.alloc(), b"; : , = ( ) [ ] * > . .. ->", &MARKS);
 }
 
-// The line, the column, the first byte and the byte behind the last of each token.
+// The line, the column, the first byte and the byte after the last of each token.
 const PLACES: [(u32, u32, u32, u32); 6] = [
     (1, 1, 0, 1),
     (2, 2, 4, 9),

@@ -4,7 +4,7 @@ use Rattle.std.specs.List.{All, sum_by, flat_map}
 use Rattle.std.proofs.lemmas.List.Sums.{sum_by-cons}
 use Rattle.std.proofs.lemmas.List.Elements.{All-nil, All-cons, All-head, All-tail, All-weaker}
 use Rattle.resolver.specs.Resolved.{Attribute, an_attribute, Value, Polyline, Surface, Area, a_part, ModelTable, Topic}
-use Rattle.resolver.specs.Sound.{listed, table_names, topic_names, IsSoundAttribute, IsSoundTable, IsSoundTopic}
+use Rattle.resolver.specs.Sound.{listed, table_name_count, topic_name_count, IsSoundAttribute, IsSoundTable, IsSoundTopic}
 use Rattle.table_layout.specs.Attributes.{columns_of}
 use Rattle.table_layout.specs.Tables.{Owner, area_count, surface_count, areas_in, surfaces_in, tables_in, numbers_from, area_table, area_tables, surface_table, main_table, with_helpers, tables_beside, topic_tables}
 use Rattle.table_layout.specs.Few.{HasFew, AreFew, IsSmallTable, IsSmallTopic, numbers_in}
@@ -54,13 +54,13 @@ helpers_few : (own : List Attribute) → areas_in own + surfaces_in own ≤ leng
 helpers_few [] = omega arith
 helpers_few (a ∷ as_) = omega (arith, helper_count a, helpers_few as_)
 
-tables_few : (ts : List ModelTable) → tables_in ts ≤ sum_by table_names ts
+tables_few : (ts : List ModelTable) → tables_in ts ≤ sum_by table_name_count ts
 tables_few [] = omega arith
-tables_few (t ∷ ts) = omega (arith, sum_by-cons table_names t ts, helpers_few (listed t.attributes), tables_few ts)
+tables_few (t ∷ ts) = omega (arith, sum_by-cons table_name_count t ts, helpers_few (listed t.attributes), tables_few ts)
 
-pub numbers_few : (ts : List Topic) → numbers_in ts ≤ sum_by topic_names ts
+pub numbers_few : (ts : List Topic) → numbers_in ts ≤ sum_by topic_name_count ts
 numbers_few [] = omega arith
-numbers_few (t ∷ ts) = omega (arith, sum_by-cons topic_names t ts, tables_few t.tables, numbers_few ts)
+numbers_few (t ∷ ts) = omega (arith, sum_by-cons topic_name_count t ts, tables_few t.tables, numbers_few ts)
 
 -- ---- what is sound is small
 small_attribute : (k : ℕ) (a : Attribute) → IsSoundAttribute k a → HasFew a
@@ -69,16 +69,16 @@ small_attribute k (an_attribute n o (Polyline l)) h = tt
 small_attribute k (an_attribute n o (Surface l (a_part own lists))) h = h.few
 small_attribute k (an_attribute n o (Area l (a_part own lists))) h = h.1.few
 
-small_tables : (k : ℕ) (ts : List ModelTable) → sum_by table_names ts ≤ 4194304 → All (IsSoundTable k) ts → All IsSmallTable ts
+small_tables : (k : ℕ) (ts : List ModelTable) → sum_by table_name_count ts ≤ 4194304 → All (IsSoundTable k) ts → All IsSmallTable ts
 small_tables k [] few h = All-nil IsSmallTable
 small_tables k (t ∷ ts) few h =
-    let cons = sum_by-cons table_names t ts in
+    let cons = sum_by-cons table_name_count t ts in
     let sound = All-head (IsSoundTable k) t ts h in
     let small : AreFew (listed t.attributes) = record { few = omega arith; lines = All-weaker (IsSoundAttribute k) HasFew (small_attribute k) (listed t.attributes) sound.attributes } in
     All-cons IsSmallTable t ts small (small_tables k ts (omega arith) (All-tail (IsSoundTable k) t ts h))
 
-pub small_topics : (ts : List Topic) → sum_by topic_names ts ≤ 4194304 → All IsSoundTopic ts → All IsSmallTopic ts
+pub small_topics : (ts : List Topic) → sum_by topic_name_count ts ≤ 4194304 → All IsSoundTopic ts → All IsSmallTopic ts
 small_topics [] few h = All-nil IsSmallTopic
 small_topics (t ∷ ts) few h =
-    let cons = sum_by-cons topic_names t ts in
+    let cons = sum_by-cons topic_name_count t ts in
     All-cons IsSmallTopic t ts (small_tables (length t.tables) t.tables (omega arith) (All-head IsSoundTopic t ts h)) (small_topics ts (omega arith) (All-tail IsSoundTopic t ts h))

@@ -3,7 +3,6 @@ use Rattle.std.proofs.Common.{false, ◌≡◌, ◌<◌, ◌+◌, ◌≤◌, ℕ
 use Rattle.std.specs.Prelude.{slice_get}
 use Rattle.std.specs.List.{All, flat_map}
 use Rattle.std.proofs.lemmas.List.Elements.{All-nil, All-cons, All-head, All-tail, All-append, All-weaker}
-use Rattle.std.proofs.lemmas.Option.{slice_get_within}
 use Rattle.resolver.specs.Resolved.{Form, Reference, AreaPoint, Attribute, an_attribute, Value, Polyline, Surface, Area, a_part}
 use Rattle.resolver.specs.Sound.{listed, IsWithin, IsLineAttribute, IsSoundPart, IsSoundAttribute}
 use Rattle.table_layout.specs.Layouts.{Main, Column, Table}

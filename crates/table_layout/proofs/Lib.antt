@@ -5,6 +5,7 @@ pub mod Counts
 pub mod Whole
 pub mod Located
 pub mod HelpersValid
+pub mod NamesValid
 pub mod Validity
 pub mod Rows
 pub mod Named

@@ -1,19 +1,18 @@
 -- Each table of a layout is found by its name in its topic, where names are different.
-use Rattle.std.proofs.Common.{◌≡◌, ◌<◌, ◌≤◌, ◌+◌, ℕ, zero, suc, List, [], ◌∷◌, ◌++◌, length, map, Bool, true, false, cond, Option, Some, None, refl, ◌∙◌, sym, ap, subst, arith, nat_eq, count_by}
+use Rattle.std.proofs.Common.{◌≡◌, ◌<◌, ◌≤◌, ◌+◌, ℕ, zero, suc, List, [], ◌∷◌, ◌++◌, length, Bool, true, false, cond, Some, refl, ◌∙◌, ap, arith, nat_eq, count_by}
 use Rattle.std.specs.Prelude.{slice_get, ◌&&◌, ◌==◌}
 use Rattle.std.specs.List.{All, flat_map, position_from}
 use Rattle.std.specs.Cmp.Lexicographic.{pointwise}
-use Rattle.std.proofs.lemmas.Bool.{eqb-true, eqb-false, eq-eqb}
+use Rattle.std.proofs.lemmas.Bool.{eqb-true, eq-eqb}
 use Rattle.std.proofs.lemmas.Slice.Eq.{bytes_eq-Decides}
 use Rattle.std.proofs.lemmas.List.Sums.{sum_by-cons, sum_by-append}
 use Rattle.std.proofs.lemmas.List.Elements.{All-head, All-tail}
 use Rattle.resolver.specs.Resolved.{Attribute, an_attribute, Value, Polyline, Surface, Area, a_part, ModelTable, Topic, ResolvedModel}
 use Rattle.resolver.specs.Sound.{listed}
 use Rattle.table_layout.specs.Attributes.{columns_of}
-use Rattle.table_layout.specs.Finding.{is_named, number_of}
-use Rattle.table_layout.specs.Layouts.{Table, Layout}
+use Rattle.table_layout.specs.Finding.{is_named}
+use Rattle.table_layout.specs.Layouts.{Table}
 use Rattle.table_layout.specs.Names.{times, AreDifferent, helper_names, names_taken, topic_names_taken, HasOwnNames, IsFoundByName}
-use Rattle.resolver.specs.Rules.{helper_name}
 use Rattle.table_layout.specs.Tables.{Owner, area_table, area_tables, surface_table, main_table, with_helpers, areas_in, surfaces_in, numbers_from, tables_beside, topic_tables, tables_from, layout_of, topic_names_of}
 
 -- ---- counting

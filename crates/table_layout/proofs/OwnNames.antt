@@ -1,42 +1,29 @@
 -- A model without faults has different names.
-use Rattle.std.proofs.Common.{◌≡◌, ◌≤◌, ◌+◌, ℕ, List, [], ◌∷◌, ◌++◌, length, map, Bool, true, false, cond, ◌||◌, Option, Some, None, refl, ◌∙◌, sym, ap, subst, arith, nat_eq, count_by, append_assoc, append-nil}
-use Rattle.std.specs.List.{All, flat_map, list_any}
-use Rattle.std.specs.Option.{is_some, option_map_or}
+use Rattle.std.proofs.Common.{◌≡◌, ◌≤◌, ◌+◌, ℕ, List, [], ◌∷◌, ◌++◌, length, map, Bool, true, false, cond, Option, Some, None, refl, ◌∙◌, sym, ap, subst, arith, nat_eq, append_assoc, append-nil}
+use Rattle.std.specs.List.{All, flat_map}
+use Rattle.std.specs.Option.{option_map_or}
 use Rattle.std.specs.Cmp.Lexicographic.{pointwise}
 use Rattle.std.proofs.lemmas.Bool.{true≢false, or_parts}
 use Rattle.std.proofs.lemmas.Slice.Eq.{bytes_eq-Decides}
 use Rattle.std.proofs.lemmas.List.Sums.{sum_by-cons, sum_by-append}
 use Rattle.std.proofs.lemmas.List.Elements.{All-nil, All-cons}
-use Rattle.ili_grammar.specs.Syntax as syntax
-use Rattle.ili_grammar.specs.Syntax.{Ident, Attributes, no_attributes, and_attribute, AttributeSyntax, an_attribute, Content, Value, Reference, TypeSyntax, Named, Coord2, Coord3, Dim1, Dim2, Radians, Grads, Degrees, Range, Text, Date, Enumeration, HAlignment, VAlignment, Polyline, Surface, Area, DomainSyntax, TableSyntax, TopicSyntax, ModelSyntax}
+use Rattle.ili_grammar.specs.Syntax.{Ident, Attributes, no_attributes, and_attribute, AttributeSyntax, an_attribute, Value, Reference, TypeSyntax, Named, Coord2, Coord3, Dim1, Dim2, Radians, Grads, Degrees, Range, Text, Date, Enumeration, HAlignment, VAlignment, Polyline, Surface, Area, DomainSyntax, TableSyntax, TopicSyntax, ModelSyntax}
 use Rattle.resolver.specs.declared.faults.ModelCode.TheVariants as code
-use Rattle.resolver.specs.Faults.{Fault, is_before, first_from, fault_if}
-use Rattle.resolver.specs.Lines.{is_boundary, stands_for}
+use Rattle.resolver.specs.Faults.{Fault, fault_if}
+use Rattle.resolver.specs.Lines.{is_boundary}
 use Rattle.resolver.specs.Models.{type_form, meaning_form, attribute, attributes, table, topic, resolved_model}
 use Rattle.resolver.specs.Resolved as resolved
 use Rattle.resolver.specs.Resolved.{ModelTable, Topic}
-use Rattle.resolver.specs.Rules.{Entry, entry, twice, twice_in, helper, helpers, table_entries, table_faults, domains_faults, tables_faults, topic_faults, faults, first_fault, helper_name}
+use Rattle.resolver.specs.Rules.{Entry, entry, twice, twice_in, helper, helpers, table_entries, table_faults, domains_faults, topic_faults, faults, helper_name}
 use Rattle.resolver.specs.Scopes.{Scope, Meaning, is_among, same, everywhere, outside, inside, meant}
 use Rattle.resolver.specs.Sound.{listed}
 use Rattle.table_layout.specs.Names.{times, AreDifferent, helper_names, names_taken, topic_names_taken, HasOwnNames}
 use Rattle.table_layout.specs.Tables.{topic_names_of}
 
--- ---- a model without faults breaks no rule
-one_counts : (best : Fault) (fs : List Fault) → first_from (Some best) fs ≡ None → ⊥
-one_counts best [] e = true≢false (ap (λ (o : Option Fault). is_some o) e)
-one_counts best (f ∷ fs) e = one_counts (cond (is_before f best) f best) fs e
-
-none_broken : (fs : List Fault) → first_from None fs ≡ None → fs ≡ []
-none_broken [] e = refl
-none_broken (f ∷ fs) e = absurd (one_counts f fs e)
-
-none_before : (fs gs : List Fault) → fs ++ gs ≡ [] → fs ≡ []
-none_before [] gs e = refl
-none_before (f ∷ fs) gs e = absurd (omega (arith, ap (λ (l : List Fault). length l) e))
-
-none_behind : (fs gs : List Fault) → fs ++ gs ≡ [] → gs ≡ []
-none_behind [] gs e = e
-none_behind (f ∷ fs) gs e = absurd (omega (arith, ap (λ (l : List Fault). length l) e))
+-- two lists that make none together are none
+none_of : (fs gs : List Fault) → fs ++ gs ≡ [] → (fs ≡ []) × (gs ≡ [])
+none_of [] gs e = (refl, e)
+none_of (f ∷ fs) gs e = absurd (omega (arith, ap (λ (l : List Fault). length l) e))
 
 -- ---- what is not told twice is different
 -- 1 for what passes
@@ -81,8 +68,9 @@ one_more names k all h name = go (pointwise nat_eq k name) refl
 different : (before : List (List ℕ)) (es : List Entry) → AreDifferent before → twice before es ≡ [] → AreDifferent (before ++ keys es)
 different before [] all e = subst AreDifferent (sym (append-nil before)) all
 different before (x ∷ es) all e =
-    let fresh : is_among x.key before ≡ false = not_told (is_among x.key before) (none_before _ (twice (before ++ x.key ∷ []) es) e) in
-    subst AreDifferent (append_assoc before (x.key ∷ []) (keys es)) (different (before ++ x.key ∷ []) es (one_more before x.key all fresh) (none_behind _ (twice (before ++ x.key ∷ []) es) e))
+    let none = none_of _ (twice (before ++ x.key ∷ []) es) e in
+    let fresh : is_among x.key before ≡ false = not_told (is_among x.key before) none.0 in
+    subst AreDifferent (append_assoc before (x.key ∷ []) (keys es)) (different (before ++ x.key ∷ []) es (one_more before x.key all fresh) none.1)
   where
     not_told : (b : Bool) → fault_if b code.Twice x.name ≡ [] → b ≡ false
     not_told false e = refl
@@ -148,21 +136,22 @@ topic_different above t e =
     let s = inside above t in
     let told = twice [] (flat_map (table_entries s) t.tables) in
     let rest = flat_map (table_faults s) t.tables in
-    subst AreDifferent (tables_keys s t.tables) (different [] (flat_map (table_entries s) t.tables) no_names (none_before told rest (none_behind (domains_faults s) (told ++ rest) e)))
+    subst AreDifferent (tables_keys s t.tables) (different [] (flat_map (table_entries s) t.tables) no_names (none_of told rest (none_of (domains_faults s) (told ++ rest) e).1).0)
 
 each_different : (above : List DomainSyntax) (ts : List TopicSyntax) → flat_map (topic_faults above) ts ≡ [] → All (λ t. AreDifferent (topic_names_taken t)) (map (topic above) ts)
 each_different above [] e = All-nil (λ t. AreDifferent (topic_names_taken t))
 each_different above (t ∷ ts) e =
     let rest = flat_map (topic_faults above) ts in
-    All-cons (λ t. AreDifferent (topic_names_taken t)) (topic above t) (map (topic above) ts) (topic_different above t (none_before (topic_faults above t) rest e)) (each_different above ts (none_behind (topic_faults above t) rest e))
+    let none = none_of (topic_faults above t) rest e in
+    All-cons (λ t. AreDifferent (topic_names_taken t)) (topic above t) (map (topic above) ts) (topic_different above t none.0) (each_different above ts none.1)
 
-pub own_names : (m : ModelSyntax) → first_fault m ≡ None → HasOwnNames (resolved_model m)
+pub own_names : (m : ModelSyntax) → faults m ≡ [] → HasOwnNames (resolved_model m)
 own_names m e =
     let outer = domains_faults (outside (everywhere m)) in
     let names = twice_in (map (λ t. t.name) m.topics) in
     let topics = flat_map (topic_faults (everywhere m)) m.topics in
-    let inner : names ++ topics ≡ [] = none_behind outer (names ++ topics) (none_broken (faults m) e) in
+    let none = none_of names topics (none_of outer (names ++ topics) e).1 in
     record {
-      topics = subst AreDifferent (topics_keys (everywhere m) m.topics) (different [] (map entry (map (λ t. t.name) m.topics)) no_names (none_before names topics inner));
-      tables = each_different (everywhere m) m.topics (none_behind names topics inner);
+      topics = subst AreDifferent (topics_keys (everywhere m) m.topics) (different [] (map entry (map (λ t. t.name) m.topics)) no_names none.0);
+      tables = each_different (everywhere m) m.topics none.1;
     }

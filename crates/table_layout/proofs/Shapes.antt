@@ -1,33 +1,40 @@
 -- What helper table an attribute has.
-use Rattle.std.proofs.Common.{◌≡◌, ◌≤◌, ℕ, Bool, List, [], ◌∷◌, length, refl, ◌∙◌, ap, subst, arith}
+use Rattle.std.proofs.Common.{◌≡◌, ◌≤◌, ℕ, Bool, List, [], ◌∷◌, ◌++◌, length, refl, ◌∙◌, ap, subst, arith}
 use Rattle.std.specs.List.{flat_map}
 use Rattle.resolver.specs.Resolved.{LineForm, Attribute, an_attribute, Value, Polyline, Area, Surface, LinePart, a_part}
 use Rattle.resolver.specs.Values.{attributes_in}
 use Rattle.resolver.specs.Rules.{helper_name}
 use Rattle.resolver.specs.Sound.{listed}
-use Rattle.table_layout.specs.Layouts.{AreaLines, SurfaceLines, Table}
+use Rattle.table_layout.specs.Layouts.{Role, AreaLines, SurfaceLines, Column, Table}
 use Rattle.table_layout.specs.Attributes.{columns_of, idents_of}
-use Rattle.table_layout.specs.Tables.{Owner, boundary, owner_column, area_count, surface_count, area_table, surface_table}
-use Rattle.table_layout.specs.Few.{HasFew}
+use Rattle.table_layout.specs.Tables.{Owner, boundary, helper_table, owner_column, area_count, surface_count, area_table, surface_table}
+use Rattle.table_layout.specs.Few.{HasFew, IsSmallPart}
 use Rattle.table_layout.proofs.Listed.{listed_in}
 
 -- ---- attributes with a helper table
 few_in : (own : List Attribute) → length (listed (attributes_in own)) ≤ 4194304 → length own ≤ 4194304
 few_in own h = omega (arith, ap (length {A = Attribute}) (listed_in own))
 
-pub few_area : (a : Attribute) (n : List ℕ) (o : Bool) (l : LineForm) (p : LinePart) (own : List Attribute) (lists : List (List ℕ)) → a ≡ an_attribute n o (Area l p) → p ≡ a_part (attributes_in own) lists → HasFew a → length own ≤ 4194304
-few_area a n o l p own lists e f h = few_in own (subst HasFew (e ∙ ap (λ q. an_attribute n o (Area l q)) f) h)
+pub few_own : (p : LinePart) (own : List Attribute) (lists : List (List ℕ)) → p ≡ a_part (attributes_in own) lists → IsSmallPart p → length own ≤ 4194304
+few_own p own lists e h = few_in own (subst IsSmallPart e h)
 
-pub few_surface : (a : Attribute) (n : List ℕ) (o : Bool) (l : LineForm) (p : LinePart) (own : List Attribute) (lists : List (List ℕ)) → a ≡ an_attribute n o (Surface l p) → p ≡ a_part (attributes_in own) lists → HasFew a → length own ≤ 4194304
-few_surface a n o l p own lists e f h = few_in own (subst HasFew (e ∙ ap (λ q. an_attribute n o (Surface l q)) f) h)
+pub small_area : (a : Attribute) (n : List ℕ) (o : Bool) (l : LineForm) (p : LinePart) → a ≡ an_attribute n o (Area l p) → HasFew a → IsSmallPart p
+small_area a n o l p e h = subst HasFew e h
 
-pub area_table_is : (w : Owner) (column : ℕ) (a : Attribute) (n : List ℕ) (o : Bool) (l : LineForm) (p : LinePart) (own : List Attribute) (lists : List (List ℕ)) → a ≡ an_attribute n o (Area l p) → p ≡ a_part (attributes_in own) lists
-    → area_table w column a ≡ record { topic = w.topic; name = helper_name w.name n; role = AreaLines w.main column; columns = flat_map (columns_of w.mains) own; lines = boundary l; idents = idents_of 0 own lists } ∷ []
-area_table_is w column a n o l p own lists e f = ap (area_table w column) (e ∙ ap (λ q. an_attribute n o (Area l q)) f) ∙ ap (λ (s : List Attribute). let t : Table = record { topic = w.topic; name = helper_name w.name n; role = AreaLines w.main column; columns = flat_map (columns_of w.mains) s; lines = boundary l; idents = idents_of 0 s lists } in t ∷ []) (listed_in own)
+pub small_surface : (a : Attribute) (n : List ℕ) (o : Bool) (l : LineForm) (p : LinePart) → a ≡ an_attribute n o (Surface l p) → HasFew a → IsSmallPart p
+small_surface a n o l p e h = subst HasFew e h
 
-pub surface_table_is : (w : Owner) (a : Attribute) (n : List ℕ) (o : Bool) (l : LineForm) (p : LinePart) (own : List Attribute) (lists : List (List ℕ)) → a ≡ an_attribute n o (Surface l p) → p ≡ a_part (attributes_in own) lists
-    → surface_table w a ≡ record { topic = w.topic; name = helper_name w.name n; role = SurfaceLines w.main; columns = owner_column w ∷ flat_map (columns_of w.mains) own; lines = boundary l; idents = idents_of 1 own lists } ∷ []
-surface_table_is w a n o l p own lists e f = ap (surface_table w) (e ∙ ap (λ q. an_attribute n o (Surface l q)) f) ∙ ap (λ (s : List Attribute). let t : Table = record { topic = w.topic; name = helper_name w.name n; role = SurfaceLines w.main; columns = owner_column w ∷ flat_map (columns_of w.mains) s; lines = boundary l; idents = idents_of 1 s lists } in t ∷ []) (listed_in own)
+pub helper_table_is : (w : Owner) (role : Role) (first : List Column) (n : List ℕ) (l : LineForm) (p : LinePart) (own : List Attribute) (lists : List (List ℕ)) → p ≡ a_part (attributes_in own) lists
+    → helper_table w role first n l p ≡ record { topic = w.topic; name = helper_name w.name n; role = role; columns = first ++ flat_map (columns_of w.mains) own; lines = boundary l; idents = idents_of (length first) own lists }
+helper_table_is w role first n l p own lists e =
+    ap (helper_table w role first n l) e
+    ∙ ap (λ (s : List Attribute). let t : Table = record { topic = w.topic; name = helper_name w.name n; role = role; columns = first ++ flat_map (columns_of w.mains) s; lines = boundary l; idents = idents_of (length first) s lists } in t) (listed_in own)
+
+pub area_table_is : (w : Owner) (column : ℕ) (a : Attribute) (n : List ℕ) (o : Bool) (l : LineForm) (p : LinePart) → a ≡ an_attribute n o (Area l p) → area_table w column a ≡ helper_table w (AreaLines w.main column) [] n l p ∷ []
+area_table_is w column a n o l p e = ap (area_table w column) e
+
+pub surface_table_is : (w : Owner) (a : Attribute) (n : List ℕ) (o : Bool) (l : LineForm) (p : LinePart) → a ≡ an_attribute n o (Surface l p) → surface_table w a ≡ helper_table w (SurfaceLines w.main) (owner_column w ∷ []) n l p ∷ []
+surface_table_is w a n o l p e = ap (surface_table w) e
 
 -- ---- attributes without
 pub no_area_table : (w : Owner) (column : ℕ) (a : Attribute) → area_count a ≡ 0 → area_table w column a ≡ []

@@ -4,15 +4,18 @@ use Rattle.std.specs.Prelude.{slice_get}
 use Rattle.std.specs.List.{All, flat_map}
 use Rattle.std.proofs.lemmas.List.{length-map}
 use Rattle.std.proofs.lemmas.List.Elements.{All-nil, All-cons, All-head, All-tail, All-append}
+use Rattle.ili_lexer.specs.Forms.{IsName}
+use Rattle.ili_grammar.specs.Limits.{AreCodes}
 use Rattle.resolver.specs.Resolved.{ModelTable, Topic, ResolvedModel}
 use Rattle.resolver.specs.Sound.{listed, IsSound, IsSoundTable, IsSoundTopic}
 use Rattle.table_layout.specs.Layouts.{Role, Main, AreaLines, SurfaceLines, Table, AreaOf, Layout}
-use Rattle.table_layout.specs.Tables.{Owner, areas_in, surfaces_in, tables_in, numbers_from, area_tables, surface_table, main_table, with_helpers, tables_beside, topic_tables, tables_from, column_name, area_of, areas_from, topic_names_of}
+use Rattle.table_layout.specs.Tables.{Owner, areas_in, surfaces_in, numbers_from, area_tables, surface_table, main_table, with_helpers, tables_beside, topic_tables, tables_from, column_name, area_of, areas_from, topic_names_of}
 use Rattle.table_layout.specs.Few.{IsSmallTable, IsSmallTopic, numbers_in}
 use Rattle.table_layout.specs.Valid.{IsMain, IsTable, IsArea, Rise, HasArea, IsValid}
 use Rattle.table_layout.proofs.Counts.{length-areas, length-with_helpers, length-topic, numbers_few, small_topics}
 use Rattle.table_layout.proofs.Steps.{length-numbers}
 use Rattle.table_layout.proofs.HelpersValid.{get_at, with_helpers_valid}
+use Rattle.table_layout.proofs.NamesValid.{Declared, tables_named, topics_named}
 
 got_at : {A : Type 0} (whole before : List A) (x : A) (after : List A) (n : ℕ) → whole ≡ before ++ x ∷ after → length before ≡ n → slice_get whole n ≡ Some x
 got_at {A} whole before x after n e l = ap (λ (s : List A). slice_get s n) e ∙ subst (λ k. slice_get (before ++ x ∷ after) k ≡ Some x) l (get_at before x after)
@@ -124,10 +127,12 @@ all_there whole i (x ∷ ts) (suc j) m c t e f =
 pub few_tables : (m : ResolvedModel) (tables : List Table) → IsSound m → tables ≡ tables_from 0 0 m.topics → length tables ≤ 4194304
 few_tables m tables h e = omega (arith, ap (length {A = Table}) e, length_from 0 0 m.topics, numbers_few m.topics, h.few)
 
-pub valid : (m : ResolvedModel) (l : Layout) → IsSound m → l.topics ≡ topic_names_of m.topics → l.tables ≡ tables_from 0 0 m.topics → l.areas ≡ areas_from l.tables 0 l.tables → IsValid l
-valid m l h names e areas =
+pub valid : (m : ResolvedModel) (l : Layout) → IsSound m → l.codes ≡ m.codes → l.topics ≡ topic_names_of m.topics → l.tables ≡ tables_from 0 0 m.topics → l.areas ≡ areas_from l.tables 0 l.tables → IsValid l
+valid m l h codes names e areas =
     let count : length l.topics ≡ length m.topics = ap (length {A = List ℕ}) names ∙ length-map m.topics (λ (t : Topic). t.name) in
     record {
+      names = record { topics = subst (All IsName) (sym names) (topics_named m.topics h.named); tables = subst (All Declared) (sym e) (tables_named 0 0 m.topics h.named) };
+      codes = subst AreCodes (sym codes) h.codes;
       few = few_tables m l.tables h e;
       tables = subst (λ ts. All (IsTable (length l.topics) l.tables) ts) (sym e) (topics_valid (length l.topics) l.tables 0 0 m.topics [] e refl (omega arith) (small_topics m.topics h.few h.topics) h.topics);
       areas = subst (λ s. All (IsArea l.tables) s) (sym areas) (areas_valid l.tables 0 l.tables [] refl refl);

@@ -1,16 +1,21 @@
 -- Few enough names that every number of the layout fits.
 use Rattle.std.specs.Prelude.{ℕ, ◌+◌, ◌≤◌, List, [], ◌∷◌, length}
 use Rattle.std.specs.List.{All}
-use Rattle.resolver.specs.Resolved.{Attribute, an_attribute, Value, Polyline, Surface, Area, a_part, ModelTable, Topic}
+use Rattle.resolver.specs.Resolved.{Attribute, an_attribute, Value, Polyline, Surface, Area}
+use Rattle.resolver.specs.Resolved.{LinePart, a_part, ModelTable, Topic}
 use Rattle.resolver.specs.Sound.{listed}
 use Rattle.table_layout.specs.Tables.{tables_in}
 
--- the lines of an attribute have few attributes of their own
+-- the lines of a boundary have few attributes of their own
+abbrev pub IsSmallPart : LinePart → Type 0
+IsSmallPart (a_part own lists) = length (listed own) ≤ 4194304
+
+-- so have those of an attribute
 abbrev pub HasFew : Attribute → Type 0
 HasFew (an_attribute n o (Value f)) = Unit {0}
 HasFew (an_attribute n o (Polyline l)) = Unit {0}
-HasFew (an_attribute n o (Surface l (a_part own lists))) = length (listed own) ≤ 4194304
-HasFew (an_attribute n o (Area l (a_part own lists))) = length (listed own) ≤ 4194304
+HasFew (an_attribute n o (Surface l p)) = IsSmallPart p
+HasFew (an_attribute n o (Area l p)) = IsSmallPart p
 
 -- few attributes, and few of their lines
 pub record AreFew (own : List Attribute) : Type 0 where

@@ -1,8 +1,9 @@
 -- The names of tables and topics, each of one alone.
-use Rattle.std.specs.Prelude.{◌≡◌, ℕ, ◌≤◌, List, [], ◌∷◌, Bool, nat_eq, Some, slice_get, count_by, map}
+use Rattle.std.specs.Prelude.{◌≡◌, ℕ, ◌≤◌, List, [], ◌∷◌, nat_eq, Some, slice_get, count_by}
 use Rattle.std.specs.List.{All, flat_map, position_from}
 use Rattle.std.specs.Cmp.Lexicographic.{pointwise}
-use Rattle.resolver.specs.Resolved.{Attribute, an_attribute, Value, Polyline, Surface, Area, ModelTable, Topic, ResolvedModel}
+use Rattle.resolver.specs.Resolved.{Attribute, an_attribute, Value, Polyline, Surface, Area}
+use Rattle.resolver.specs.Resolved.{ModelTable, Topic, ResolvedModel}
 use Rattle.resolver.specs.Sound.{listed}
 use Rattle.table_layout.specs.Finding.{number_of}
 use Rattle.table_layout.specs.Layouts.{Table, Layout}
@@ -39,5 +40,7 @@ pub record HasOwnNames (m : ResolvedModel) : Type 0 where
 
 -- each table is found by its name in its topic, and each topic by its name
 pub record IsFoundByName (l : Layout) : Type 0 where
-  pub tables : (i : ℕ) (t : Table) → slice_get l.tables i ≡ Some t → number_of l t.topic t.name ≡ Some i
-  pub topics : (i : ℕ) (name : List ℕ) → slice_get l.topics i ≡ Some name → position_from (λ n. pointwise nat_eq n name) 0 l.topics ≡ Some i
+  pub tables : (i : ℕ) (t : Table) → slice_get l.tables i ≡ Some t
+      → number_of l t.topic t.name ≡ Some i
+  pub topics : (i : ℕ) (name : List ℕ) → slice_get l.topics i ≡ Some name
+      → position_from (λ n. pointwise nat_eq n name) 0 l.topics ≡ Some i

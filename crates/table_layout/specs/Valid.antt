@@ -1,9 +1,13 @@
 -- What every layout keeps, so that no later layer has to test it.
 use Rattle.std.specs.Prelude.{ℕ, ◌+◌, ◌<◌, ◌≤◌, ◌≡◌, false, List, [], ◌∷◌, length, Some, slice_get}
+use Rattle.std.specs.Prelude.{slice_index_or}
 use Rattle.std.specs.List.{All}
+use Rattle.ili_lexer.specs.Forms.{IsName}
+use Rattle.ili_grammar.specs.Limits.{AreCodes}
 use Rattle.resolver.specs.Resolved.{Form, AreaPoint, Reference, LineForm}
 use Rattle.resolver.specs.Sound.{IsNarrow}
-use Rattle.table_layout.specs.Layouts.{Role, Main, AreaLines, SurfaceLines, Column, Table, AreaOf, Layout}
+use Rattle.table_layout.specs.Layouts.{Role, Main, AreaLines, SurfaceLines, Column, Table, AreaOf}
+use Rattle.table_layout.specs.Layouts.{Layout}
 use Rattle.table_layout.specs.Tables.{column_name}
 
 -- the table with this number is a declared one
@@ -19,7 +23,8 @@ NamesMain tables f = Unit {0}
 
 -- the helper table of an AREA attribute: its main table, its column there, which is the point of
 -- an object, and its one line, which is mandatory and has the window of that point
-pub record IsAreaTable (tables : List Table) (kept : List LineForm) (number place : ℕ) : Type 0 where
+pub record IsAreaTable (tables : List Table) (kept : List LineForm)
+    (number place : ℕ) : Type 0 where
   pub owner : Table
   pub point : Column
   pub line : LineForm
@@ -33,7 +38,8 @@ pub record IsAreaTable (tables : List Table) (kept : List LineForm) (number plac
 
 -- the helper table of a SURFACE attribute: its main table, its column 0, which is a mandatory
 -- reference to that table and has its name, and its one line, which is mandatory
-pub record IsSurfaceTable (tables : List Table) (columns : List Column) (kept : List LineForm) (number : ℕ) : Type 0 where
+pub record IsSurfaceTable (tables : List Table) (columns : List Column) (kept : List LineForm)
+    (number : ℕ) : Type 0 where
   pub owner : Table
   pub reference : Column
   pub line : LineForm
@@ -81,11 +87,35 @@ pub record HasArea (areas : List AreaOf) (number : ℕ) : Type 0 where
 
 -- each AREA is there: whatever table holds the lines of one
 abbrev pub HasAll : List Table → List AreaOf → Type 0
-HasAll tables areas = (number main column : ℕ) (t : Table) → slice_get tables number ≡ Some t → t.role ≡ AreaLines main column → HasArea areas number
+HasAll tables areas =
+    (number main column : ℕ) (t : Table) → slice_get tables number ≡ Some t
+    → t.role ≡ AreaLines main column → HasArea areas number
 
+-- the table, its columns and its lines have names: a letter, then letters, digits and `_`
+pub record IsNamedTable (t : Table) : Type 0 where
+  pub name : IsName t.name
+  pub columns : All (λ (c : Column). IsName c.name) t.columns
+  pub lines : All (λ (l : LineForm). IsName l.name) t.lines
+
+-- so have the topics and the declared tables
+pub record HasNames (l : Layout) : Type 0 where
+  pub topics : All IsName l.topics
+  pub tables : All (λ (t : Table). t.role ≡ Main → IsNamedTable t) l.tables
+
+-- what `layout` promises of its layout
 pub record IsValid (l : Layout) : Type 0 where
+  pub names : HasNames l
+  pub codes : AreCodes l.codes
   pub few : length l.tables ≤ 4194304
   pub tables : All (IsTable (length l.topics) l.tables) l.tables
   pub areas : All (IsArea l.tables) l.areas
   pub in_order : Rise 0 l.areas
   pub complete : HasAll l.tables l.areas
+
+-- an area by its names: those of its main table, of that table's topic, and its own
+pub record IsNamedArea (l : Layout) (a : AreaOf) : Type 0 where
+  pub table : Table
+  pub main : slice_get l.tables a.main ≡ Some table
+  pub topic_name : IsName (slice_index_or l.topics table.topic [])
+  pub table_name : IsName table.name
+  pub name : IsName a.name

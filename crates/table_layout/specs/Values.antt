@@ -13,7 +13,8 @@ use Rattle.table_layout.specs.declared.layouts.Table as table
 use Rattle.table_layout.specs.declared.layouts.AreaOf as area
 use Rattle.table_layout.specs.declared.layouts.Layout as layout
 use Rattle.table_layout.specs.declared.tables.Owner as owner
-use Rattle.table_layout.specs.Layouts.{Role, Main, AreaLines, SurfaceLines, Column, Table, AreaOf, Layout}
+use Rattle.table_layout.specs.Layouts.{Role, Main, AreaLines, SurfaceLines, Column, Table, AreaOf}
+use Rattle.table_layout.specs.Layouts.{Layout}
 use Rattle.table_layout.specs.Tables.{Owner}
 
 abbrev pub id_view : Option id.TableId → Option ℕ
@@ -34,7 +35,15 @@ abbrev pub lines_view : List line.LineForm → List LineForm
 lines_view ls = map line_of ls
 
 abbrev pub table_view : table.Table → Table
-table_view t = record { topic = t.topic; name = t.name; role = role_view t.role; columns = columns_view t.columns.items; lines = lines_view t.lines.items; idents = places_of t.idents.items }
+table_view t =
+    record {
+      topic = t.topic;
+      name = t.name;
+      role = role_view t.role;
+      columns = columns_view t.columns.items;
+      lines = lines_view t.lines.items;
+      idents = places_of t.idents.items;
+    }
 
 abbrev pub tables_view : List table.Table → List Table
 tables_view ts = map table_view ts
@@ -46,7 +55,14 @@ abbrev pub areas_view : List area.AreaOf → List AreaOf
 areas_view as_ = map area_view as_
 
 abbrev pub layout_view : layout.Layout → Layout
-layout_view l = record { model = l.model; codes = codes_of l.codes; topics = l.topics.items; tables = tables_view l.tables.items; areas = areas_view l.areas.items }
+layout_view l =
+    record {
+      model = l.model;
+      codes = codes_of l.codes;
+      topics = l.topics.items;
+      tables = tables_view l.tables.items;
+      areas = areas_view l.areas.items;
+    }
 
 abbrev pub owner_view : owner.Owner → Owner
 owner_view w = record { topic = w.topic; mains = w.mains.now; main = w.main; name = w.name.now }

@@ -10,7 +10,7 @@ use ports::Memory;
 use resolver::{Attribute, Places};
 use std::alloc::Global;
 
-/// The IDENT lists of these attributes in places, behind so many columns that are no attributes.
+/// The IDENT lists of these attributes in places, after so many columns that are no attributes.
 /// A list with a SURFACE attribute is left out whole.
 pub fn idents(
     alloc: Global,

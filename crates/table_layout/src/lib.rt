@@ -19,21 +19,24 @@
 //!   its helper table, its main table, its column there, and its attribute.
 //! - **What a contract sees.** `layout_view` is the layout without memory, with lists in place of
 //!   vectors; `layout_of` is the function of the model that `layout` computes.
-//! - **What later layers may use** (`IsValid`): there are at most 4,194,304 tables; a table has at
-//!   most 4,194,306 columns and lines; every number of a topic, a table, a column and a place is
-//!   in range, and a reference names a declared table; the helper table of an AREA or a SURFACE
-//!   has one line, which is mandatory, and its main table is a declared one; in that of a SURFACE
-//!   column 0 is a mandatory reference to it, by its name; the column of an area is the point of
-//!   that line's window, which is less than 2^40 units wide in each axis; the areas stand in the
-//!   order of their helper tables, each once.
-//! - **Names.** In the layout of a model without faults each table is found by its name in its
-//!   topic, and each topic by its name; and its three codes differ (`found_by_name`,
-//!   `codes_differ`).
+//! - **What later layers may use** (`IsValid`): the three codes are bytes from 33 to 126, no two
+//!   equal; there are at most 4,194,304 tables; a table has at most 4,194,306 columns and lines;
+//!   every number of a topic, a table, a column and a place is in range, and a reference names a
+//!   declared table; the helper table of an AREA or a SURFACE has one line, which is mandatory,
+//!   and its main table is a declared one; in that of a SURFACE column 0 is a mandatory reference
+//!   to it, by its name; the column of an area is the point of that line's window, which is less
+//!   than 2^40 units wide in each axis; the areas stand in the order of their helper tables, each
+//!   once; the names of topics, of declared tables and of their columns and lines have the form of
+//!   names, a letter and then letters, digits and `_`.
+//! - **Names.** So an area and its main table and topic have names of that form (`area_names`). In
+//!   the layout of a model without faults each table is found by its name in its topic, and each
+//!   topic by its name (`found_by_name`).
 //! - **Not checked here.** `layout` takes a model as `resolve` gives it (`IsSound`): few names,
-//!   numbers in range, no lines in LINEATTR, narrow windows of areas. That names differ is for the
-//!   resolver, whose rules the laws on names cite. The definition is total: a reference that
-//!   names no table would name table 0, a number in an IDENT list that is no attribute would leave
-//!   the list out, and an AREA in LINEATTR would be a column.
+//!   of the form of names, numbers in range, codes that differ, no lines in LINEATTR, narrow
+//!   windows of areas. That names differ is for the resolver, whose rules the laws on names cite.
+//!   The definition is total: a reference that names no table would name table 0, a number in an
+//!   IDENT list that is no attribute would leave the list out, and an AREA in LINEATTR would be a
+//!   column.
 //! - **Degenerate cases.** No topics, topics without tables, tables without attributes, LINEATTR
 //!   without attributes.
 //!
@@ -54,5 +57,5 @@ mod topics;
 
 pub use building::layout;
 pub use finding::table_of;
-pub use laws::{codes_differ, found_by_name};
+pub use laws::{area_names, found_by_name};
 pub use layouts::{AreaOf, Column, Layout, Role, Table, TableId};

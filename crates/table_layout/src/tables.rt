@@ -2,14 +2,14 @@
 ghost use Rattle.std.specs.Prelude.{◌≡◌, ◌≤◌, ◌+◌, ◌++◌, [], ◌∷◌, length, map, IfOk};
 ghost use Rattle.std.specs.Result.{OnOk};
 ghost use Rattle.std.specs.List.{All, flat_map};
-ghost use Rattle.resolver.specs.Values.{attribute_of, attributes_of, line_of, places_of};
+ghost use Rattle.resolver.specs.Values.{attribute_of, line_of, part_of, places_of};
 ghost use Rattle.resolver.specs.Sound.{listed};
-ghost use Rattle.table_layout.specs.Few.{HasFew, AreFew};
+ghost use Rattle.table_layout.specs.Few.{AreFew, HasFew, IsSmallPart};
 ghost use Rattle.table_layout.specs.Tables.{area_count, areas_in, surface_count, surfaces_in};
-ghost use Rattle.table_layout.specs.Tables.{boundary, area_table, area_tables};
+ghost use Rattle.table_layout.specs.Tables.{boundary, helper_table, area_table, area_tables};
 ghost use Rattle.table_layout.specs.Tables.{owner_column, surface_table, main_table, with_helpers};
-ghost use Rattle.table_layout.specs.Values.{column_view, lines_view, table_view, tables_view};
-ghost use Rattle.table_layout.specs.Values.{owner_view};
+ghost use Rattle.table_layout.specs.Values.{column_view, columns_view, lines_view, role_view};
+ghost use Rattle.table_layout.specs.Values.{owner_view, table_view, tables_view};
 
 use super::attributes::{
     add_columns, area, columns_given, copied, copied_line, lines, own, surface,
@@ -17,7 +17,7 @@ use super::attributes::{
 use super::idents::idents;
 use super::layouts::{Column, Role, Table, TableId};
 use ports::{Memory, Name};
-use resolver::{Attribute, Form, LineForm, ModelTable, helper_name};
+use resolver::{Attribute, Form, LineForm, LinePart, ModelTable, helper_name};
 use std::alloc::Global;
 
 /// A declared table: the number of its topic, the numbers of the topic's main tables in the whole
@@ -78,6 +78,37 @@ fn boundary(alloc: Global, line: &LineForm) -> Result<Vec<LineForm>, Memory>
     Ok(lines)
 }
 
+// The table of the lines of an attribute of that name: these columns, and then those that the
+// lines have of their own.
+fn helper_table(
+    alloc: Global,
+    owner: Owner<'_>,
+    role: Role,
+    columns: Vec<Column>,
+    name: &Name,
+    line: &LineForm,
+    part: &LinePart,
+) -> Result<Table, Memory>
+    requires first { length columns.items ≤ 1 }
+    requires small { IsSmallPart (part_of part.now) }
+    ensures { IfOk result (λ t. table_view t
+        ≡ helper_table (owner_view owner.entry) (role_view role) (columns_view columns.items)
+        name.now (line_of line.now) (part_of part.now)) }
+{
+    let (attributes, lists) = own(part);
+    let idents = idents(alloc, columns.len() as u32, attributes, lists)?;
+    let mut columns = columns;
+    add_columns(alloc, attributes, owner.mains, &mut columns)?;
+    Ok(Table {
+        topic: owner.topic,
+        name: helper_name(alloc, owner.name.bytes(), name.bytes())?,
+        role,
+        columns,
+        lines: boundary(alloc, line)?,
+        idents,
+    })
+}
+
 fn add_area_tables(
     alloc: Global,
     owner: Owner<'_>,
@@ -109,18 +140,11 @@ fn add_area_table(
         ++ area_table (owner_view owner.entry) column (attribute_of attribute.now)) }
 {
     if let Some((line, part)) = area(attribute) {
-        let (attributes, lists) = own(part);
-        let mut columns = Vec::new(alloc);
-        add_columns(alloc, attributes, owner.mains, &mut columns)?;
         let main = TableId(owner.main);
-        tables.push(Table {
-            topic: owner.topic,
-            name: helper_name(alloc, owner.name.bytes(), attribute.name.bytes())?,
-            role: Role::AreaLines { main, column },
-            columns,
-            lines: boundary(alloc, line)?,
-            idents: idents(alloc, 0, attributes, lists)?,
-        })?;
+        let role = Role::AreaLines { main, column };
+        let columns = Vec::new(alloc);
+        let name = &attribute.name;
+        tables.push(helper_table(alloc, owner, role, columns, name, line, part)?)?;
     }
     Ok(())
 }
@@ -153,19 +177,12 @@ fn add_surface_table(
         ++ surface_table (owner_view owner.entry) (attribute_of attribute.now)) }
 {
     if let Some((line, part)) = surface(attribute) {
-        let (attributes, lists) = own(part);
+        let main = TableId(owner.main);
+        let role = Role::SurfaceLines { main };
         let mut columns = Vec::new(alloc);
         columns.push(owner_column(alloc, owner)?)?;
-        add_columns(alloc, attributes, owner.mains, &mut columns)?;
-        let main = TableId(owner.main);
-        tables.push(Table {
-            topic: owner.topic,
-            name: helper_name(alloc, owner.name.bytes(), attribute.name.bytes())?,
-            role: Role::SurfaceLines { main },
-            columns,
-            lines: boundary(alloc, line)?,
-            idents: idents(alloc, 1, attributes, lists)?,
-        })?;
+        let name = &attribute.name;
+        tables.push(helper_table(alloc, owner, role, columns, name, line, part)?)?;
     }
     Ok(())
 }

@@ -1,4 +1,4 @@
-use Rattle.std.proofs.Common.{◌≡◌, List, ap, ◌∙◌, sym, subst, arith, length}
+use Rattle.std.proofs.Common.{◌≡◌, List, ap, ◌∙◌, refl, sym, subst, arith, length}
 use Rattle.std.proofs.lemmas.List.{length-map}
 use Rattle.std.specs.List.{All}
 use Rattle.resolver.specs.declared.models.Topic.{Topic}
@@ -27,4 +27,4 @@ returns-clause-valid c =
     let tables : tables_view c.in_ok-tables.tables.items ≡ tables_from 0 0 (topics_of c.args.model.now.topics.items) = c.in_ok-tables.ensures ∙ ap (λ (s : List Topic). tables_from 0 0 (topics_of s)) c.deref.ensures.value in
     let areas : areas_view c.in_ok-areas.areas.items ≡ areas_from (tables_view c.in_ok-tables.tables.items) 0 (tables_view c.in_ok-tables.tables.items) = c.in_ok-areas.ensures ∙ ap (λ (s : List Table). areas_from (tables_view s) 0 (tables_view s)) c.deref-2.ensures.value in
     let names : c.in_ok-names.field-0.items ≡ topic_names_of (topics_of c.args.model.now.topics.items) = c.in_ok-names.ensures ∙ ap (λ (s : List Topic). topic_names_of (topics_of s)) c.deref-3.ensures.value in
-    valid (model_of c.args.model.now) (layout_view (record { model = c.in_ok-copied.field-0; codes = c.args.model.now.codes; topics = c.in_ok-names.field-0; tables = c.in_ok-tables.tables; areas = c.in_ok-areas.areas })) c.requires names tables areas
+    valid (model_of c.args.model.now) (layout_view (record { model = c.in_ok-copied.field-0; codes = c.args.model.now.codes; topics = c.in_ok-names.field-0; tables = c.in_ok-tables.tables; areas = c.in_ok-areas.areas })) c.requires refl names tables areas
