@@ -1,5 +1,6 @@
 -- The places of a transfer in which no value is at fault.
-use Rattle.std.specs.Prelude.{◌≡◌, ◌⊎◌, ◌≤ℤ◌, Bool, true, false, ◌&&◌, ⊤, ℕ, List, [], ◌∷◌, take, drop, None}
+use Rattle.std.specs.Prelude.{◌≡◌, ◌⊎◌, ◌≤ℤ◌, Bool, true, false, ◌&&◌, ⊤, ℕ, List, [], ◌∷◌, take}
+use Rattle.std.specs.Prelude.{drop, None}
 use Rattle.std.specs.List.{list_all}
 use Rattle.ili_grammar.specs.Syntax.{Codes}
 use Rattle.resolver.specs.Resolved as model
@@ -21,12 +22,15 @@ pub record IsInside (w : Window) (p : Place) : Type 0 where
 -- ---- the points of objects in their areas
 -- it is undefined, as an optional one may be, or lies in its window
 abbrev pub HasPoint : Codes → Bool → Form → List (List ℕ) → Type 0
-HasPoint codes optional (model.AreaPoint w) words = ((optional && list_all (is_undefined codes) words) ≡ true) ⊎ IsInside w (place_named w words)
+HasPoint codes optional (model.AreaPoint w) words =
+    ((optional && list_all (is_undefined codes) words) ≡ true) ⊎ IsInside w (place_named w words)
 HasPoint codes optional other words = ⊤
 
 abbrev pub HavePoints : Codes → List Column → List (List ℕ) → Type 0
 HavePoints codes [] words = ⊤
-HavePoints codes (c ∷ cs) words = HasPoint codes c.optional c.form (take (width c.form) words) × HavePoints codes cs (drop (width c.form) words)
+HavePoints codes (c ∷ cs) words =
+    HasPoint codes c.optional c.form (take (width c.form) words)
+    × HavePoints codes cs (drop (width c.form) words)
 
 -- ---- the lines of objects
 -- the fields of a vertex break no rule, and its place lies in the window of its line
@@ -38,10 +42,12 @@ abbrev pub AreSoundVertices : LineForm → List Vertex → Type 0
 AreSoundVertices l [] = ⊤
 AreSoundVertices l (v ∷ vs) = IsSoundVertex l v × AreSoundVertices l vs
 
--- the ends of an arc are two places, and where all three lie on one straight, the middle one lies between the ends or on one of them
+-- the ends of an arc are two places, and where all three lie on one straight, the middle one lies
+-- between the ends or on one of them
 pub record IsArc (s m e : Place) : Type 0 where
   pub ends : is_same_place s e ≡ false
-  pub middle : are_collinear s m e ≡ true → (is_between s.x e.x m.x && is_between s.y e.y m.y) ≡ true
+  pub middle : are_collinear s m e ≡ true
+      → (is_between s.x e.x m.x && is_between s.y e.y m.y) ≡ true
 
 -- each vertex on an arc, and those before and after it
 abbrev pub AreArcs : List Seen → Type 0
@@ -70,4 +76,5 @@ RowsHavePlaces codes t (r ∷ rows) = HasPlaces codes t r × RowsHavePlaces code
 abbrev pub HavePlaces : Codes → List Table → List (List Row) → Type 0
 HavePlaces codes [] transfer = ⊤
 HavePlaces codes (t ∷ ts) [] = ⊤
-HavePlaces codes (t ∷ ts) (rows ∷ transfer) = RowsHavePlaces codes t rows × HavePlaces codes ts transfer
+HavePlaces codes (t ∷ ts) (rows ∷ transfer) =
+    RowsHavePlaces codes t rows × HavePlaces codes ts transfer

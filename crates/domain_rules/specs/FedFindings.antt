@@ -1,4 +1,5 @@
--- What is wrong with the values of rows that come one after another, each with the number of its table.
+-- What is wrong with the values of rows that come one after another, each with the number of its
+-- table.
 use Rattle.std.specs.Prelude.{ℕ, zero, suc, ◌+◌, List, [], ◌∷◌, ◌++◌, map}
 use Rattle.ili_grammar.specs.Syntax.{Codes}
 use Rattle.table_layout.specs.Layouts.{Table, Layout}
@@ -10,7 +11,8 @@ use Rattle.domain_rules.specs.ValueFindings.{table_findings}
 -- the findings of each table, the first of these tables having that number
 abbrev pub fed_from : Codes → ℕ → List Table → List (ℕ × Row) → List (List Finding)
 fed_from codes n [] rows = []
-fed_from codes n (t ∷ ts) rows = table_findings codes t (of_table n rows) ∷ fed_from codes (n + 1) ts rows
+fed_from codes n (t ∷ ts) rows =
+    table_findings codes t (of_table n rows) ∷ fed_from codes (n + 1) ts rows
 
 -- the findings of each table of a layout
 abbrev pub fed_findings : Layout → List (ℕ × Row) → List (List Finding)

@@ -14,7 +14,8 @@ table_findings codes t rows = flat_map (row_findings codes t) rows
 abbrev pub tables_findings : Codes → List Table → List (List Row) → List Finding
 tables_findings codes [] transfer = []
 tables_findings codes (t ∷ ts) [] = []
-tables_findings codes (t ∷ ts) (rows ∷ transfer) = table_findings codes t rows ++ tables_findings codes ts transfer
+tables_findings codes (t ∷ ts) (rows ∷ transfer) =
+    table_findings codes t rows ++ tables_findings codes ts transfer
 
 -- all findings of the values of a transfer, in order
 abbrev pub value_findings : Layout → List (List Row) → List Finding

@@ -1,5 +1,7 @@
 -- Which rule the words of a mandatory column or of a vertex break first.
-use Rattle.std.specs.Prelude.{ℕ, Bool, ◌&&◌, ◌||◌, not, nat_lt, nat_le, ◌==◌, nat_eq, if◌then◌else◌, List, [], ◌∷◌, length, take, drop, slice_index_or, Option, Some, None, Result, Ok, Err, ℤ}
+use Rattle.std.specs.Prelude.{ℕ, Bool, ◌&&◌, ◌||◌, not, nat_lt, nat_le, ◌==◌, nat_eq, if◌then◌else◌}
+use Rattle.std.specs.Prelude.{List, [], ◌∷◌, length, take, drop, slice_index_or, Option, Some, None}
+use Rattle.std.specs.Prelude.{Result, Ok, Err, ℤ}
 use Rattle.std.specs.Prelude.{int_lt}
 use Rattle.std.specs.Str.{all_ascii_digits}
 use Rattle.std.specs.Option.{option_to_list}
@@ -13,7 +15,8 @@ use Rattle.ili_grammar.specs.Syntax.{Codes}
 use Rattle.resolver.specs.Resolved as model
 use Rattle.resolver.specs.Resolved.{Limits, Form, LineForm}
 use Rattle.field_values.specs.declared.value.ValueFault.{ValueFault}
-use Rattle.field_values.specs.declared.value.ValueFault.TheVariants.{Undefined, Number, Decimals, Range, Text, Date, Enum, Coord}
+use Rattle.field_values.specs.declared.value.ValueFault.TheVariants.{Undefined, Number, Decimals}
+use Rattle.field_values.specs.declared.value.ValueFault.TheVariants.{Range, Text, Date, Enum, Coord}
 
 -- the undefined word is the one byte of its code
 abbrev pub is_undefined : Codes → List ℕ → Bool
@@ -22,7 +25,8 @@ is_undefined codes word = pointwise nat_eq word (codes.undefined ∷ [])
 -- ---- numbers
 -- what fails at a number: it is none, or too long; it has too many decimals; it is out of bounds
 abbrev pub bounds_fault : Limits → Result ℤ DecimalFault → Option ValueFault
-bounds_fault limits (Ok v) = if int_lt v limits.low || int_lt limits.high v then Some Range else None
+bounds_fault limits (Ok v) =
+    if int_lt v limits.low || int_lt limits.high v then Some Range else None
 bounds_fault limits (Err NotNumber) = Some Number
 bounds_fault limits (Err TooLong) = Some Number
 bounds_fault limits (Err MoreDecimals) = Some Decimals
@@ -46,17 +50,20 @@ numbers_fault (l ∷ ls) (w ∷ ws) = first_fault (number_fault l w) (numbers_fa
 abbrev pub is_text : ℕ → List ℕ → Bool
 is_text most word = nat_le (length word) most
 
--- eight digits, a month from 01 to 12 and a day from 01 to 31
 abbrev pub is_within : ℕ → ℕ → ℕ → Bool
 is_within low high n = nat_le low n && nat_le n high
 
+-- eight digits, a month from 01 to 12 and a day from 01 to 31
 abbrev pub is_date : List ℕ → Bool
-is_date word = (length word == 8) && (all_ascii_digits word && (is_within 1 12 (number (take 2 (drop 4 word))) && is_within 1 31 (number (drop 6 word))))
+is_date word =
+    (length word == 8)
+    && (all_ascii_digits word
+    && (is_within 1 12 (number (take 2 (drop 4 word))) && is_within 1 31 (number (drop 6 word))))
 
--- digits alone, with no leading zero, and less than the number of leaves
 abbrev pub has_leading_zero : List ℕ → Bool
 has_leading_zero word = (slice_index_or word 0 0 == 48) && nat_lt 1 (length word)
 
+-- digits alone, with no leading zero, and less than the number of leaves
 abbrev pub is_leaf : ℕ → List ℕ → Bool
 is_leaf leaves word = is_digits word && (not (has_leading_zero word) && nat_lt (number word) leaves)
 
@@ -106,7 +113,8 @@ value_fault form words = numbers_fault (axes form) words
 
 -- an undefined word comes before all else
 abbrev pub field_fault : Form → Codes → List (List ℕ) → Option ValueFault
-field_fault form codes words = if list_any (is_undefined codes) words then Some Undefined else value_fault form words
+field_fault form codes words =
+    if list_any (is_undefined codes) words then Some Undefined else value_fault form words
 
 -- ---- vertices
 -- the axes of a line: x, y, and the height where its vertices have one

@@ -1,5 +1,6 @@
 -- Places of the plane, and when three of them lie on no arc.
-use Rattle.std.specs.Prelude.{ℕ, ℤ, pos, ◌-ℤ◌, ◌*ℤ◌, int_le, Bool, ◌&&◌, ◌||◌, not, List, [], ◌∷◌, Option, Result, Ok, Err}
+use Rattle.std.specs.Prelude.{ℕ, ℤ, pos, ◌-ℤ◌, ◌*ℤ◌, int_le, Bool, ◌&&◌, ◌||◌, not, List, [], ◌∷◌}
+use Rattle.std.specs.Prelude.{Option, Result, Ok, Err}
 use Rattle.resolver.specs.Resolved.{Limits, Window}
 use Rattle.field_values.specs.declared.value.ValueFault.{ValueFault}
 use Rattle.field_values.specs.Fields.{first_fault, number_fault}
@@ -32,9 +33,12 @@ are_collinear s m e = is_same ((m.x -ℤ s.x) *ℤ (e.y -ℤ s.y)) ((m.y -ℤ s.
 abbrev pub is_between : ℤ → ℤ → ℤ → Bool
 is_between a b n = (int_le a n && int_le n b) || (int_le b n && int_le n a)
 
--- no arc leads from s over m to e: s is e, or the three lie on one straight and m not between s and e
+-- no arc leads from s over m to e: s is e, or the three lie on one straight and m not between s and
+-- e
 abbrev pub is_no_arc : Place → Place → Place → Bool
-is_no_arc s m e = is_same_place s e || (are_collinear s m e && not (is_between s.x e.x m.x && is_between s.y e.y m.y))
+is_no_arc s m e =
+    is_same_place s e
+    || (are_collinear s m e && not (is_between s.x e.x m.x && is_between s.y e.y m.y))
 
 -- a place of the code
 abbrev pub place_view : code.Place → Place

@@ -17,3 +17,5 @@ pub mod Gathering
 pub mod SameAnswers
 pub mod FlatSteps
 pub mod AllMapped
+pub mod Collecting
+pub mod NoRows

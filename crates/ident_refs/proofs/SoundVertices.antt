@@ -27,9 +27,9 @@ clean_at l (x ∷ vs) zero v lt at h = ap (λ (y : CodeVertex). is_clean l (vert
 clean_at l (x ∷ vs) (suc i) v lt at h = clean_at l vs i v (omega arith) at (both_true _ _ h).1
 
 pub sound_read : (role : Role) (l : LineForm) (vs : List CodeVertex) (i : ℕ) (v : CodeVertex) → i < length vs → v ≡ get_or vs i v → is_sound_stroke role l (vertices_of vs) ≡ true
-    → vertex_fault l v.fields.items ≡ None
+    → vertex_fault l v.fields ≡ None
 sound_read role l vs i v lt at h =
-    unbroken (vertex_fault l v.fields.items) _ (clean_at l vs i v lt at (both_true (are_clean l (vertices_of vs)) (is_whole role (all_seen l (vertices_of vs))) h).0)
+    unbroken (vertex_fault l v.fields) _ (clean_at l vs i v lt at (both_true (are_clean l (vertices_of vs)) (is_whole role (all_seen l (vertices_of vs))) h).0)
 
 -- the numbers of a vertex, over the fields as they were lent
 same_value : (o : Option ValueFault) (a v : List ℤ) → Ok v ≡ reading o a → v ≡ a

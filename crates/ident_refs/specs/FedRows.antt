@@ -36,6 +36,8 @@ abbrev pub all_rows : ℕ → List (List Row) → List (ℕ × Row)
 all_rows n [] = []
 all_rows n (rows ∷ tables) = with_number n rows ++ all_rows (n + 1) tables
 
--- what is wrong with the keys and references of rows that are fed one after another, each with the number of its table
+-- what is wrong with the keys and references of rows that are fed one after another, each with the
+-- number of its table
 abbrev pub fed_keys : Layout → List (ℕ × Row) → List Finding
-fed_keys l rows = tables_keys l.codes (by_table (form_of l) rows) l.tables (by_table (form_of l) rows)
+fed_keys l rows =
+    tables_keys l.codes (by_table (form_of l) rows) l.tables (by_table (form_of l) rows)

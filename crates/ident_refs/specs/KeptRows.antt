@@ -1,5 +1,6 @@
 -- What is kept of the rows of a table: their lines, their keys, and the words that name other rows.
-use Rattle.std.specs.Prelude.{ℕ, ◌+◌, List, [], ◌∷◌, ◌++◌, map, take, drop, slice_index_or, Option, Some, None, if◌then◌else◌}
+use Rattle.std.specs.Prelude.{ℕ, ◌+◌, List, [], ◌∷◌, ◌++◌, map, take, drop, slice_index_or, Option}
+use Rattle.std.specs.Prelude.{Some, None, if◌then◌else◌}
 use Rattle.std.specs.List.{flat_map, list_any}
 use Rattle.std.specs.Option.{option_map}
 use Rattle.ports.specs.SortedKeys.{is_key}
@@ -34,7 +35,10 @@ pub record Ref : Type 0 where
 
 abbrev pub word_refs : Codes → ℕ → ℕ → ℕ → List (List ℕ) → List Ref
 word_refs codes line number k [] = []
-word_refs codes line number k (word ∷ words) = if is_undefined codes word then [] else record { line = line; column = number; table = k; word = Some (word_code word) } ∷ []
+word_refs codes line number k (word ∷ words) =
+    if is_undefined codes word
+    then []
+    else record { line = line; column = number; table = k; word = Some (word_code word) } ∷ []
 
 abbrev pub column_refs : Codes → ℕ → ℕ → Option ℕ → List (List ℕ) → List Ref
 column_refs codes line number None words = []
@@ -44,10 +48,12 @@ column_refs codes line number (Some k) words = word_refs codes line number k wor
 abbrev pub columns_refs : Codes → ℕ → ℕ → List Column → List (List ℕ) → List Ref
 columns_refs codes line number [] words = []
 columns_refs codes line number (c ∷ cs) words =
-    column_refs codes line number (referred_table c.form) (take (width c.form) words) ++ columns_refs codes line (number + 1) cs (drop (width c.form) words)
+    column_refs codes line number (referred_table c.form) (take (width c.form) words)
+    ++ columns_refs codes line (number + 1) cs (drop (width c.form) words)
 
 abbrev pub row_refs : Codes → Table → Row → List Ref
-row_refs codes t r = if is_counted t r then columns_refs codes r.line 1 t.columns (drop 1 r.fields) else []
+row_refs codes t r =
+    if is_counted t r then columns_refs codes r.line 1 t.columns (drop 1 r.fields) else []
 
 -- ---- the rows of a table
 -- an IDENT list: the column of its findings, its places, and the key of each row
@@ -68,7 +74,8 @@ abbrev pub row_line : Row → ℕ
 row_line r = r.line
 
 abbrev pub kept_list : Codes → Table → List Row → List ℕ → KeptList
-kept_list codes t rows list = record { column = column_of list; places = list; keys = map (list_key codes t list) rows }
+kept_list codes t rows list =
+    record { column = column_of list; places = list; keys = map (list_key codes t list) rows }
 
 abbrev pub kept_lists : Codes → Table → List Row → List (List ℕ) → List KeptList
 kept_lists codes t rows lists = map (kept_list codes t rows) lists
@@ -88,7 +95,12 @@ no_rows codes t = kept_table codes t []
 
 -- one more row
 abbrev pub with_key : Codes → Table → Row → KeptList → KeptList
-with_key codes t r l = record { column = l.column; places = l.places; keys = l.keys ++ list_key codes t l.places r ∷ [] }
+with_key codes t r l =
+    record {
+      column = l.column;
+      places = l.places;
+      keys = l.keys ++ list_key codes t l.places r ∷ [];
+    }
 
 abbrev pub with_row : Row → Kept → Kept
 with_row r k = record {
@@ -103,7 +115,8 @@ with_row r k = record {
 -- ---- the rows of all tables, fed one after another, each with the number of its table
 abbrev pub kept_from : Codes → ℕ → List Table → List (ℕ × Row) → List Kept
 kept_from codes n [] rows = []
-kept_from codes n (t ∷ ts) rows = kept_table codes t (of_table n rows) ∷ kept_from codes (n + 1) ts rows
+kept_from codes n (t ∷ ts) rows =
+    kept_table codes t (of_table n rows) ∷ kept_from codes (n + 1) ts rows
 
 abbrev pub kept_rows : Layout → List (ℕ × Row) → List Kept
 kept_rows l rows = kept_from l.codes 0 l.tables rows
@@ -127,18 +140,30 @@ first_line (Some key) (r ∷ rows) = if is_key key r.1 then Some r.0 else first_
 
 abbrev pub repeat : Code → ℕ → ℕ → Option ℕ → List Finding
 repeat code column line None = []
-repeat code column line (Some first) = record { line = line; column = column; code = code; other = Line first } ∷ []
+repeat code column line (Some first) =
+    record { line = line; column = column; code = code; other = Line first } ∷ []
 
--- rows after some others: each whose key repeats that of an earlier row, with the line of the first of these
-abbrev pub repeats : Code → ℕ → List (ℕ × Option (List ℕ)) → List (ℕ × Option (List ℕ)) → List Finding
+-- rows after some others: each whose key repeats that of an earlier row, with the line of the first
+-- of these
+abbrev pub repeats : Code → ℕ → List (ℕ × Option (List ℕ)) → List (ℕ × Option (List ℕ))
+    → List Finding
 repeats code column before [] = []
-repeats code column before (r ∷ rows) = repeat code column r.0 (first_line r.1 before) ++ repeats code column (before ++ r ∷ []) rows
+repeats code column before (r ∷ rows) =
+    repeat code column r.0 (first_line r.1 before) ++ repeats code column (before ++ r ∷ []) rows
 
 -- a reference whose key is no identification of its table
 abbrev pub dangling_finding : List (List (Option (List ℕ))) → Ref → Option (List ℕ) → List Finding
 dangling_finding ids r None = []
 dangling_finding ids r (Some key) =
-    if list_any (is_key key) (slice_index_or ids r.table []) then [] else record { line = r.line; column = r.column; code = Reference; other = Word (drop 1 key) } ∷ []
+    if list_any (is_key key) (slice_index_or ids r.table [])
+    then []
+    else record {
+      line = r.line;
+      column = r.column;
+      code = Reference;
+      other = Word (drop 1 key);
+    }
+    ∷ []
 
 abbrev pub ref_findings : List (List (Option (List ℕ))) → Ref → List Finding
 ref_findings ids r = dangling_finding ids r r.word
@@ -148,7 +173,9 @@ list_findings lines l = repeats Ident l.column [] (zip_keys lines l.keys)
 
 -- by the identifications of all tables
 abbrev pub kept_findings : List (List (Option (List ℕ))) → Kept → List Finding
-kept_findings ids k = repeats Tid 0 [] (zip_keys k.lines k.ids) ++ (flat_map (list_findings k.lines) k.lists ++ flat_map (ref_findings ids) k.refs)
+kept_findings ids k =
+    repeats Tid 0 [] (zip_keys k.lines k.ids)
+    ++ (flat_map (list_findings k.lines) k.lists ++ flat_map (ref_findings ids) k.refs)
 
 abbrev pub ids_of : Kept → List (Option (List ℕ))
 ids_of k = k.ids

@@ -1,5 +1,6 @@
 -- The values of an IDENT list.
-use Rattle.std.specs.Prelude.{ℕ, ℤ, Bool, true, false, ◌&&◌, nat_eq, is_none, if◌then◌else◌, List, [], ◌∷◌, ◌++◌, take, drop, map, slice_index_or, Option, Some, None}
+use Rattle.std.specs.Prelude.{ℕ, ℤ, Bool, true, false, ◌&&◌, nat_eq, is_none, if◌then◌else◌, List}
+use Rattle.std.specs.Prelude.{[], ◌∷◌, ◌++◌, take, drop, map, slice_index_or, Option, Some, None}
 use Rattle.std.specs.Cmp.Lexicographic.{pointwise}
 use Rattle.ili_grammar.specs.Syntax.{Codes}
 use Rattle.resolver.specs.Resolved.{Form, LineForm}
@@ -17,7 +18,8 @@ pub record KeyVertex : Type 0 where
   pub kind : Kind
   pub numbers : List ℤ
 
--- a value as it is compared: a number or a coordinate by its numbers, a line by its vertices, all else by its bytes
+-- a value as it is compared: a number or a coordinate by its numbers, a line by its vertices, all
+-- else by its bytes
 pub data Value : Type 0 where
   Numbers : List ℤ → Value
   Bytes : List ℕ → Value
@@ -31,11 +33,14 @@ key_value (reading.Bytes word) = Bytes word
 
 -- the value of a column by its form, none where it is undefined or has a finding
 abbrev pub form_value : Codes → Form → List (List ℕ) → Option Value
-form_value codes form words = if is_none (field_fault form codes words) then Some (key_value (value_of form words)) else None
+form_value codes form words =
+    if is_none (field_fault form codes words) then Some (key_value (value_of form words)) else None
 
 abbrev pub columns_values : Codes → List Column → List (List ℕ) → List (Option Value)
 columns_values codes [] words = []
-columns_values codes (c ∷ cs) words = form_value codes c.form (take (width c.form) words) ∷ columns_values codes cs (drop (width c.form) words)
+columns_values codes (c ∷ cs) words =
+    form_value codes c.form (take (width c.form) words)
+    ∷ columns_values codes cs (drop (width c.form) words)
 
 abbrev pub key_vertex_of : LineForm → Vertex → KeyVertex
 key_vertex_of l v = record { kind = v.kind; numbers = numbers_on (line_axes l) v.fields }
@@ -43,7 +48,10 @@ key_vertex_of l v = record { kind = v.kind; numbers = numbers_on (line_axes l) v
 -- the value of a line, none where it is undefined or has a finding
 abbrev pub line_value : Role → LineForm → List Vertex → Option Value
 line_value role l [] = None
-line_value role l (v ∷ vs) = if is_sound_stroke role l (v ∷ vs) then Some (Vertices (map (key_vertex_of l) (v ∷ vs))) else None
+line_value role l (v ∷ vs) =
+    if is_sound_stroke role l (v ∷ vs)
+    then Some (Vertices (map (key_vertex_of l) (v ∷ vs)))
+    else None
 
 abbrev pub lines_values : Role → List LineForm → List (List Vertex) → List (Option Value)
 lines_values role [] strokes = []
@@ -52,7 +60,8 @@ lines_values role (l ∷ ls) (s ∷ ss) = line_value role l s ∷ lines_values r
 
 -- the values of a row: its columns, and its lines after them
 abbrev pub row_values : Codes → Table → Row → List (Option Value)
-row_values codes t r = columns_values codes t.columns (drop 1 r.fields) ++ lines_values t.role t.lines r.strokes
+row_values codes t r =
+    columns_values codes t.columns (drop 1 r.fields) ++ lines_values t.role t.lines r.strokes
 
 -- ---- an IDENT list
 -- the values at some places, if there is one at each
@@ -65,8 +74,8 @@ abbrev pub values_at : List (Option Value) → List ℕ → Option (List Value)
 values_at values [] = Some []
 values_at values (p ∷ ps) = and_value (slice_index_or values p None) (values_at values ps)
 
--- the values of a row by a list, which no other row may have; none where one of them is none, or where the row
--- has too few or too many words
+-- the values of a row by a list, which no other row may have; none where one of them is none, or
+-- where the row has too few or too many words
 abbrev pub ident_values : Codes → Table → List ℕ → Row → Option (List Value)
 ident_values codes t list r = if is_counted t r then values_at (row_values codes t r) list else None
 

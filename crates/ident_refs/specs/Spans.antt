@@ -18,4 +18,6 @@ span_view s = record { form = form_of s.form.now; start = s.start; end = s.end }
 -- columns, the first of which begins at that field
 abbrev pub spans_from : ℕ → List Column → List Span
 spans_from start [] = []
-spans_from start (c ∷ cs) = record { form = c.form; start = start; end = start + width c.form } ∷ spans_from (start + width c.form) cs
+spans_from start (c ∷ cs) =
+    record { form = c.form; start = start; end = start + width c.form }
+    ∷ spans_from (start + width c.form) cs

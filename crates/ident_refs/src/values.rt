@@ -57,11 +57,11 @@ pub fn form_value<'a>(form: &Form, codes: &Codes, words: &'a [Field]) -> Option<
 
 // A sound vertex by its kind and its numbers.
 fn key_vertex_of(form: &LineForm, vertex: &Vertex) -> KeyVertex
-    requires { vertex_fault (line_of form.now) vertex.now.fields.items ≡ None }
+    requires { vertex_fault (line_of form.now) vertex.now.fields ≡ None }
     ensures { key_vertex_view result ≡ key_vertex_of (line_of form.now) (vertex_of vertex.now) }
 {
     let kind = vertex.kind;
-    match read_vertex(form, &vertex.fields) {
+    match read_vertex(form, vertex.fields.as_slice()) {
         Ok(value) => KeyVertex {
             kind,
             x: value.at.x,

@@ -2,8 +2,9 @@
 use Rattle.std.specs.Prelude.{ℕ, Bool, true, false, not, ◌&&◌, ◌==◌, List, [], ◌∷◌}
 use Rattle.itf_lines.specs.PassStates.{PassState, in_the_head}
 
--- Whether a call ran out of memory, of which nothing else is said then; the continue code; how many physical lines
--- ended; the bytes of the physical line that has begun; and the state of the pass before it.
+-- Whether a call ran out of memory, of which nothing else is said then; the continue code; how many
+-- physical lines ended; the bytes of the physical line that has begun; and the state of the pass
+-- before it.
 pub record FeedState : Type 0 where
   pub failed : Bool
   pub code : ℕ

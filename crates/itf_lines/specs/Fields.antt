@@ -1,5 +1,6 @@
 -- The fields of a physical line.
-use Rattle.std.specs.Prelude.{ℕ, Bool, true, false, cond, ◌&&◌, ◌||◌, ◌==◌, ◌-◌, List, [], ◌∷◌, length, take, map}
+use Rattle.std.specs.Prelude.{ℕ, Bool, true, false, cond, ◌&&◌, ◌||◌, ◌==◌, ◌-◌, List, [], ◌∷◌}
+use Rattle.std.specs.Prelude.{length, take, map}
 use Rattle.bstr.specs.Text.{lines_of, without_terminator}
 
 -- The physical lines: each ends with LF or with the last byte. A CR before LF belongs to no line.
@@ -23,7 +24,9 @@ ends_field (c ∷ line) = is_blank c
 -- the fields of a line: one or more blanks and tabs divide them
 abbrev pub fields : List ℕ → List (List ℕ)
 fields [] = []
-fields (c ∷ line) = cond (is_blank c) (fields line) (cond (ends_field line) ((c ∷ []) ∷ fields line) (with_first_byte c (fields line)))
+fields (c ∷ line) =
+    cond (is_blank c) (fields line)
+    (cond (ends_field line) ((c ∷ []) ∷ fields line) (with_first_byte c (fields line)))
 
 -- nothing but blanks and tabs
 abbrev pub all_blank : List ℕ → Bool

@@ -1,5 +1,6 @@
 -- The logical lines of a transfer text.
-use Rattle.std.specs.Prelude.{ℕ, ◌+◌, Bool, false, cond, List, [], ◌∷◌, ◌++◌, length, Option, Some, None, codes, if◌then◌else◌, is_some}
+use Rattle.std.specs.Prelude.{ℕ, ◌+◌, Bool, false, cond, List, [], ◌∷◌, ◌++◌, length, Option, Some}
+use Rattle.std.specs.Prelude.{None, codes, if◌then◌else◌, is_some}
 use Rattle.std.specs.List.{flat_map}
 use Rattle.itf_lines.specs.declared.word.LineWord.{LineWord}
 use Rattle.itf_lines.specs.declared.word.LineWord.TheVariants.{Slashes}
@@ -14,7 +15,8 @@ pub record LogicalLine : Type 0 where
   pub word : LineWord
   pub fields : List (List ℕ)
 
--- the logical lines of a text up to the first fault of continuation, that fault, and the number of physical lines
+-- the logical lines of a text up to the first fault of continuation, that fault, and the number of
+-- physical lines
 pub record LogicalLines : Type 0 where
   pub lines : List LogicalLine
   pub fault : Option LineFault
@@ -43,7 +45,12 @@ body (line ∷ lines) = cond (is_slashes line) lines (body lines)
 
 -- a line of the head is a logical line, whatever it holds
 abbrev pub head_line : ℕ → List ℕ → LogicalLine
-head_line number line = record { number = number; word = if is_slashes line then Slashes else word_in (fields line); fields = without_first (fields line) }
+head_line number line =
+    record {
+      number = number;
+      word = if is_slashes line then Slashes else word_in (fields line);
+      fields = without_first (fields line);
+    }
 
 -- those lines, the first of which has that number
 abbrev pub head_lines : ℕ → List (List ℕ) → List LogicalLine
@@ -67,7 +74,12 @@ abbrev pub without_code : ℕ → List ℕ → List ℕ
 without_code code line = if goes_on code line then without_last (trim_end line) else line
 
 abbrev pub piece : ℕ → ℕ → List ℕ → Piece
-piece code number line = record { number = number; fields = fields (without_code code line); goes_on = goes_on code line }
+piece code number line =
+    record {
+      number = number;
+      fields = fields (without_code code line);
+      goes_on = goes_on code line;
+    }
 
 -- the physical lines, the first of which has that number
 abbrev pub pieces : ℕ → ℕ → List (List ℕ) → List Piece
@@ -102,7 +114,8 @@ fault_of (p ∷ ps) = if is_cont p.fields then Some (StrayCont p.number) else fa
 -- the fault of the first group that has one
 abbrev pub first_fault : List (List Piece) → Option LineFault
 first_fault [] = None
-first_fault (group ∷ groups) = if is_some (fault_of group) then fault_of group else first_fault groups
+first_fault (group ∷ groups) =
+    if is_some (fault_of group) then fault_of group else first_fault groups
 
 -- the groups before the first with a fault
 abbrev pub sound_groups : List (List Piece) → List (List Piece)
@@ -117,7 +130,8 @@ fields_of (p ∷ ps) = p.fields ++ flat_map (λ q. without_first q.fields) ps
 -- a line of that number with these fields; none where there is no field
 abbrev pub line_with : ℕ → List (List ℕ) → List LogicalLine
 line_with number [] = []
-line_with number (field ∷ fields) = record { number = number; word = word_in (field ∷ fields); fields = fields } ∷ []
+line_with number (field ∷ fields) =
+    record { number = number; word = word_in (field ∷ fields); fields = fields } ∷ []
 
 -- the logical line of a group; none where it has no field
 abbrev pub line_of : List Piece → List LogicalLine

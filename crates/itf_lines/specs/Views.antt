@@ -11,4 +11,5 @@ abbrev pub lines_view : List Line → List LogicalLine
 lines_view lines = map line_view lines
 
 abbrev pub logical_view : Lines → LogicalLines
-logical_view lines = record { lines = lines_view lines.lines.items; fault = lines.fault; total = lines.total }
+logical_view lines =
+    record { lines = lines_view lines.lines.items; fault = lines.fault; total = lines.total }

@@ -2,7 +2,9 @@
 use Rattle.std.specs.Prelude.{ℕ, List, [], ◌∷◌, Bool, if◌then◌else◌, nat_eq, codes}
 use Rattle.std.specs.Cmp.Lexicographic.{pointwise}
 use Rattle.itf_lines.specs.declared.word.LineWord.{LineWord}
-use Rattle.itf_lines.specs.declared.word.LineWord.TheVariants.{Scnt, Mtid, Modl, Motr, Topi, Tabl, Obje, Stpt, Lipt, Arcp, Elin, Etab, Etop, Emod, Ende, Other}
+use Rattle.itf_lines.specs.declared.word.LineWord.TheVariants.{Scnt, Mtid, Modl, Motr, Topi, Tabl}
+use Rattle.itf_lines.specs.declared.word.LineWord.TheVariants.{Obje, Stpt, Lipt, Arcp, Elin, Etab}
+use Rattle.itf_lines.specs.declared.word.LineWord.TheVariants.{Etop, Emod, Ende, Other}
 
 -- two fields are the same bytes
 abbrev pub same : List ℕ → List ℕ → Bool

@@ -86,3 +86,14 @@ pub all_took : (f g : Form) (old new : TransferState) (ls ms : List LogicalLine)
     → (new.rows ≡ old.rows ++ shown_rows f old.at ls) × (new.at ≡ after_lines f old.at ls)
 all_took f g old new ls ms e k p q =
     (q ∙ ap (λ (x : List (ℕ × Row)). old.rows ++ x) (shown_took f g old.at old.at ls ms e refl k), p ∙ at_took f g old.at old.at ls ms e refl k)
+
+-- a feed of the code that took lines by the names of a layout took them by the layout
+pub at_by : {A E : Type 0} (r : Result A E) (f g : Form) (new at front : Standing) (ls : List LogicalLine) → g ≡ f → front ≡ at → OnOk r (new ≡ after_lines g front ls) → OnOk r (new ≡ after_lines f at ls)
+at_by (Ok a) f g new at front ls e k p = p ∙ at_took f g at front ls ls e k refl
+at_by (Err x) f g new at front ls e k p = tt
+
+pub rows_by : {A E : Type 0} (r : Result A E) (f g : Form) (new before rows : List (ℕ × Row)) (at front : Standing) (ls : List LogicalLine) → g ≡ f → front ≡ at → rows ≡ before
+    → OnOk r (new ≡ rows ++ shown_rows g front ls) → OnOk r (new ≡ before ++ shown_rows f at ls)
+rows_by (Ok a) f g new before rows at front ls e k h p =
+    p ∙ (ap (λ (x : List (ℕ × Row)). x ++ shown_rows g front ls) h ∙ ap (λ (x : List (ℕ × Row)). before ++ x) (shown_took f g at front ls ls e k refl))
+rows_by (Err x) f g new before rows at front ls e k h p = tt

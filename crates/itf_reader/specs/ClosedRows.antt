@@ -1,5 +1,6 @@
 -- The rows that the lines of a text close, one after another.
-use Rattle.std.specs.Prelude.{ℕ, ◌+◌, List, [], ◌∷◌, ◌++◌, map, Result, Ok, Err, if◌then◌else◌, nat_eq}
+use Rattle.std.specs.Prelude.{ℕ, ◌+◌, List, [], ◌∷◌, ◌++◌, map, Result, Ok, Err, if◌then◌else◌}
+use Rattle.std.specs.Prelude.{nat_eq}
 use Rattle.itf_lines.specs.declared.word.LineWord.{LineWord}
 use Rattle.itf_lines.specs.declared.word.LineWord.TheVariants.{Obje, Etab}
 use Rattle.itf_lines.specs.LogicalLines.{LogicalLine}
@@ -8,7 +9,8 @@ use Rattle.itf_reader.specs.Machine.{InRow, State, strokes, start, Code, step}
 
 -- the row that an open object becomes
 abbrev pub row_closed : InRow → Row
-row_closed r = record { line = r.line; fields = r.fields; strokes = fill_strokes r.inside.lines r.strokes }
+row_closed r =
+    record { line = r.line; fields = r.fields; strokes = fill_strokes r.inside.lines r.strokes }
 
 -- the row that a line of that word closes, with the number of its table; most close none
 abbrev pub closes : State → LineWord → List (ℕ × Row)

@@ -1,5 +1,6 @@
 -- What is wrong with the first line at fault, said of the lines alone.
-use Rattle.std.specs.Prelude.{◌≡◌, ℕ, Bool, true, false, List, [], ◌∷◌, ◌++◌, Option, Some, None, is_some}
+use Rattle.std.specs.Prelude.{◌≡◌, ℕ, Bool, true, false, List, [], ◌∷◌, ◌++◌, Option, Some, None}
+use Rattle.std.specs.Prelude.{is_some}
 use Rattle.itf_lines.specs.declared.word.LineWord.{LineWord}
 use Rattle.itf_lines.specs.declared.word.LineWord.TheVariants.{Modl, Motr, Topi, Tabl}
 use Rattle.itf_lines.specs.LogicalLines.{LogicalLine}
@@ -9,10 +10,11 @@ use Rattle.itf_reader.specs.Machine.{Code, Word, AsMotr, Name, Twice}
 
 -- the form, with further topics and tables after its own
 abbrev pub with_more : Form → List (List ℕ) → List Table → Form
-with_more form topics tables = record { model = form.model; topics = form.topics ++ topics; tables = form.tables ++ tables }
+with_more form topics tables =
+    record { model = form.model; topics = form.topics ++ topics; tables = form.tables ++ tables }
 
--- whatever the names: a line of that word, with some number and fields, may follow those lines, if the form may have
--- further topics and tables
+-- whatever the names: a line of that word, with some number and fields, may follow those lines, if
+-- the form may have further topics and tables
 abbrev pub MayStand : Form → List LogicalLine → LineWord → Type 0
 MayStand form front word =
     (topics : List (List ℕ)) × (tables : List Table) × (number : ℕ) × (fields : List (List ℕ))
@@ -44,9 +46,13 @@ is_named form front word fields = true
 abbrev pub IsMotr : Form → List LogicalLine → LineWord → Type 0
 IsMotr form front word = (word ≡ Motr) × ((ts : List TopicRows) → IsText form ts front → ⊥)
 
--- the first code that fits a line at fault after those lines; one that fits no other names what was named before
+-- the first code that fits a line at fault after those lines; one that fits no other names what was
+-- named before
 pub data HasCode (form : Form) (front : List LogicalLine) (l : LogicalLine) : Code → Type 0 where
   motr : IsMotr form front l.word → HasCode form front l AsMotr
-  word : (IsMotr form front l.word → ⊥) → (MayStand form front l.word → ⊥) → HasCode form front l Word
-  name : (IsMotr form front l.word → ⊥) → MayStand form front l.word → is_named form front l.word l.fields ≡ false → HasCode form front l Name
-  twice : (IsMotr form front l.word → ⊥) → MayStand form front l.word → is_named form front l.word l.fields ≡ true → HasCode form front l Twice
+  word : (IsMotr form front l.word → ⊥) → (MayStand form front l.word → ⊥)
+      → HasCode form front l Word
+  name : (IsMotr form front l.word → ⊥) → MayStand form front l.word
+      → is_named form front l.word l.fields ≡ false → HasCode form front l Name
+  twice : (IsMotr form front l.word → ⊥) → MayStand form front l.word
+      → is_named form front l.word l.fields ≡ true → HasCode form front l Twice

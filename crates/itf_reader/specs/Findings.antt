@@ -3,7 +3,10 @@ use Rattle.std.specs.Prelude.{◌≡◌, ℕ, Bool, List, [], ◌∷◌, ◌++�
 use Rattle.std.specs.Ordering.{nat_cmp, on, then_cmp, is_lt}
 use Rattle.std.specs.declared.cmp.Ordering.{Ordering}
 use Rattle.itf_reader.specs.declared.findings.Code.{Code}
-use Rattle.itf_reader.specs.declared.findings.Code.TheVariants.{Count, Undefined, Number, Decimals, Range, Text, Date, Enum, Coord, Arcs, Arc, Short, Tid, Ident, Reference}
+use Rattle.itf_reader.specs.declared.findings.Code.TheVariants.{Count, Undefined, Number, Decimals}
+use Rattle.itf_reader.specs.declared.findings.Code.TheVariants.{Range, Text, Date, Enum, Coord}
+use Rattle.itf_reader.specs.declared.findings.Code.TheVariants.{Arcs, Arc, Short, Tid, Ident}
+use Rattle.itf_reader.specs.declared.findings.Code.TheVariants.{Reference}
 use Rattle.itf_reader.specs.declared.findings.Other.{Other as CodeOther}
 use Rattle.itf_reader.specs.declared.findings.Other.TheVariants as others
 use Rattle.itf_reader.specs.declared.findings.Finding.{Finding as CodeFinding}
@@ -40,7 +43,9 @@ rank Reference = 14
 
 -- by the line, on one line by the column, in one column by the code
 abbrev pub finding_cmp : Finding → Finding → Ordering
-finding_cmp = then_cmp (on (λ f. f.line) nat_cmp) (then_cmp (on (λ f. f.column) nat_cmp) (on (λ f. rank f.code) nat_cmp))
+finding_cmp =
+    then_cmp (on (λ f. f.line) nat_cmp)
+    (then_cmp (on (λ f. f.column) nat_cmp) (on (λ f. rank f.code) nat_cmp))
 
 abbrev pub is_before : Finding → Finding → Bool
 is_before f g = is_lt (finding_cmp f g)

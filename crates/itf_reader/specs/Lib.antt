@@ -5,6 +5,7 @@ pub mod Few
 pub mod Findings
 pub mod Forms
 pub mod ReadRows
+pub mod KeptFields
 pub mod Layouts
 pub mod Machine
 pub mod MachineViews

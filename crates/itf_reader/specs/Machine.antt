@@ -1,9 +1,14 @@
 -- A machine that takes the lines of a transfer text one by one.
-use Rattle.std.specs.Prelude.{ℕ, Bool, true, false, List, [], ◌∷◌, ◌++◌, length, Option, Some, None, Result, Ok, Err, if◌then◌else◌, nat_lt}
+use Rattle.std.specs.Prelude.{ℕ, Bool, true, false, List, [], ◌∷◌, ◌++◌, length, Option, Some, None}
+use Rattle.std.specs.Prelude.{Result, Ok, Err, if◌then◌else◌, nat_lt}
 use Rattle.itf_lines.specs.declared.word.LineWord.{LineWord}
-use Rattle.itf_lines.specs.declared.word.LineWord.TheVariants.{Scnt, Slashes, Mtid, Modl, Motr, Topi, Tabl, Obje, Stpt, Lipt, Arcp, Elin, Etab, Etop, Emod, Ende}
+use Rattle.itf_lines.specs.declared.word.LineWord.TheVariants.{Scnt, Slashes, Mtid, Modl, Motr}
+use Rattle.itf_lines.specs.declared.word.LineWord.TheVariants.{Topi, Tabl, Obje, Stpt, Lipt, Arcp}
+use Rattle.itf_lines.specs.declared.word.LineWord.TheVariants.{Elin, Etab, Etop, Emod, Ende}
 use Rattle.itf_lines.specs.LogicalLines.{LogicalLine}
-use Rattle.itf_reader.specs.Forms.{Table, Form, Start, Straight, OnArc, Vertex, vertex, Row, TableRows, TopicRows, names, table_named, topic_named, has_table, has_topic, fill_strokes}
+use Rattle.itf_reader.specs.Forms.{Table, Form, Start, Straight, OnArc, Vertex, vertex, Row}
+use Rattle.itf_reader.specs.Forms.{TableRows, TopicRows, names, table_named, topic_named, has_table}
+use Rattle.itf_reader.specs.Forms.{has_topic, fill_strokes}
 
 -- why a line may not follow those before it
 pub data Code : Type 0 where
@@ -42,13 +47,21 @@ pub data State : Type 0 where
   done : List TopicRows → State
 
 abbrev pub with_table : InTopic → TableRows → InTopic
-with_table t rows = record { earlier = t.earlier; number = t.number; tables = t.tables ++ rows ∷ [] }
+with_table t rows =
+    record { earlier = t.earlier; number = t.number; tables = t.tables ++ rows ∷ [] }
 
 abbrev pub with_row : InTable → Row → InTable
-with_row t row = record { inside = t.inside; number = t.number; lines = t.lines; rows = t.rows ++ row ∷ [] }
+with_row t row =
+    record { inside = t.inside; number = t.number; lines = t.lines; rows = t.rows ++ row ∷ [] }
 
 abbrev pub with_stroke : InRow → List Vertex → InRow
-with_stroke r stroke = record { inside = r.inside; line = r.line; fields = r.fields; strokes = r.strokes ++ stroke ∷ [] }
+with_stroke r stroke =
+    record {
+      inside = r.inside;
+      line = r.line;
+      fields = r.fields;
+      strokes = r.strokes ++ stroke ∷ [];
+    }
 
 -- the topics, with the open one
 abbrev pub closed_topic : InTopic → List TopicRows
@@ -60,20 +73,31 @@ closed_table t = with_table t.inside (record { table = t.number; rows = t.rows }
 
 -- the table, with the open object
 abbrev pub closed_row : InRow → InTable
-closed_row r = with_row r.inside (record { line = r.line; fields = r.fields; strokes = fill_strokes r.inside.lines r.strokes })
+closed_row r =
+    with_row r.inside (record {
+      line = r.line;
+      fields = r.fields;
+      strokes = fill_strokes r.inside.lines r.strokes;
+    })
 
 abbrev pub opened_row : InTable → ℕ → List (List ℕ) → InRow
 opened_row t n fs = record { inside = t; line = n; fields = fs; strokes = [] }
 
 abbrev pub opened_table : InTopic → ℕ → Table → Result State Code
-opened_table t i table = if has_table i t.tables then Err Twice else Ok (objects (record { inside = t; number = i; lines = table.lines; rows = [] }))
+opened_table t i table =
+    if has_table i t.tables
+    then Err Twice
+    else Ok (objects (record { inside = t; number = i; lines = table.lines; rows = [] }))
 
 abbrev pub named_table : InTopic → Option (ℕ × Table) → Result State Code
 named_table t None = Err Name
 named_table t (Some found) = opened_table t found.0 found.1
 
 abbrev pub opened_topic : List TopicRows → ℕ → Result State Code
-opened_topic earlier i = if has_topic i earlier then Err Twice else Ok (tables (record { earlier = earlier; number = i; tables = [] }))
+opened_topic earlier i =
+    if has_topic i earlier
+    then Err Twice
+    else Ok (tables (record { earlier = earlier; number = i; tables = [] }))
 
 abbrev pub named_topic : List TopicRows → Option ℕ → Result State Code
 named_topic earlier None = Err Name

@@ -5,7 +5,8 @@ use Rattle.itf_reader.specs.declared.machine.state.State.TheVariants as states
 use Rattle.itf_reader.specs.declared.machine.frame.Frame.{Frame}
 use Rattle.itf_reader.specs.declared.machine.Machine.{Machine}
 use Rattle.itf_reader.specs.Forms.{TableRows, TopicRows}
-use Rattle.itf_reader.specs.Machine.{InTopic, InTable, InRow, start, free, title, model, topics, tables, objects, strokes, vertices, arc, last, done}
+use Rattle.itf_reader.specs.Machine.{InTopic, InTable, InRow, start, free, title, model, topics}
+use Rattle.itf_reader.specs.Machine.{tables, objects, strokes, vertices, arc, last, done}
 use Rattle.itf_reader.specs.Refusals.{fault_of}
 use Rattle.itf_reader.specs.RowFeeds.{Standing, standing, stopped}
 use Rattle.itf_reader.specs.Views.{vertices_of, strokes_of}
@@ -24,13 +25,20 @@ abbrev pub tables_alone : List ℕ → List TableRows
 tables_alone numbers = map table_alone numbers
 
 abbrev pub in_topic : Frame → InTopic
-in_topic f = record { earlier = topics_alone f.topics; number = f.topic; tables = tables_alone f.tables }
+in_topic f =
+    record { earlier = topics_alone f.topics; number = f.topic; tables = tables_alone f.tables }
 
 abbrev pub in_table : Frame → InTable
 in_table f = record { inside = in_topic f; number = f.table; lines = f.lines; rows = [] }
 
 abbrev pub in_row : Machine → InRow
-in_row m = record { inside = in_table m.frame; line = m.open.line; fields = m.open.fields.items; strokes = strokes_of m.open.strokes.items }
+in_row m =
+    record {
+      inside = in_table m.frame;
+      line = m.open.line;
+      fields = m.open.fields.items;
+      strokes = strokes_of m.open.strokes.items;
+    }
 
 abbrev pub at_in : CodeState → Machine → Standing
 at_in states.BeforeScnt m = standing start

@@ -1,5 +1,6 @@
 -- A set of numbers, with a flag for each.
-use Rattle.std.specs.Prelude.{◌≡◌, ℕ, Bool, true, false, List, [], ◌∷◌, if◌then◌else◌, nat_eq, get_or}
+use Rattle.std.specs.Prelude.{◌≡◌, ℕ, Bool, true, false, List, [], ◌∷◌, if◌then◌else◌, nat_eq}
+use Rattle.std.specs.Prelude.{get_or}
 
 -- the number is one of these
 abbrev pub has_number : ℕ → List ℕ → Bool

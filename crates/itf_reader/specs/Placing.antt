@@ -6,4 +6,5 @@ use Rattle.itf_reader.specs.ClosedRows.{of_table}
 -- the rows of each table, the first of which has that number, before those that stood there
 abbrev pub with_rows : ℕ → List (ℕ × Row) → List (List Row) → List (List Row)
 with_rows number rows [] = []
-with_rows number rows (own ∷ tables) = (of_table number rows ++ own) ∷ with_rows (number + 1) rows tables
+with_rows number rows (own ∷ tables) =
+    (of_table number rows ++ own) ∷ with_rows (number + 1) rows tables

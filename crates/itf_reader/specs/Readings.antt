@@ -16,15 +16,22 @@ pub data Structure : Type 0 where
 abbrev pub IsRead : Form → LogicalLines → List (List Row) → Type 0
 IsRead form given transfer = (given.fault ≡ None) × TransferText form given.lines transfer
 
--- the first line with which the lines begin no text, with its code; where all lines begin one, the line of the fault of
--- continuation; and where there is none, the line after the last one, for a text that ends too soon
+-- the first line with which the lines begin no text, with its code; where all lines begin one, the
+-- line of the fault of continuation; and where there is none, the line after the last one, for a
+-- text that ends too soon
 pub data IsRefused (form : Form) (given : LogicalLines) : ℕ → Structure → Type 0 where
   at_line : (front rest : List LogicalLine) (l : LogicalLine) (code : Code)
-      → given.lines ≡ front ++ l ∷ rest → IsFaultAt form front l → HasCode form front l code → IsRefused form given l.number (OfLine code)
-  at_open : (n : ℕ) → Begins form given.lines → given.fault ≡ Some (OpenContinue n) → IsRefused form given n Continue
-  at_stray : (n : ℕ) → Begins form given.lines → given.fault ≡ Some (StrayCont n) → IsRefused form given n Cont
-  at_end : Begins form given.lines → ((ts : List TopicRows) → IsText form ts given.lines → ⊥) → given.fault ≡ None → IsRefused form given (given.total + 1) End
+      → given.lines ≡ front ++ l ∷ rest → IsFaultAt form front l → HasCode form front l code
+      → IsRefused form given l.number (OfLine code)
+  at_open : (n : ℕ) → Begins form given.lines → given.fault ≡ Some (OpenContinue n)
+      → IsRefused form given n Continue
+  at_stray : (n : ℕ) → Begins form given.lines → given.fault ≡ Some (StrayCont n)
+      → IsRefused form given n Cont
+  at_end : Begins form given.lines → ((ts : List TopicRows) → IsText form ts given.lines → ⊥)
+      → given.fault ≡ None → IsRefused form given (given.total + 1) End
 
 -- the lines are read, or refused
 abbrev pub HasAnswer : Form → LogicalLines → Type 0
-HasAnswer form given = ((transfer : List (List Row)) × IsRead form given transfer) ⊎ ((n : ℕ) × (code : Structure) × IsRefused form given n code)
+HasAnswer form given =
+    ((transfer : List (List Row)) × IsRead form given transfer)
+    ⊎ ((n : ℕ) × (code : Structure) × IsRefused form given n code)

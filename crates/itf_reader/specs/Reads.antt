@@ -1,5 +1,6 @@
 -- What a transfer is that comes in pieces.
-use Rattle.std.specs.Prelude.{◌≡◌, ⊤, ℕ, ◌+◌, Bool, true, false, List, [], ◌++◌, Option, Some, None, Result, Ok, Err}
+use Rattle.std.specs.Prelude.{◌≡◌, ⊤, ℕ, ◌+◌, Bool, true, false, List, [], ◌++◌, Option, Some, None}
+use Rattle.std.specs.Prelude.{Result, Ok, Err}
 use Rattle.itf_lines.specs.declared.logical.LineFault.{LineFault}
 use Rattle.itf_lines.specs.declared.logical.LineFault.TheVariants.{OpenContinue, StrayCont}
 use Rattle.itf_lines.specs.declared.logical.LineEnd.{LineEnd}
@@ -15,8 +16,8 @@ use Rattle.itf_reader.specs.ClosedRows.{by_table}
 use Rattle.itf_reader.specs.RowFeeds.{Standing, standing, stopped, after_lines, shown_rows}
 use Rattle.itf_reader.specs.Views.{transfer_of}
 
--- where a text is at fault whose lines are all taken, by its fault of continuation, whether ENDE has come, and the
--- number of its lines; none where it is a transfer
+-- where a text is at fault whose lines are all taken, by its fault of continuation, whether ENDE
+-- has come, and the number of its lines; none where it is a transfer
 abbrev pub fault_after : Option LineFault → Bool → ℕ → Option (ℕ × Structure)
 fault_after (Some (OpenContinue n)) ended total = Some (n, Continue)
 fault_after (Some (StrayCont n)) ended total = Some (n, Cont)
@@ -37,8 +38,8 @@ abbrev pub answer : Form → List (ℕ × Row) → Option (ℕ × Structure) →
 answer f rows None = read (by_table f rows)
 answer f rows (Some fault) = refused fault.0 fault.1
 
--- What a TransferFeed is seen as: whether a call ran out of memory, of which nothing else is said then; the rows that
--- were closed, each with the number of its table; and the state of the machine.
+-- What a TransferFeed is seen as: whether a call ran out of memory, of which nothing else is said
+-- then; the rows that were closed, each with the number of its table; and the state of the machine.
 pub record TransferState : Type 0 where
   pub failed : Bool
   pub rows : List (ℕ × Row)
@@ -50,7 +51,8 @@ opening = record { failed = false; rows = []; at = standing start }
 
 -- the answer where reading goes on from a state with these lines and the text ends after them
 abbrev pub read_from : Form → TransferState → List LogicalLine → LineEnd → Answer
-read_from f s lines end = answer f (s.rows ++ shown_rows f s.at lines) (fault_at (after_lines f s.at lines) end)
+read_from f s lines end =
+    answer f (s.rows ++ shown_rows f s.at lines) (fault_at (after_lines f s.at lines) end)
 
 -- what is known at the end of some lines
 abbrev pub end_of : LogicalLines → LineEnd

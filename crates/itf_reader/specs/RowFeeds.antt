@@ -1,5 +1,6 @@
 -- How the lines of a transfer are taken one after another, where no closed object is kept.
-use Rattle.std.specs.Prelude.{◌≡◌, ⊤, ℕ, Bool, List, [], ◌∷◌, ◌++◌, Option, Some, None, Result, Ok, Err}
+use Rattle.std.specs.Prelude.{◌≡◌, ⊤, ℕ, Bool, List, [], ◌∷◌, ◌++◌, Option, Some, None, Result, Ok}
+use Rattle.std.specs.Prelude.{Err}
 use Rattle.itf_lines.specs.declared.word.LineWord.{LineWord}
 use Rattle.itf_lines.specs.declared.word.LineWord.TheVariants.{Obje, Etab, Etop}
 use Rattle.itf_lines.specs.LogicalLines.{LogicalLine}
@@ -70,8 +71,8 @@ shown_row (Some table) row = (table, row) ∷ []
 abbrev pub row_opened : ℕ → List (List ℕ) → Row
 row_opened number fields = record { line = number; fields = fields; strokes = [] }
 
--- What a RowFeed is seen as: whether a call ran out of memory, of which nothing else is said then; its state; and
--- the row that was closed last.
+-- What a RowFeed is seen as: whether a call ran out of memory, of which nothing else is said then;
+-- its state; and the row that was closed last.
 pub record RowState : Type 0 where
   pub failed : Bool
   pub at : Standing

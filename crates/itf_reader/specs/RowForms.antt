@@ -5,13 +5,16 @@ use Rattle.itf_reader.specs.Forms.{Table, Start, Straight, OnArc, Vertex, vertex
 -- straights, and arcs by their third point and their end
 pub data GoesOn : List Vertex → Type 0 where
   at_end : GoesOn []
-  by_straight : (n : ℕ) (fs : List (List ℕ)) (vs : List Vertex) → GoesOn vs → GoesOn (vertex Straight n fs ∷ vs)
-  by_arc : (n m : ℕ) (fs gs : List (List ℕ)) (vs : List Vertex) → GoesOn vs → GoesOn (vertex OnArc n fs ∷ vertex Straight m gs ∷ vs)
+  by_straight : (n : ℕ) (fs : List (List ℕ)) (vs : List Vertex) → GoesOn vs
+      → GoesOn (vertex Straight n fs ∷ vs)
+  by_arc : (n m : ℕ) (fs gs : List (List ℕ)) (vs : List Vertex) → GoesOn vs
+      → GoesOn (vertex OnArc n fs ∷ vertex Straight m gs ∷ vs)
 
 -- a stroke is undefined, or it begins somewhere and goes on
 pub data HasStrokeForm : List Vertex → Type 0 where
   undefined_stroke : HasStrokeForm []
-  defined_stroke : (n : ℕ) (fs : List (List ℕ)) (vs : List Vertex) → GoesOn vs → HasStrokeForm (vertex Start n fs ∷ vs)
+  defined_stroke : (n : ℕ) (fs : List (List ℕ)) (vs : List Vertex) → GoesOn vs
+      → HasStrokeForm (vertex Start n fs ∷ vs)
 
 -- as many strokes as its table has lines
 abbrev pub IsCounted : ℕ → Row → Type 0

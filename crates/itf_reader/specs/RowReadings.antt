@@ -1,5 +1,6 @@
 -- What is read of a row: what its words and vertices stand for.
-use Rattle.std.specs.Prelude.{◌≡◌, ℕ, ℤ, Bool, true, false, IsTrue, IsFalse, ◌&&◌, if◌then◌else◌, List, [], ◌∷◌, ◌++◌, length, take, drop, map, Result, Ok, Err}
+use Rattle.std.specs.Prelude.{◌≡◌, ℕ, ℤ, Bool, true, false, IsTrue, IsFalse, ◌&&◌, if◌then◌else◌}
+use Rattle.std.specs.Prelude.{List, [], ◌∷◌, ◌++◌, length, take, drop, map, Result, Ok, Err}
 use Rattle.std.specs.List.{list_all, flat_map}
 use Rattle.ili_grammar.specs.Syntax.{Codes}
 use Rattle.resolver.specs.Resolved.{LineForm}
@@ -18,10 +19,12 @@ use Rattle.itf_reader.specs.declared.rows.values.RowValues.{RowValues}
 use Rattle.itf_reader.specs.Forms.{Vertex, Row}
 use Rattle.itf_reader.specs.Views.{kind_of}
 use Rattle.itf_reader.specs.RowFindings.{is_counted}
-use Rattle.itf_reader.specs.StrokeFindings.{Seen, seen, heights_of, is_clean, is_whole, is_sound_stroke}
+use Rattle.itf_reader.specs.StrokeFindings.{Seen, seen, heights_of, is_clean, is_whole}
+use Rattle.itf_reader.specs.StrokeFindings.{is_sound_stroke}
 
 -- ---- columns
--- a column: its value, without the bytes of a word that stands for itself; undefined, as an optional one may be; or at fault
+-- a column: its value, without the bytes of a word that stands for itself; undefined, as an
+-- optional one may be; or at fault
 pub data Cell : Type 0 where
   Sound : Value → Cell
   Undefined Faulty : Cell
@@ -35,12 +38,16 @@ cell_by (Ok value) = Sound (without_bytes value)
 cell_by (Err fault) = Faulty
 
 abbrev pub cell_of : Codes → Column → List (List ℕ) → Cell
-cell_of codes c words = if c.optional && list_all (is_undefined codes) words then Undefined else cell_by (column_reading c.form codes words)
+cell_of codes c words =
+    if c.optional && list_all (is_undefined codes) words
+    then Undefined
+    else cell_by (column_reading c.form codes words)
 
 -- columns and their words
 abbrev pub cells_of : Codes → List Column → List (List ℕ) → List Cell
 cells_of codes [] words = []
-cells_of codes (c ∷ cs) words = cell_of codes c (take (width c.form) words) ∷ cells_of codes cs (drop (width c.form) words)
+cells_of codes (c ∷ cs) words =
+    cell_of codes c (take (width c.form) words) ∷ cells_of codes cs (drop (width c.form) words)
 
 -- ---- lines
 -- the vertices of a line that are sound, and their heights
@@ -67,7 +74,10 @@ is_sound_read (SoundLine n) = true
 is_sound_read (FaultyLine n) = false
 
 abbrev pub stroke_of : Role → LineForm → List Vertex → Stroke
-stroke_of role l vs = if is_sound_stroke role l vs then SoundLine (length (sound_vertices l vs)) else FaultyLine (length (sound_vertices l vs))
+stroke_of role l vs =
+    if is_sound_stroke role l vs
+    then SoundLine (length (sound_vertices l vs))
+    else FaultyLine (length (sound_vertices l vs))
 
 abbrev pub line_of : Role → LineForm → List Vertex → Stroke
 line_of role l [] = UndefinedLine
@@ -132,4 +142,6 @@ pub record AreRead (codes : Codes) (t : Table) (r : Row) (values : RowValues) : 
 
 -- nothing is read of a row with too few or too many words
 abbrev pub Reads : Codes → Table → Row → RowValues → Type 0
-Reads codes t r values = (IsTrue (is_counted t r) → AreRead codes t r values) × (IsFalse (is_counted t r) → AreNone values)
+Reads codes t r values =
+    (IsTrue (is_counted t r) → AreRead codes t r values)
+    × (IsFalse (is_counted t r) → AreNone values)

@@ -1,5 +1,6 @@
 -- What is wrong with the vertices of a line.
-use Rattle.std.specs.Prelude.{ℕ, ℤ, Bool, true, false, ◌&&◌, not, if◌then◌else◌, List, [], ◌∷◌, ◌++◌, drop, map, Option, Some, None, is_none}
+use Rattle.std.specs.Prelude.{ℕ, ℤ, Bool, true, false, ◌&&◌, not, if◌then◌else◌, List, [], ◌∷◌}
+use Rattle.std.specs.Prelude.{◌++◌, drop, map, Option, Some, None, is_none}
 use Rattle.std.specs.Option.{option_map}
 use Rattle.std.specs.List.{list_all, flat_map}
 use Rattle.resolver.specs.Resolved.{LineForm}
@@ -10,14 +11,17 @@ use Rattle.field_values.specs.Fields.{line_axes, vertex_fault}
 use Rattle.field_values.specs.Places.{Place, place_named, is_same_place, is_no_arc}
 use Rattle.field_values.specs.Readings.{numbers_on}
 use Rattle.itf_reader.specs.declared.findings.Code.{Code}
-use Rattle.itf_reader.specs.declared.findings.Code.TheVariants.{Undefined, Number, Decimals, Range, Text, Date, Enum, Coord, Arcs, Arc, Short}
+use Rattle.itf_reader.specs.declared.findings.Code.TheVariants.{Undefined, Number, Decimals, Range}
+use Rattle.itf_reader.specs.declared.findings.Code.TheVariants.{Text, Date, Enum, Coord, Arcs, Arc}
+use Rattle.itf_reader.specs.declared.findings.Code.TheVariants.{Short}
 use Rattle.itf_reader.specs.Findings.{Finding, Nothing}
 use Rattle.itf_reader.specs.Forms.{Kind, Start, Straight, OnArc, Vertex}
 
 -- a finding at a line and in a column, where a test failed
 abbrev pub finding_at : ℕ → ℕ → Option Code → List Finding
 finding_at line column None = []
-finding_at line column (Some code) = record { line = line; column = column; code = code; other = Nothing } ∷ []
+finding_at line column (Some code) =
+    record { line = line; column = column; code = code; other = Nothing } ∷ []
 
 abbrev pub code_if : Bool → Code → Option Code
 code_if failed code = if failed then Some code else None
@@ -46,7 +50,9 @@ is_on_arc Straight = false
 
 -- its fields break no rule, and it lies on no arc where the line may have none
 abbrev pub vertex_code : LineForm → Vertex → Option Code
-vertex_code l v = first_code (option_map code_of (vertex_fault l v.fields)) (code_if (is_on_arc v.kind && not l.arcs) Arcs)
+vertex_code l v =
+    first_code (option_map code_of (vertex_fault l v.fields))
+    (code_if (is_on_arc v.kind && not l.arcs) Arcs)
 
 abbrev pub vertex_finding : LineForm → ℕ → Vertex → List Finding
 vertex_finding l column v = finding_at v.line column (vertex_code l v)
@@ -109,7 +115,8 @@ is_short role (v ∷ vs) = is_of_area role && is_one_place (v ∷ vs)
 -- it is reported at the vertex that begins the line
 abbrev pub short_finding : Role → ℕ → List Seen → List Finding
 short_finding role column [] = []
-short_finding role column (v ∷ vs) = finding_at v.line column (code_if (is_short role (v ∷ vs)) Short)
+short_finding role column (v ∷ vs) =
+    finding_at v.line column (code_if (is_short role (v ∷ vs)) Short)
 
 -- ---- lines
 -- no vertex has a finding of its own
@@ -122,10 +129,12 @@ are_clean l vs = list_all (is_clean l) vs
 abbrev pub all_seen : LineForm → List Vertex → List Seen
 all_seen l vs = map (seen l) vs
 
--- what is wrong with the vertices of a line; arcs and the length are judged where each vertex is clean
+-- what is wrong with the vertices of a line; arcs and the length are judged where each vertex is
+-- clean
 abbrev pub stroke_findings : Role → LineForm → ℕ → List Vertex → List Finding
 stroke_findings role l column vs =
-    if are_clean l vs then short_finding role column (all_seen l vs) ++ arc_findings column (all_seen l vs)
+    if are_clean l vs
+    then short_finding role column (all_seen l vs) ++ arc_findings column (all_seen l vs)
     else flat_map (vertex_finding l column) vs
 
 -- nothing is wrong with vertices that are clean

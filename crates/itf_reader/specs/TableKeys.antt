@@ -1,5 +1,6 @@
 -- Tables by one key of their topic and their name.
-use Rattle.std.specs.Prelude.{◌<◌, ◌^◌, ℕ, List, ◌++◌, length, map, get_or, slice_get, Option, Some, None}
+use Rattle.std.specs.Prelude.{◌<◌, ◌^◌, ℕ, List, ◌++◌, length, map, get_or, slice_get, Option, Some}
+use Rattle.std.specs.Prelude.{None}
 use Rattle.std.specs.Option.{option_map}
 use Rattle.std.specs.Int.{w64, to_be_bytes}
 use Rattle.table_layout.specs.Layouts.{Table as LayoutTable}

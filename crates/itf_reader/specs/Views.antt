@@ -15,7 +15,7 @@ kind_of kinds.Straight = Straight
 kind_of kinds.OnArc = OnArc
 
 abbrev pub vertex_of : CodeVertex → Vertex
-vertex_of v = record { line = v.line; kind = kind_of v.kind; fields = v.fields.items }
+vertex_of v = record { line = v.line; kind = kind_of v.kind; fields = v.fields }
 
 abbrev pub vertices_of : List CodeVertex → List Vertex
 vertices_of vs = map vertex_of vs

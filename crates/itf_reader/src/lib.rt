@@ -38,12 +38,14 @@
 //!   the line of four slashes each word may come, and after ENDE none.
 //!
 //! Cost: `Names` sorts the names of a layout, n log n for every layout, and each line TOPI or TABL
-//! looks one up by binary search. A feed goes over the lines once and copies their fields. A
-//! `RowFeed` holds the open row and the one that was closed last, whose room is used again, and the
-//! numbers of the topics and tables so far. A `TransferFeed` holds all rows, each moved out of the
-//! feed below, and sorts the names anew for each piece.
+//! looks one up by binary search. A feed goes over the lines once and copies their fields. A vertex
+//! of two fields takes 48 bytes; other numbers of fields have a block of their own. A `RowFeed`
+//! holds the open row and the one that was closed last, and the numbers of the topics and tables
+//! so far; the lists of a row's fields and strokes are used again. A `TransferFeed` holds all rows,
+//! each moved out of the feed below, and sorts the names anew for each piece.
 #![tactic(auto)]
 
+mod fields;
 mod findings;
 mod laws;
 mod machine;
@@ -55,6 +57,7 @@ mod rows;
 mod transfer;
 mod transfer_feed;
 
+pub use fields::Fields;
 pub use findings::{Code, Finding, Other};
 pub use laws::{
     from_the_opening, machine_begins, machine_reads, machine_stops, named_before, one_answer,

@@ -18,7 +18,6 @@ mod number_set;
 mod objects;
 mod polylines;
 mod rows;
-mod spare;
 mod state;
 mod topics;
 
@@ -29,7 +28,6 @@ pub use names::Names;
 use number_set::NumberSet;
 use ports::Memory;
 pub use rows::no_row;
-use spare::Spare;
 pub use state::State;
 use std::alloc::Global;
 use table_layout::TableId;
@@ -44,8 +42,6 @@ pub struct Machine {
     /// The vertices of the open polyline.
     pub polyline: Vec<Vertex>,
     pub closed: Row,
-    /// Room of earlier objects.
-    pub spare: Spare,
 }
 
 // The code of a word that may not come next, before ENDE.
@@ -76,7 +72,6 @@ impl Machine {
             open: no_row(alloc),
             polyline: Vec::new(alloc),
             closed: no_row(alloc),
-            spare: Spare::new(alloc),
         }
     }
 

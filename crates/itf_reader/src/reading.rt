@@ -8,7 +8,6 @@ ghost use Rattle.itf_reader.specs.Refusals.{Refuses};
 ghost use Rattle.itf_reader.specs.Layouts.{form_of};
 ghost use Rattle.itf_reader.specs.Views.{transfer_of};
 
-use super::machine::Names;
 use super::refusal::ReadRefusal;
 use super::transfer::Transfer;
 use super::transfer_feed::TransferFeed;
@@ -31,9 +30,8 @@ pub fn read_transfer(alloc: Global, layout: &Layout, lines: &Lines) -> Result<Tr
     ensures refused { IfErr result (λ refusal. Refuses (form_of (layout_view layout.now))
         (logical_view lines.now) refusal) }
 {
-    let names = Names::new(alloc, layout)?;
     let mut feed = TransferFeed::new(alloc, layout)?;
-    feed.take_lines(&names, &lines.lines)?;
+    feed.take_all(layout, &lines.lines)?;
     let end = LineEnd {
         fault: lines.fault,
         total: lines.total,

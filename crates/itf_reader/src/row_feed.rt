@@ -79,7 +79,7 @@ impl RowFeed {
     /// The row is then `closed`, up to the next line. After the first line at fault nothing is
     /// taken, and no row is closed.
     ///
-    /// Cost: time and memory in proportion to the line. The rooms of the row before are used again.
+    /// Cost: time and memory in proportion to the line.
     pub fn take(&mut self, names: &Names, line: &Line) -> Result<Option<TableId>, Memory>
         ensures at { OnOk result
             (self.new.at ≡ next (form_in names.now) self.old.at (line_view line.now)) }
@@ -124,6 +124,15 @@ impl RowFeed {
         requires { self.failed ≡ false → end.total < 4294967295 }
         ensures sound { self.failed ≡ false → Tells (fault_at self.at end) result }
         ensures failed { self.failed ≡ true → result ≡ Err OutOfMemory }
+    {
+        self.answer_at(end)
+    }
+
+    // What `finish` answers.
+    fn answer_at(&self, end: LineEnd) -> Result<(), ReadRefusal>
+        requires { self.now.failed ≡ false → end.total < 4294967295 }
+        ensures sound { self.now.failed ≡ false → Tells (fault_at self.now.at end) result }
+        ensures failed { self.now.failed ≡ true → result ≡ Err OutOfMemory }
     {
         if self.failed {
             return Err(ReadRefusal::Memory);

@@ -1,4 +1,5 @@
 // What a transfer holds.
+use super::fields::Fields;
 use itf_lines::Field;
 
 /// How a vertex is joined to the one before it.
@@ -17,7 +18,7 @@ pub enum VertexKind {
 pub struct Vertex {
     pub line: u32,
     pub kind: VertexKind,
-    pub fields: Vec<Field>,
+    pub fields: Fields,
 }
 
 /// A line of an object. An undefined one has no vertices.

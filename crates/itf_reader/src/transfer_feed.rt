@@ -111,13 +111,26 @@ impl TransferFeed {
         ensures sound { OnOk result ((self.old.failed ≡ false) × (self.new.failed ≡ false)) }
         ensures failed { OnErr result (self.new.failed ≡ true) }
     {
+        self.take_all(layout, &lines)
+    }
+
+    /// The same, and the lines stay with the caller.
+    pub fn take_all(&mut self, layout: &Layout, lines: &[Line]) -> Result<(), Memory>
+        requires valid { self.old.failed ≡ false → IsValid (layout_view layout.now) }
+        ensures at { OnOk result (self.new.at ≡ after_lines (form_of (layout_view layout.now))
+            self.old.at (lines_view lines.now)) }
+        ensures rows { OnOk result (self.new.rows ≡ self.old.rows ++
+            shown_rows (form_of (layout_view layout.now)) self.old.at (lines_view lines.now)) }
+        ensures sound { OnOk result ((self.old.failed ≡ false) × (self.new.failed ≡ false)) }
+        ensures failed { OnErr result (self.new.failed ≡ true) }
+    {
         if self.failed {
             return Err(Memory);
         }
         self.failed = true;
         let names = Names::new(self.alloc, layout)?;
         self.failed = false;
-        self.take_lines(&names, &lines)
+        self.take_lines(&names, lines)
     }
 
     /// The text ends here: the rows of each table of the layout, or the first line at fault. A feed

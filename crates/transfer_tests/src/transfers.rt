@@ -1,103 +1,35 @@
 // Whole transfers: their rows, and the line and the code of the first line at fault.
-ghost use Rattle.std.specs.Prelude.{◌≡◌, ◌<◌, ◌≤◌, [], ◌∷◌, List};
-ghost use Rattle.table_layout.specs.Layouts.{Main, Table as LayoutTable};
-ghost use Rattle.table_layout.specs.Valid.{IsTable, IsValid};
-ghost use Rattle.table_layout.specs.Values.{layout_view, table_view};
+ghost use Rattle.table_layout.specs.Valid.{IsValid};
+ghost use Rattle.table_layout.specs.Values.{layout_view};
 
-use super::layouts::CODES;
+use super::layouts::{CODES, layout_of};
 use itf_lines::{Field, LineEnd, Lines, logical_lines};
 use itf_reader::{
     Code, Finding, Names, Other, ReadRefusal, Row, RowFeed, Structure, Transfer, TransferFeed,
     read_transfer, sort_findings,
 };
-use ports::Name;
-use resolver::{Limits, LineForm, Window};
 use std::alloc::Global;
 use std::process::Abort;
-use table_layout::{Layout, Role, Table};
-
-fn name(rt: &impl Abort, alloc: Global, text: &str) -> Name {
-    match Name::new(alloc, text.as_bytes()) {
-        Ok(name) => name,
-        Err(_) => panic!(rt; "memory"),
-    }
-}
-
-fn line(rt: &impl Abort, alloc: Global) -> LineForm {
-    let metres = Limits {
-        low: 0,
-        high: 1_000_000,
-        scale: 3,
-    };
-    LineForm {
-        name: name(rt, alloc, "Line"),
-        optional: true,
-        arcs: true,
-        window: Window {
-            x: metres,
-            y: metres,
-        },
-        height: None,
-        overlap: None,
-    }
-}
-
-// A table with that many lines.
-fn table(rt: &impl Abort, alloc: Global, topic: u32, text: &str, count: usize) -> Table
-    requires topic { topic < 2 }
-    requires few { count ≤ 2 }
-    ensures valid { (tables : List LayoutTable) → IsTable 2 tables (table_view result) }
-    ensures main { (table_view result).role ≡ Main }
-{
-    let mut lines = Vec::new(alloc);
-    for _ in 0..count {
-        lines.push(line(rt, alloc)).expect(rt, "memory");
-    }
-    Table {
-        topic,
-        name: name(rt, alloc, text),
-        role: Role::Main,
-        columns: Vec::new(alloc),
-        lines,
-        idents: Vec::new(alloc),
-    }
-}
-
-fn two<T: Drop>(rt: &impl Abort, alloc: Global, a: T, b: T) -> Vec<T>
-    ensures { result.items ≡ a ∷ b ∷ [] }
-{
-    let mut items = Vec::new(alloc);
-    items.push(a).expect(rt, "memory");
-    items.push(b).expect(rt, "memory");
-    items
-}
-
-fn three<T: Drop>(rt: &impl Abort, alloc: Global, a: T, b: T, c: T) -> Vec<T>
-    ensures { result.items ≡ a ∷ b ∷ c ∷ [] }
-{
-    let mut items = two(rt, alloc, a, b);
-    items.push(c).expect(rt, "memory");
-    items
-}
+use table_layout::Layout;
 
 // Topic T with the tables A and L, of no and of two lines, and topic U with a table A of one.
-fn small(rt: &impl Abort, alloc: Global) -> Layout
-    ensures { IsValid (layout_view result) }
-{
-    let first = table(rt, alloc, 0, "A", 0);
-    let second = table(rt, alloc, 0, "L", 2);
-    let third = table(rt, alloc, 1, "A", 1);
-    Layout {
-        model: name(rt, alloc, "M"),
-        codes: CODES,
-        topics: two(rt, alloc, name(rt, alloc, "T"), name(rt, alloc, "U")),
-        tables: three(rt, alloc, first, second, third),
-        areas: Vec::new(alloc),
-    }
-}
+const MODEL: &str = "TRANSFER Small; DOMAIN K = COORD2 0.000 0.000 1000.000 1000.000;
+MODEL M
+TOPIC T =
+TABLE A = NO IDENT END A;
+TABLE L = P: OPTIONAL POLYLINE WITH (STRAIGHTS, ARCS) VERTEX K;
+Q: OPTIONAL POLYLINE WITH (STRAIGHTS, ARCS) VERTEX K; NO IDENT END L;
+END T.
+TOPIC U =
+TABLE A = P: OPTIONAL POLYLINE WITH (STRAIGHTS, ARCS) VERTEX K; NO IDENT END A;
+END U.
+END M.
+FORMAT FREE;
+CODE BLANK = DEFAULT, UNDEFINED = DEFAULT, CONTINUE = DEFAULT; TID = ANY; END.
+";
 
 fn read(rt: &impl Abort, alloc: Global, front: &str, text: &str) -> Result<Transfer, ReadRefusal> {
-    let layout = small(rt, alloc);
+    let layout = layout_of(rt, alloc, MODEL);
     let mut whole = String::new(alloc);
     whole.push_str(front).expect(rt, "memory");
     whole.push_str(text).expect(rt, "memory");
@@ -129,7 +61,7 @@ fn push_row(rt: &impl Abort, alloc: Global, text: &mut String, row: &Row) {
         for vertex in &stroke.vertices {
             let kind = format!(in alloc; " {} {:?}", vertex.line, vertex.kind).expect(rt, "memory");
             text.push_str(&kind).expect(rt, "memory");
-            push_fields(rt, text, &vertex.fields);
+            push_fields(rt, text, vertex.fields.as_slice());
         }
     }
     text.push_str("\n").expect(rt, "memory");
@@ -335,7 +267,7 @@ fn answer(rt: &impl Abort, alloc: Global, read: Result<Transfer, ReadRefusal>) -
 #[test]
 fn the_cut_into_pieces_does_not_matter(rt: HostRuntime) {
     let alloc = rt.alloc();
-    let layout = small(&rt, alloc);
+    let layout = layout_of(&rt, alloc, MODEL);
     for text in [CONTINUED, DRAWN, "TOPI T\nETOP\nTOPI T\nETOP\n", "EMOD\n"] {
         let lines = lines_of(&rt, alloc, text);
         assert!(&rt; lines.total < 4294967295);
@@ -352,7 +284,7 @@ fn the_cut_into_pieces_does_not_matter(rt: HostRuntime) {
 #[test]
 fn each_row_is_shown_when_it_is_closed(rt: HostRuntime) {
     let alloc = rt.alloc();
-    let layout = small(&rt, alloc);
+    let layout = layout_of(&rt, alloc, MODEL);
     let lines = lines_of(&rt, alloc, CONTINUED);
     match Names::new(alloc, &layout) {
         Ok(names) => {

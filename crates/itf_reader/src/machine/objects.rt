@@ -38,7 +38,7 @@ impl Machine {
             line.now.fields.items))) }
         ensures closed { self.new.closed ≡ self.old.closed }
     {
-        self.spare.recycle(&mut self.open.strokes)?;
+        self.open.strokes.clear();
         open_row(self.alloc, &mut self.open, self.frame.lines, line)?;
         self.frame.state = State::InObject;
         Ok(())

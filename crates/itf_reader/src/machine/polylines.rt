@@ -9,7 +9,8 @@ ghost use Rattle.itf_reader.specs.MachineViews.{at_of, in_row};
 
 use super::Machine;
 use super::state::State;
-use crate::transfer::{Stroke, VertexKind};
+use crate::fields::Fields;
+use crate::transfer::{Stroke, Vertex, VertexKind};
 use itf_lines::{Line, LineWord};
 use ports::Memory;
 use std::mem::replace;
@@ -23,8 +24,11 @@ impl Machine {
         ensures frame { self.new.frame ≡ self.old.frame }
         ensures row { self.new.open ≡ self.old.open }
     {
-        let vertex = self.spare.vertex(self.alloc, kind, line)?;
-        self.polyline.push(vertex)?;
+        self.polyline.push(Vertex {
+            line: line.number,
+            kind,
+            fields: Fields::new(self.alloc, &line.fields)?,
+        })?;
         Ok(())
     }
 
@@ -57,8 +61,7 @@ impl Machine {
         ensures { OnOk result (at_of self.new ≡ standing (strokes (with_stroke (in_row self.old)
             (vertices_of self.old.polyline.items)))) }
     {
-        let next = self.spare.polyline(self.alloc);
-        let vertices = replace(&mut self.polyline, next);
+        let vertices = replace(&mut self.polyline, Vec::new(self.alloc));
         self.open.strokes.push(Stroke { vertices })?;
         self.frame.state = State::InObject;
         Ok(())

@@ -4,22 +4,11 @@ ghost use Rattle.itf_reader.specs.Forms.{fill_strokes};
 ghost use Rattle.itf_reader.specs.Views.{strokes_of, row_of};
 ghost use Rattle.itf_reader.specs.RowFeeds.{row_opened};
 
+use crate::fields::refill;
 use crate::transfer::{Row, Stroke};
-use itf_lines::{Field, Line};
+use itf_lines::Line;
 use ports::Memory;
 use std::alloc::Global;
-
-/// Replaces some fields by copies of others.
-pub fn refill(alloc: Global, into: &mut Vec<Field>, fields: &[Field]) -> Result<(), Memory>
-    ensures { OnOk result (into.new.items ≡ fields.now) }
-{
-    into.clear();
-    into.reserve_exact(fields.len())?;
-    for field in fields {
-        into.push(Field::new(alloc, field.bytes())?)?;
-    }
-    Ok(())
-}
 
 /// No object.
 pub fn no_row(alloc: Global) -> Row {

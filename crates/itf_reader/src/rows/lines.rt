@@ -1,5 +1,5 @@
 // The lines of a row.
-ghost use Rattle.std.specs.Prelude.{◌≡◌, ◌≤◌, ◌+◌, ◌++◌, ◌∷◌, [], drop, length, IfOk, OnOk};
+ghost use Rattle.std.specs.Prelude.{◌≡◌, ◌≤◌, ◌+◌, ◌++◌, ◌∷◌, [], drop, length, not, IfOk, OnOk};
 ghost use Rattle.resolver.specs.Values.{line_of};
 ghost use Rattle.table_layout.specs.Values.{role_view, lines_view};
 ghost use Rattle.itf_reader.specs.Findings.{AddsFindings};
@@ -10,7 +10,9 @@ ghost use Rattle.itf_reader.specs.RowReadings.{sound_vertices, stroke_of as stro
 ghost use Rattle.itf_reader.specs.RowReadings.{stroke_view, strokes_view, vertices_view};
 ghost use Rattle.itf_reader.specs.RowReadings.{whole_stroke};
 ghost use Rattle.itf_reader.specs.Views.{stroke_of, strokes_of, vertices_of};
-ghost use Rattle.itf_reader.specs.StrokeFindings.{arc_findings, is_sound_stroke, short_finding};
+ghost use Rattle.itf_reader.specs.declared.findings.Code.TheVariants.{Undefined};
+ghost use Rattle.itf_reader.specs.StrokeFindings.{arc_findings, code_if, is_sound_stroke};
+ghost use Rattle.itf_reader.specs.StrokeFindings.{short_finding};
 ghost use Rattle.itf_reader.specs.StrokeFindings.{stroke_findings};
 
 use super::report::report;
@@ -79,18 +81,24 @@ fn read_line(
         (line_findings (role_view role) line column (line_of form.now) (stroke_of stroke.now))) }
 {
     if stroke.vertices.is_empty() {
-        let missing = if form.optional {
-            None
-        } else {
-            Some(Code::Undefined)
-        };
-        report(findings, line, column, missing)?;
+        report(findings, line, column, missing_code(form))?;
         values.strokes.push(StrokeRead::Undefined)?;
         return Ok(());
     }
     let read = read_stroke(role, column, form, &stroke.vertices, values, findings)?;
     values.strokes.push(read)?;
     Ok(())
+}
+
+// What fails at an undefined line.
+fn missing_code(form: &LineForm) -> Option<Code>
+    ensures { result ≡ code_if (not form.now.optional) Undefined }
+{
+    if form.optional {
+        None
+    } else {
+        Some(Code::Undefined)
+    }
 }
 
 /// Whether nothing is wrong with the vertices of a line. It holds their values while it looks.

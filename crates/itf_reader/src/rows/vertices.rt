@@ -24,7 +24,7 @@ use resolver::LineForm;
 fn value_of(form: &LineForm, vertex: &Vertex) -> Result<VertexValue, Code>
     ensures { value_reading result ≡ vertex_reading (line_of form.now) (vertex_of vertex.now) }
 {
-    match read_vertex(form, &vertex.fields) {
+    match read_vertex(form, vertex.fields.as_slice()) {
         Ok(value) => {
             if is_barred(form, vertex) {
                 Err(Code::Arcs)

@@ -10,7 +10,7 @@ pub returns-in-Ok : goal.returns-in-Ok
 returns-in-Ok c =
     let fx : FitsSigned w64 c.in-Ok.value.at.x = search rules in
     let fy : FitsSigned w64 c.in-Ok.value.at.y = search rules in
-    rw (to_z-of_z fx, to_z-of_z fy) (corner_read (line_of c.args.form.now) (vertex_of c.args.vertex.now) c.deref.result.now (numbers_of c.in-Ok.value) c.deref.ensures.value c.in-Ok.ensures.read)
+    rw (to_z-of_z fx, to_z-of_z fy) (corner_read (line_of c.args.form.now) (vertex_of c.args.vertex.now) c.as_slice.result.now (numbers_of c.in-Ok.value) c.as_slice.ensures c.in-Ok.ensures.read)
 
 pub returns-in-Err : goal.returns-in-Err
-returns-in-Err c = absurd (never_at (line_of c.args.form.now) c.args.vertex.now.fields.items c.deref.result.now c.in-Err.field-0 c.requires c.deref.ensures.value c.in-Err.ensures.read)
+returns-in-Err c = absurd (never_at (line_of c.args.form.now) c.args.vertex.now.fields c.as_slice.result.now c.in-Err.field-0 c.requires c.as_slice.ensures c.in-Err.ensures.read)
