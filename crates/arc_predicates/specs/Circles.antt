@@ -51,7 +51,8 @@ pub record IsCloseTo (h : HalfArc) (z : Vector) : Type 0 where
   pub above : off_y h z <ℤ (pos (2 ^ 41) *ℤ z.n)
   pub below : (pos 0 -ℤ off_y h z) <ℤ (pos (2 ^ 41) *ℤ z.n)
 
--- Where a place lies for a circle, from the circle's numbers and the place as it is seen from the circle's first point.
+-- Where a place lies for a circle, from the circle's numbers and the place as it is seen from the
+-- circle's first point.
 abbrev pub seen_power : ℤ → ℤ → ℤ → ℤ → ℤ → ℤ → ℤ
 seen_power d a b x y n = d *ℤ ((d *ℤ ((x *ℤ x) +ℤ (y *ℤ y))) -ℤ (((a *ℤ x) +ℤ (b *ℤ y)) *ℤ n))
 

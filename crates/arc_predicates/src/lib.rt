@@ -8,8 +8,8 @@
 //!   not on the third point's side of the chord. All are exact both ways: `None` comes exactly
 //!   where there is no circle, no side or no crossing of that kind.
 //! - **The rule that it serves.** Two curves of an area meet in control points alone. A pair that
-//!   `crosses` tells is bad (`plane::rule::bad_curves_are_not_apart`); a crossing between two of
-//!   the places is not told, and no coordinates of a crossing are computed.
+//!   `crosses` finds is bad (`plane::rule::bad_curves_are_not_apart`); a crossing between two of
+//!   the places is not found, and no coordinates of a crossing are computed.
 //! - **What it asks for.** Coordinates that differ by less than 2^41; the points of one window do.
 //! - **What has no answer.** A circle is made where its points are not collinear and differ by less
 //!   than 2^26 in each coordinate; a place has a side where it is less than 2^28 from the first

@@ -105,7 +105,7 @@ pub fn is_at_most_zero(d: i128, z: i128) -> bool
     side_by(d, z) != Side::Outside
 }
 
-/// The side that the product d z tells.
+/// The side that the product d z says.
 fn side_by(d: i128, z: i128) -> Side
     requires bent { d ≡ pos 0 → ⊥ }
     requires bound { IsWithin (2 ^ 126) z }

@@ -10,8 +10,8 @@ pub record AreEnds (events : ℕ) (low high : List ℕ) : Type 0 where
   pub high_within : (e : ℕ) → e < length low → slice_index high e < events
   pub apart : (e : ℕ) → e < length low → slice_index low e ≢ slice_index high e
 
--- a vertex for each event, and the first n edges: half-edge 2 e begins at the high end of edge e and 2 e + 1 at the low one,
--- no half-edge is linked with that of another edge, and each has face 0
+-- a vertex for each event, and the first n edges: half-edge 2 e begins at the high end of edge e
+-- and 2 e + 1 at the low one, no half-edge is linked with that of another edge, and each has face 0
 pub record IsMeshOf (events : ℕ) (low high : List ℕ) (n : ℕ) (mesh : HalfEdges) : Type 0 where
   pub vertices : mesh.vertices ≡ events
   pub size : size mesh ≡ 2 * n

@@ -13,7 +13,8 @@ fan_of starting ending = map number (starting_halves starting ++ ending_halves e
 abbrev pub AreFew : List ℕ → Type 0
 AreFew edges = (i : ℕ) → i < length edges → slice_index edges i < 2 ^ 31
 
--- the half-edges of the event are all that begin at one vertex, and none was linked with another yet
+-- the half-edges of the event are all that begin at one vertex, and none was linked with another
+-- yet
 pub record CanTurn (mesh : HalfEdges) (starting ending : List ℕ) : Type 0 where
   pub few_starting : AreFew starting
   pub few_ending : AreFew ending
@@ -26,4 +27,5 @@ pub record IsOver (starting fan : List ℕ) (n : ℕ) : Type 0 where
 
 -- the first n ending edges stand in the list, from its end on downwards
 pub record IsUnder (ending fan : List ℕ) (n : ℕ) : Type 0 where
-  pub each : (i j : ℕ) → j < n → i + j + 1 ≡ length fan → slice_index fan i ≡ 2 * slice_index ending j
+  pub each : (i j : ℕ) → j < n → i + j + 1 ≡ length fan
+      → slice_index fan i ≡ 2 * slice_index ending j

@@ -22,22 +22,25 @@ pub record IsEventAt (steps : List Step) (k : ℕ) (at : Point) : Type 0 where
   pub within : k < length steps
   pub point : (nth_step steps k).at ≡ at
 
--- the half-edges of the event are those that begin at its vertex, and the turn about it goes through them clockwise
+-- the half-edges of the event are those that begin at its vertex, and the turn about it goes
+-- through them clockwise
 pub record IsTurnedAt (mesh : HalfEdges) (k : ℕ) (around : List ℕ) : Type 0 where
   pub star : IsStar mesh around
   pub event : center mesh around ≡ k
   pub turns : TurnsThrough mesh around
 
--- two half-edges for each edge, which begin at the events of its ends; the first k events are turned, and no half-edge that begins
--- at a later one was linked with another yet
-pub record IsTurned (m : ℕ) (E : ℕ → Edge) (steps : List Step) (mesh : HalfEdges) (k : ℕ) : Type 0 where
+-- two half-edges for each edge, which begin at the events of its ends; the first k events are
+-- turned, and no half-edge that begins at a later one was linked with another yet
+pub record IsTurned (m : ℕ) (E : ℕ → Edge) (steps : List Step) (mesh : HalfEdges)
+    (k : ℕ) : Type 0 where
   pub count : size mesh ≡ 2 * m
   pub begins : (h : Half) → edge_of h < m → IsEventAt steps (origin_of mesh (number h)) (origin E h)
   pub stars : (j : ℕ) → j < k → IsTurnedAt mesh j (fan_numbers (nth_step steps j))
   pub loose : (h : ℕ) → h < size mesh → k ≤ origin_of mesh h → turned mesh h ≡ h
 
 -- the event with this number is a good step, at which these edges start and end
-pub record IsEvent (m : ℕ) (E : ℕ → Edge) (steps : List Step) (k : ℕ) (begun ended : List ℕ) : Type 0 where
+pub record IsEvent (m : ℕ) (E : ℕ → Edge) (steps : List Step) (k : ℕ)
+    (begun ended : List ℕ) : Type 0 where
   pub within : k < length steps
   pub good : GoodStep m E (nth_step steps k)
   pub starting : (nth_step steps k).starting ≡ begun

@@ -7,7 +7,7 @@ use ports::Memory;
 use std::alloc::Global;
 
 /// A mesh with a vertex for each event and an edge from event `low[e]` to event `high[e]` for each
-/// edge e. Its half-edge 2 e begins at the high end. The only error is want of memory. It takes
+/// edge e. Its half-edge 2 e begins at the high end. The only error is out of memory. It takes
 /// time linear in the edges, and 32 bytes for each.
 pub fn mesh_of(alloc: Global, events: u32, low: &[u32], high: &[u32]) -> Result<Mesh, Memory>
     requires few { length low.now < 2 ^ 31 }

@@ -1,5 +1,5 @@
 //! The mesh of a run over edges: its vertices are the events, and about each of them the
-//! half-edges are linked in the order in which the run tells them.
+//! half-edges are linked in the order in which the run gives them.
 //!
 //! - **What it does.** `mesh_of` makes a mesh with a vertex for each event and an edge for each
 //!   edge, nothing linked. `turn_event` takes the edges that start and that end at one event, as a

@@ -32,14 +32,19 @@ pub data AtBorder (cells : List Gap) (h : ℕ) : Type 0 where
   lowest : (e : ℕ) → HasCell cells None (Some e) → h ≡ under_of e → AtBorder cells h
   highest : (e : ℕ) → HasCell cells (Some e) None → h ≡ over_of e → AtBorder cells h
 
--- The least equivalence of half-edges that joins each one with its next one, the two of each cell, and all at the border.
+-- The least equivalence of half-edges that joins each one with its next one, the two of each cell,
+-- and all at the border.
 pub data Joined (mesh : HalfEdges) (cells : List Gap) : ℕ → ℕ → Type 0 where
   same : (g h : ℕ) → g ≡ h → Joined mesh cells g h
-  onward : (g h i : ℕ) → g < size mesh → next_of mesh g ≡ h → Joined mesh cells h i → Joined mesh cells g i
-  back : (g h i : ℕ) → h < size mesh → next_of mesh h ≡ g → Joined mesh cells h i → Joined mesh cells g i
+  onward : (g h i : ℕ) → g < size mesh → next_of mesh g ≡ h → Joined mesh cells h i
+      → Joined mesh cells g i
+  back : (g h i : ℕ) → h < size mesh → next_of mesh h ≡ g → Joined mesh cells h i
+      → Joined mesh cells g i
   across : (g h i : ℕ) → Across cells g h → Joined mesh cells h i → Joined mesh cells g i
-  outside : (g h i : ℕ) → AtBorder cells g → AtBorder cells h → Joined mesh cells h i → Joined mesh cells g i
+  outside : (g h i : ℕ) → AtBorder cells g → AtBorder cells h → Joined mesh cells h i
+      → Joined mesh cells g i
 
 -- Both half-edges of each edge of the cells have numbers below n.
 abbrev pub AreKnown : ℕ → List Gap → Type 0
-AreKnown n cells = (c : Gap) (e : ℕ) → Has c cells → (c.lower ≡ Some e) ⊎ (c.upper ≡ Some e) → over_of e < n
+AreKnown n cells =
+    (c : Gap) (e : ℕ) → Has c cells → (c.lower ≡ Some e) ⊎ (c.upper ≡ Some e) → over_of e < n

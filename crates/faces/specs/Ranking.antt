@@ -1,5 +1,6 @@
 -- Ranks: how many steps lead from a half-edge to a root, and the links of a certificate.
-use Rattle.std.specs.Prelude.{◌≡◌, ◌⊎◌, ◌↔◌, ℕ, suc, ◌<◌, ◌≤◌, List, ◌∷◌, [], ◌++◌, length, slice_index, slice_index_or, slice_set, vec_capacity}
+use Rattle.std.specs.Prelude.{◌≡◌, ◌⊎◌, ◌↔◌, ℕ, suc, ◌<◌, ◌≤◌, List, ◌∷◌, [], ◌++◌, length}
+use Rattle.std.specs.Prelude.{slice_index, slice_index_or, slice_set, vec_capacity}
 use Rattle.plane.specs.Lists.{Has, Once}
 use Rattle.plane.specs.Runs.Gaps.{Gap}
 use Rattle.half_edges.specs.HalfEdges.{HalfEdges, size, next_of, prev_of, face_of}
@@ -20,44 +21,54 @@ abbrev pub AreRooted : HalfEdges → List Gap → List ℕ → Type 0
 AreRooted mesh cells roots = (h : ℕ) → h < size mesh → (r : ℕ) × Has r roots × Leads mesh cells h r
 
 -- ---- what ranks are
--- The ranks are those of a search from the roots: 0 exactly at them, some step leads from any other half-edge to a rank one less,
--- and none to a rank that is less by two or more.
+-- The ranks are those of a search from the roots: 0 exactly at them, some step leads from any other
+-- half-edge to a rank one less, and none to a rank that is less by two or more.
 pub record AreRanks (mesh : HalfEdges) (cells : List Gap) (roots ranks : List ℕ) : Type 0 where
   pub sized : length ranks ≡ size mesh
   pub small : (h : ℕ) → h < size mesh → slice_index ranks h < unset
   pub root : (h : ℕ) → h < size mesh → (slice_index ranks h ≡ 0) ↔ Has h roots
-  pub less : (h k : ℕ) → h < size mesh → slice_index ranks h ≡ suc k → (g : ℕ) × IsNear mesh cells h g × (slice_index ranks g ≡ k)
-  pub near : (h g : ℕ) → h < size mesh → IsNear mesh cells h g → slice_index ranks h ≤ suc (slice_index ranks g)
+  pub less : (h k : ℕ) → h < size mesh → slice_index ranks h ≡ suc k
+      → (g : ℕ) × IsNear mesh cells h g × (slice_index ranks g ≡ k)
+  pub near : (h g : ℕ) → h < size mesh → IsNear mesh cells h g
+      → slice_index ranks h ≤ suc (slice_index ranks g)
 
 -- ---- links
 -- The rank of g is one less than that of h.
 abbrev pub IsBefore : List ℕ → ℕ → ℕ → Type 0
 IsBefore ranks h g = slice_index ranks h ≡ suc (slice_index ranks g)
 
--- The link is none where the rank is 0; else it leads to the first half-edge whose rank is one less, of the next one, the
--- previous one, and those across cells by number.
+-- The link is none where the rank is 0; else it leads to the first half-edge whose rank is one
+-- less, of the next one, the previous one, and those across cells by number.
 abbrev pub IsLink : HalfEdges → List Gap → List ℕ → ℕ → Link → Type 0
 IsLink mesh cells ranks h link.Root = slice_index ranks h ≡ 0
 IsLink mesh cells ranks h link.Next = IsBefore ranks h (next_of mesh h)
-IsLink mesh cells ranks h link.Prev = IsBefore ranks h (prev_of mesh h) × (IsBefore ranks h (next_of mesh h) → ⊥)
-IsLink mesh cells ranks h (link.Across g) = Across cells h g × IsBefore ranks h g × (IsBefore ranks h (next_of mesh h) → ⊥) × (IsBefore ranks h (prev_of mesh h) → ⊥) × ((i : ℕ) → i < g → Across cells h i → IsBefore ranks h i → ⊥)
+IsLink mesh cells ranks h link.Prev =
+    IsBefore ranks h (prev_of mesh h) × (IsBefore ranks h (next_of mesh h) → ⊥)
+IsLink mesh cells ranks h (link.Across g) =
+    Across cells h g × IsBefore ranks h g × (IsBefore ranks h (next_of mesh h) → ⊥)
+    × (IsBefore ranks h (prev_of mesh h) → ⊥)
+    × ((i : ℕ) → i < g → Across cells h i → IsBefore ranks h i → ⊥)
 
 abbrev pub no_note : HalfNote
 no_note = record { label = 0; link = link.Root; rank = 0 }
 
--- The notes tell the faces of the half-edges, their ranks and their links.
-pub record AreNotes (mesh : HalfEdges) (cells : List Gap) (roots : List ℕ) (notes : List HalfNote) : Type 0 where
+-- The notes give the faces of the half-edges, their ranks and their links.
+pub record AreNotes (mesh : HalfEdges) (cells : List Gap) (roots : List ℕ)
+    (notes : List HalfNote) : Type 0 where
   pub ranks : List ℕ
   pub are_ranks : AreRanks mesh cells roots ranks
   pub size_is : length notes ≡ size mesh
   pub label : (h : ℕ) → h < size mesh → (slice_index_or notes h no_note).label ≡ face_of mesh h
   pub rank : (h : ℕ) → h < size mesh → (slice_index_or notes h no_note).rank ≡ slice_index ranks h
-  pub link_is : (h : ℕ) → h < size mesh → IsLink mesh cells ranks h (slice_index_or notes h no_note).link
+  pub link_is : (h : ℕ) → h < size mesh
+      → IsLink mesh cells ranks h (slice_index_or notes h no_note).link
 
 -- ---- how far the search has come
--- The half-edges in the queue are those that have a rank. Ranks rise along the queue, by one at most from the first half-edge that
--- is not passed on; from those that are passed each step leads to a rank that is one more at most.
-pub record IsRanked (mesh : HalfEdges) (cells : List Gap) (ranks queue : List ℕ) (passed : ℕ) : Type 0 where
+-- The half-edges in the queue are those that have a rank. Ranks rise along the queue, by one at
+-- most from the first half-edge that is not passed on; from those that are passed each step leads
+-- to a rank that is one more at most.
+pub record IsRanked (mesh : HalfEdges) (cells : List Gap) (ranks queue : List ℕ)
+    (passed : ℕ) : Type 0 where
   pub sized : length ranks ≡ size mesh
   pub known : (h : ℕ) → Has h queue → h < size mesh
   pub once : Once queue
@@ -65,10 +76,14 @@ pub record IsRanked (mesh : HalfEdges) (cells : List Gap) (ranks queue : List �
   pub all : (h : ℕ) → h < size mesh → IsSet ranks h → Has h queue
   pub within : passed ≤ length queue
   pub low : (i : ℕ) → i < length queue → slice_index ranks (slice_index queue i) ≤ i
-  pub rises : (i j : ℕ) → i ≤ j → j < length queue → slice_index ranks (slice_index queue i) ≤ slice_index ranks (slice_index queue j)
-  pub flat : (i : ℕ) → passed < length queue → i < length queue → slice_index ranks (slice_index queue i) ≤ suc (slice_index ranks (slice_index queue passed))
-  pub closed : (i g : ℕ) → i < passed → IsNear mesh cells (slice_index queue i) g → IsSet ranks g × (slice_index ranks g ≤ suc (slice_index ranks (slice_index queue i)))
-  pub less : (h k : ℕ) → h < size mesh → IsSet ranks h → slice_index ranks h ≡ suc k → (g : ℕ) × IsNear mesh cells h g × IsSet ranks g × (slice_index ranks g ≡ k)
+  pub rises : (i j : ℕ) → i ≤ j → j < length queue
+      → slice_index ranks (slice_index queue i) ≤ slice_index ranks (slice_index queue j)
+  pub flat : (i : ℕ) → passed < length queue → i < length queue
+      → slice_index ranks (slice_index queue i) ≤ suc (slice_index ranks (slice_index queue passed))
+  pub closed : (i g : ℕ) → i < passed → IsNear mesh cells (slice_index queue i) g
+      → IsSet ranks g × (slice_index ranks g ≤ suc (slice_index ranks (slice_index queue i)))
+  pub less : (h k : ℕ) → h < size mesh → IsSet ranks h → slice_index ranks h ≡ suc k
+      → (g : ℕ) × IsNear mesh cells h g × IsSet ranks g × (slice_index ranks g ≡ k)
   pub small : (h : ℕ) → h < size mesh → IsSet ranks h → slice_index ranks h < unset
 
 -- The same of what the program keeps, with room for all half-edges in the queue.
@@ -115,8 +130,9 @@ HasRankMost ranks h most = IsSet ranks h × (slice_index ranks h ≤ most)
 abbrev pub HasRank : List ℕ → List ℕ → ℕ → ℕ → Type 0
 HasRank ranks row rank g = Has g row × (slice_index ranks g ≡ rank)
 
--- The note tells the face of the half-edge, its rank and its link.
-pub record IsNote (mesh : HalfEdges) (cells : List Gap) (ranks : List ℕ) (h : ℕ) (note : HalfNote) : Type 0 where
+-- The note gives the face of the half-edge, its rank and its link.
+pub record IsNote (mesh : HalfEdges) (cells : List Gap) (ranks : List ℕ) (h : ℕ)
+    (note : HalfNote) : Type 0 where
   pub label_is : note.label ≡ face_of mesh h
   pub rank_is : note.rank ≡ slice_index ranks h
   pub link_is : IsLink mesh cells ranks h note.link
@@ -124,4 +140,5 @@ pub record IsNote (mesh : HalfEdges) (cells : List Gap) (ranks : List ℕ) (h : 
 -- So many steps lead from g to h.
 pub data LeadsIn (mesh : HalfEdges) (cells : List Gap) : ℕ → ℕ → ℕ → Type 0 where
   at_root : (n g h : ℕ) → n ≡ 0 → g ≡ h → LeadsIn mesh cells n g h
-  one_step : (n k g h i : ℕ) → n ≡ suc k → IsNear mesh cells g h → LeadsIn mesh cells k h i → LeadsIn mesh cells n g i
+  one_step : (n k g h i : ℕ) → n ≡ suc k → IsNear mesh cells g h → LeadsIn mesh cells k h i
+      → LeadsIn mesh cells n g i

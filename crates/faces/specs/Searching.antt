@@ -1,5 +1,6 @@
 -- How far a search for faces has come.
-use Rattle.std.specs.Prelude.{◌≡◌, ◌⊎◌, ℕ, suc, ◌-◌, ◌^◌, ◌<◌, ◌≤◌, List, [], ◌∷◌, ◌++◌, length, take, slice_index, slice_set, vec_capacity}
+use Rattle.std.specs.Prelude.{◌≡◌, ◌⊎◌, ℕ, suc, ◌-◌, ◌^◌, ◌<◌, ◌≤◌, List, [], ◌∷◌, ◌++◌, length}
+use Rattle.std.specs.Prelude.{take, slice_index, slice_set, vec_capacity}
 use Rattle.plane.specs.Lists.{Has, Once}
 use Rattle.plane.specs.Runs.Gaps.{Gap}
 use Rattle.half_edges.specs.HalfEdges.{HalfEdges, size, next_of, prev_of}
@@ -22,22 +23,28 @@ IsSet faces h = slice_index faces h ≡ unset → ⊥
 abbrev pub IsNear : HalfEdges → List Gap → ℕ → ℕ → Type 0
 IsNear mesh cells g h = (next_of mesh g ≡ h) ⊎ ((prev_of mesh g ≡ h) ⊎ Across cells g h)
 
--- The half-edges in the queue are those that have a face. From the first ones, which are passed, each step leads to one of the
--- same face. Two of one face are joined, and those of face 0 with one at the border.
-pub record IsSearched (mesh : HalfEdges) (cells : List Gap) (faces queue : List ℕ) (passed : ℕ) : Type 0 where
+-- The half-edges in the queue are those that have a face. From the first ones, which are passed,
+-- each step leads to one of the same face. Two of one face are joined, and those of face 0 with one
+-- at the border.
+pub record IsSearched (mesh : HalfEdges) (cells : List Gap) (faces queue : List ℕ)
+    (passed : ℕ) : Type 0 where
   pub sized : length faces ≡ size mesh
   pub known : (h : ℕ) → Has h queue → h < size mesh
   pub once : Once queue
   pub set : (h : ℕ) → Has h queue → IsSet faces h
   pub all : (h : ℕ) → h < size mesh → IsSet faces h → Has h queue
   pub within : passed ≤ length queue
-  pub closed : (i h : ℕ) → i < passed → IsNear mesh cells (slice_index queue i) h → slice_index faces h ≡ slice_index faces (slice_index queue i)
-  pub sound : (g h : ℕ) → g < size mesh → h < size mesh → IsSet faces g → slice_index faces g ≡ slice_index faces h → Joined mesh cells g h
-  pub outer : (h : ℕ) → h < size mesh → slice_index faces h ≡ 0 → (t : ℕ) × Joined mesh cells h t × AtBorder cells t
+  pub closed : (i h : ℕ) → i < passed → IsNear mesh cells (slice_index queue i) h
+      → slice_index faces h ≡ slice_index faces (slice_index queue i)
+  pub sound : (g h : ℕ) → g < size mesh → h < size mesh → IsSet faces g
+      → slice_index faces g ≡ slice_index faces h → Joined mesh cells g h
+  pub outer : (h : ℕ) → h < size mesh → slice_index faces h ≡ 0
+      → (t : ℕ) × Joined mesh cells h t × AtBorder cells t
 
 -- The half-edges of the queue that are not passed have this face.
 abbrev pub AreWaiting : List ℕ → List ℕ → ℕ → ℕ → Type 0
-AreWaiting faces queue passed face = (i : ℕ) → passed ≤ i → i < length queue → slice_index faces (slice_index queue i) ≡ face
+AreWaiting faces queue passed face =
+    (i : ℕ) → passed ≤ i → i < length queue → slice_index faces (slice_index queue i) ≡ face
 
 -- The same of what the program keeps, with room for all half-edges in the queue.
 pub record HasSearched (mesh : HalfEdges) (cells : List Gap) (s : Search) : Type 0 where
@@ -83,7 +90,8 @@ pub record IsPassing (mesh : HalfEdges) (cells : List Gap) (h face : ℕ) (s : S
   pub here : slice_index s.queue.items s.passed ≡ h
 
 -- The half-edges before h have their faces, which are the numbers below count.
-pub record IsNumberedTo (mesh : HalfEdges) (cells : List Gap) (h count : ℕ) (s : Search) : Type 0 where
+pub record IsNumberedTo (mesh : HalfEdges) (cells : List Gap) (h count : ℕ)
+    (s : Search) : Type 0 where
   pub searched : HasSearched mesh cells s
   pub done : s.passed ≡ length s.queue.items
   pub few : count ≤ suc h

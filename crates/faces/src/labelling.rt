@@ -21,7 +21,7 @@ use std::alloc::Global;
 /// The mesh with its faces: half-edges have one face exactly where they are joined by the way
 /// round a face, by cells of the sweep and over the border, and face 0 exactly where they are
 /// joined with one that was beside the border. The other faces are numbered in the order of their
-/// least half-edge. The only error is want of memory, and the mesh is then gone. It takes time
+/// least half-edge. The only error is out of memory, and the mesh is then gone. It takes time
 /// linear in the half-edges and the cells, and for a while 16 bytes a half-edge and 8 a cell.
 pub fn label(alloc: Global, mesh: Mesh, swept: &Swept) -> Result<Labelled, Memory>
     requires known { AreKnown (size mesh) (gaps_of swept.now.cells.items) }

@@ -8,7 +8,7 @@
 //!   order of their least half-edge.
 //! - **How.** A search along the queue of half-edges that have a face: first from all that were at
 //!   the border, then from each that has none yet, in order. The half-edges across a cell stand in
-//!   rows, one for each half-edge, which are counted and then filled from behind.
+//!   rows, one for each half-edge, which are counted and then filled from the end.
 //! - **What it asks for.** The edges of the cells are edges of the mesh. It asks for no run and no
 //!   coordinates: what joined half-edges are in the plane is a law of `plane`.
 //! - **Degenerate cases.** No edge, no cell, several parts, dangling edges and rings that touch in

@@ -22,7 +22,7 @@ use std::alloc::Global;
 /// rank, and the first step of such a way as the link. A step goes to the next or the previous
 /// half-edge or across a cell between two edges; where several begin such a way, the next one
 /// counts before the previous one, and that before those across cells, by number. The only error is
-/// want of memory. It takes time linear in the half-edges and the cells, and for a while 16 bytes a
+/// out of memory. It takes time linear in the half-edges and the cells, and for a while 16 bytes a
 /// half-edge and 8 a cell; the notes take 16 bytes a half-edge.
 pub fn links(
     alloc: Global,

@@ -1,9 +1,11 @@
-use Rattle.std.specs.Prelude.{ℕ, ◌≡◌, ◌≢◌, ◌<◌, ◌+◌, ◌%◌, ◌^◌, List, [], ◌∷◌, ◌++◌, length, replicate, slice_index}
+use Rattle.std.specs.Prelude.{ℕ, ◌≡◌, ◌≢◌, ◌<◌, ◌+◌, ◌%◌, ◌^◌, List, [], ◌∷◌, ◌++◌, length}
+use Rattle.std.specs.Prelude.{replicate, slice_index}
 use Rattle.half_edges.specs.HalfEdges.{HalfEdges, size, next_of, prev_of, origin_of, twin_of}
 
 -- a half-edge and its next have the same number
 pub record AgreesAlong (next numbers : List ℕ) : Type 0 where
-  pub same : (h : ℕ) → h < length next → slice_index numbers (slice_index next h) ≡ slice_index numbers h
+  pub same : (h : ℕ) → h < length next
+      → slice_index numbers (slice_index next h) ≡ slice_index numbers h
 
 -- what holds of every mesh
 pub record IsMesh (m : HalfEdges) : Type 0 where
@@ -35,7 +37,8 @@ without_edges n = record { vertices = n; next = []; prev = []; origin = []; face
 abbrev pub with_one_face : HalfEdges → HalfEdges
 with_one_face m = record m { face = replicate (size m) 0 }
 
--- the mesh with one more edge, each half of which is the other's next and prev, and with face 0 throughout
+-- the mesh with one more edge, each half of which is the other's next and prev, and with face 0
+-- throughout
 abbrev pub with_edge : HalfEdges → ℕ → ℕ → HalfEdges
 with_edge m low high = record {
   vertices = m.vertices;

@@ -1,15 +1,17 @@
 -- The edges of a live list at an event.
-use Rattle.std.specs.Prelude.{◌≡◌, ℕ, suc, ◌+◌, ◌<◌, ◌≤◌, pos, ◌<ℤ◌, ◌≤ℤ◌, List, length, slice_index_or}
+use Rattle.std.specs.Prelude.{◌≡◌, ℕ, suc, ◌+◌, ◌<◌, ◌≤◌, pos, ◌<ℤ◌, ◌≤ℤ◌, List, length}
+use Rattle.std.specs.Prelude.{slice_index_or}
 use Rattle.plane.specs.declared.kinds.Point.{Point}
 use Rattle.plane.specs.declared.kinds.Edge.{Edge}
 use Rattle.plane.specs.Runs.Positions.{turn_at}
 
 -- The edges at the places from `from` up to `upto` end at the point.
 abbrev pub AreEnding : (ℕ → Edge) → List ℕ → Point → ℕ → ℕ → Type 0
-AreEnding E live at from upto = (i : ℕ) → from ≤ i → i < upto → (E (slice_index_or live i 0)).high ≡ at
+AreEnding E live at from upto =
+    (i : ℕ) → from ≤ i → i < upto → (E (slice_index_or live i 0)).high ≡ at
 
--- After p edges the next n end at the point. The point is strictly above the edge before them, not above the first of them, and
--- not on the line of the edge behind them.
+-- After p edges the next n end at the point. The point is strictly above the edge before them, not
+-- above the first of them, and not on the line of the edge after them.
 pub record IsBlock (E : ℕ → Edge) (live : List ℕ) (at : Point) (p n : ℕ) : Type 0 where
   pub within : p + n ≤ length live
   pub below : (i : ℕ) → p ≡ suc i → pos 0 <ℤ turn_at E (slice_index_or live i 0) at

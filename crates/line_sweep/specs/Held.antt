@@ -38,11 +38,13 @@ pub record ArePut (old new : Slab Cell) (told : List Gap) (keys : List ℕ) : Ty
 
 -- The two edges of the cell, where it has two, are edges of the list.
 abbrev pub HasEdges : List Edge → Cell → Type 0
-HasEdges edges c = (d e : ℕ) → c.lower ≡ Some d → c.upper ≡ Some e → (d < length edges) × (e < length edges)
+HasEdges edges c =
+    (d e : ℕ) → c.lower ≡ Some d → c.upper ≡ Some e → (d < length edges) × (e < length edges)
 
 -- The two edges of the cell, where it has two, are not bad.
 abbrev pub IsFineCell : List Edge → Cell → Type 0
-IsFineCell edges c = (d e : ℕ) → c.lower ≡ Some d → c.upper ≡ Some e → Fine (edge_of edges d) (edge_of edges e)
+IsFineCell edges c =
+    (d e : ℕ) → c.lower ≡ Some d → c.upper ≡ Some e → Fine (edge_of edges d) (edge_of edges e)
 
 -- Some cell has these two edges, and they are bad.
 pub record IsBadCell (edges : List Edge) (cells : List Cell) (d e : ℕ) : Type 0 where

@@ -12,7 +12,8 @@ use Rattle.line_sweep.specs.declared.kinds.SweepRefusal.{SweepRefusal}
 use Rattle.line_sweep.specs.declared.kinds.SweepRefusal.TheVariants as refusal
 
 abbrev pub move_of : Event → Move
-move_of v = record { at = v.at; position = v.position; ending = v.ending; starting = v.starting.items }
+move_of v =
+    record { at = v.at; position = v.position; ending = v.ending; starting = v.starting.items }
 
 -- The event of a timetable, with its place in the live list.
 abbrev pub move_at_block : Timed → ℕ → ℕ → Move

@@ -17,11 +17,13 @@ use Rattle.line_sweep.specs.Kinds.{gaps_of, moves_of}
 abbrev pub points_of : List Timed → List Point
 points_of table = map (λ (t : Timed). t.at) table
 
--- The first k events are done: the sweep is under way, the live list and the open cells are those that the moves leave, and the
--- closed cells those that they closed.
-pub record IsSweptTo (edges : List Edge) (table : List Timed) (k : ℕ) (live keys : List ℕ) (slab : Slab Cell) (moves : List Move) (told : List Gap) : Type 0 where
+-- The first k events are done: the sweep is under way, the live list and the open cells are those
+-- that the moves leave, and the closed cells those that they closed.
+pub record IsSweptTo (edges : List Edge) (table : List Timed) (k : ℕ) (live keys : List ℕ)
+    (slab : Slab Cell) (moves : List Move) (told : List Gap) : Type 0 where
   pub size : length moves ≡ k
-  pub way : IsUnderWay (length edges) (edge_of edges) (points_of table) (made [] moves) (drop k (points_of table))
+  pub way : IsUnderWay (length edges) (edge_of edges) (points_of table) (made [] moves)
+      (drop k (points_of table))
   pub fit : Fit [] moves
   pub lives : live ≡ live_from [] moves
   pub held : IsHeld slab keys (open_gaps moves)
@@ -29,7 +31,9 @@ pub record IsSweptTo (edges : List Edge) (table : List Timed) (k : ℕ) (live ke
 
 -- The same of what the program keeps.
 abbrev pub HasSwept : List Edge → List Timed → ℕ → State → Type 0
-HasSwept edges table k s = IsSweptTo edges table k s.live s.keys s.open (moves_of s.swept.events.items) (gaps_of s.swept.cells.items)
+HasSwept edges table k s =
+    IsSweptTo edges table k s.live s.keys s.open (moves_of s.swept.events.items)
+    (gaps_of s.swept.cells.items)
 
 -- The moves are those of the timetable of the edges, each at its place of the live list.
 pub record HasTimetable (edges : List Edge) (moves : List Move) : Type 0 where

@@ -23,4 +23,6 @@ abbrev pub IsEachPlaced : List Curve → Type 0
 IsEachPlaced curves = (i : ℕ) → i < length curves → IsPlaced (curve_of curves i)
 
 abbrev pub IsEachPairPlaced : List Curve → Type 0
-IsEachPairPlaced curves = (i j : ℕ) → i < length curves → j < length curves → ArePlaced (curve_of curves i) (curve_of curves j)
+IsEachPairPlaced curves =
+    (i j : ℕ) → i < length curves → j < length curves
+    → ArePlaced (curve_of curves i) (curve_of curves j)

@@ -37,7 +37,8 @@ pub record AreArcBad (c d : Curve) : Type 0 where
   pub half_arc : HaveHalfArc c d
   pub bad : AreBad c d
 
--- The curves numbered i and j are a bad pair of the drawing, and one of them at least is a half arc.
+-- The curves numbered i and j are a bad pair of the drawing, and one of them at least is a half
+-- arc.
 pub record IsArcPair (d : Plan) (i j : ℕ) : Type 0 where
   pub pair : IsBadPair d i j
   pub half_arc : HaveHalfArc (curve d i) (curve d j)

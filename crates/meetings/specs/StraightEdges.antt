@@ -31,12 +31,17 @@ pub record IsStraightEdge (curves : List Curve) (k : ℕ) (edge : Edge) (number 
 
 -- The numbers rise.
 abbrev pub IsRising : List ℕ → Type 0
-IsRising numbers = (m n : ℕ) → m < n → n < length numbers → slice_index numbers m < slice_index numbers n
+IsRising numbers =
+    (m n : ℕ) → m < n → n < length numbers → slice_index numbers m < slice_index numbers n
 
--- The edges of the straights among the first k curves, each with the number of its curve, in their order.
-pub record AreStraightsTo (curves : List Curve) (k : ℕ) (edges : List Edge) (numbers : List ℕ) : Type 0 where
+-- The edges of the straights among the first k curves, each with the number of its curve, in their
+-- order.
+pub record AreStraightsTo (curves : List Curve) (k : ℕ) (edges : List Edge)
+    (numbers : List ℕ) : Type 0 where
   pub size : length numbers ≡ length edges
   pub few : length edges ≤ k
-  pub each : (m : ℕ) → m < length edges → IsStraightEdge curves k (edge_of edges m) (slice_index numbers m)
+  pub each : (m : ℕ) → m < length edges
+      → IsStraightEdge curves k (edge_of edges m) (slice_index numbers m)
   pub rising : IsRising numbers
-  pub whole : (i : ℕ) → i < k → (curve_of curves i).kind ≡ kind.Straight → (m : ℕ) × (m < length edges) × (slice_index numbers m ≡ i)
+  pub whole : (i : ℕ) → i < k → (curve_of curves i).kind ≡ kind.Straight
+      → (m : ℕ) × (m < length edges) × (slice_index numbers m ≡ i)

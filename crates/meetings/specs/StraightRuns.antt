@@ -13,10 +13,12 @@ use Rattle.meetings.specs.declared.edges.Straights.{Straights}
 use Rattle.meetings.specs.declared.straight_runs.StraightRun.{StraightRun}
 use Rattle.meetings.specs.declared.straight_runs.StraightRun.TheVariants as run
 
--- The edges are those of the drawing's straights, the events are a complete run over them, and no two straights are bad.
+-- The edges are those of the drawing's straights, the events are a complete run over them, and no
+-- two straights are bad.
 pub record IsClearRun (d : Plan) (s : Straights) (w : Swept) : Type 0 where
   pub straights : AreStraightsTo d.curves (length d.curves) s.edges.items s.numbers.items
-  pub run : Run (length s.edges.items) (edge_of s.edges.items) (steps_from [] (moves_of w.events.items))
+  pub run : Run (length s.edges.items) (edge_of s.edges.items)
+      (steps_from [] (moves_of w.events.items))
   pub fit : Fit [] (moves_of w.events.items)
   pub clear : (i j : ℕ) → AreBothStraight (curve d i) (curve d j) → IsBadPair d i j → ⊥
 

@@ -38,7 +38,7 @@ impl<'a> PairTest for ArcTest<'a> {
 }
 
 /// The least bad pair of which one at least is a half arc, by its first number, then by its second;
-/// None exactly where the drawing has no such pair. The only error is want of memory. It takes the
+/// None exactly where the drawing has no such pair. The only error is out of memory. It takes the
 /// time of half arcs times the curves that begin within their boxes along x, or the other way
 /// round, and 65 bytes for each curve; without a half arc no pair is looked at.
 pub fn arc_meeting(alloc: Global, drawing: &Drawing) -> Result<Option<BadPair>, Memory>

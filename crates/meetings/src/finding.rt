@@ -13,7 +13,7 @@ use ports::Memory;
 use std::alloc::Global;
 
 /// Some bad pair of a drawing, or None exactly where it has none: two straights where there are
-/// such, else the least pair with a half arc. The only error is want of memory. It takes the time
+/// such, else the least pair with a half arc. The only error is out of memory. It takes the time
 /// of a sweep of the straights, O((m + events) log m) for m of them and what its live list moves,
 /// and that of `arc_meeting`.
 pub fn bad_meeting(alloc: Global, drawing: &Drawing) -> Result<Option<BadPair>, Memory>

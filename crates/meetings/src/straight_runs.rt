@@ -20,7 +20,7 @@ pub enum StraightRun {
 }
 
 /// The run of the straights' edges, or two straights that are bad exactly where there are such. The
-/// only error is want of memory. It takes the time and the memory of a sweep of the straights.
+/// only error is out of memory. It takes the time and the memory of a sweep of the straights.
 pub fn sweep_straights(alloc: Global, drawing: &Drawing) -> Result<StraightRun, Memory>
     ensures { IfOk result (IsStraightRun (plan drawing.now)) }
 {

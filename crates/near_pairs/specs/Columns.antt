@@ -29,10 +29,14 @@ pub record BeginsWithin (r : Reach) (item : Item) : Type 0 where
 
 -- No item begins before one that stands ahead of it.
 abbrev pub IsRising : List Item → Type 0
-IsRising column = (i j : ℕ) (d : Item) → i < j → j < length column → (slice_index_or column i d).low_x ≤ℤ (slice_index_or column j d).low_x
+IsRising column =
+    (i j : ℕ) (d : Item) → i < j → j < length column
+    → (slice_index_or column i d).low_x ≤ℤ (slice_index_or column j d).low_x
 
 -- The boxes that are chosen, each with its number.
-pub record IsColumn (boxes : List Reach) (marked : List Bool) (which : Chosen) (column : List Item) : Type 0 where
+pub record IsColumn (boxes : List Reach) (marked : List Bool) (which : Chosen)
+    (column : List Item) : Type 0 where
   pub rising : IsRising column
   pub known : All (λ item. item.number < length boxes) column
-  pub whole : (i : ℕ) → i < length boxes → takes which (mark_of marked i) ≡ true → Contains column (item_of i (reach_of boxes i))
+  pub whole : (i : ℕ) → i < length boxes → takes which (mark_of marked i) ≡ true
+      → Contains column (item_of i (reach_of boxes i))

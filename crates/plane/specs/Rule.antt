@@ -1,5 +1,6 @@
 -- Places and curves of a drawing, and the five parts of the partition rule.
--- Main definition: `Partition.IsPartition`; what a report may name is in `BadPairs`, `CrossedCurves`, `Cuts`.
+-- Main definition: `Partition.IsPartition`; what a report may name is in `BadPairs`,
+-- `CrossedCurves`, `Cuts`.
 -- No order and no algorithm appears here. Read it first.
 pub mod Places
 pub mod Turns

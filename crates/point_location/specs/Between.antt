@@ -1,5 +1,6 @@
 -- The place of a point in a list of edges, by turns.
-use Rattle.std.specs.Prelude.{◌≡◌, ℕ, suc, ◌<◌, ◌≤◌, pos, ◌<ℤ◌, Option, List, length, slice_index_or}
+use Rattle.std.specs.Prelude.{◌≡◌, ℕ, suc, ◌<◌, ◌≤◌, pos, ◌<ℤ◌, Option, List, length}
+use Rattle.std.specs.Prelude.{slice_index_or}
 use Rattle.plane.specs.declared.kinds.Point.{Point}
 use Rattle.plane.specs.declared.kinds.Edge.{Edge}
 use Rattle.plane.specs.Lists.{Has}
@@ -8,8 +9,10 @@ use Rattle.plane.specs.Runs.Positions.{turn_at}
 use Rattle.point_location.specs.declared.places.Place.{Place}
 use Rattle.point_location.specs.declared.places.Place.TheVariants as place
 
--- The point is strictly above the edge before the place and strictly below the edge at it, which are these.
-pub record IsGapOf (E : ℕ → Edge) (live : List ℕ) (at : Point) (position : ℕ) (lower upper : Option ℕ) : Type 0 where
+-- The point is strictly above the edge before the place and strictly below the edge at it, which
+-- are these.
+pub record IsGapOf (E : ℕ → Edge) (live : List ℕ) (at : Point) (position : ℕ)
+    (lower upper : Option ℕ) : Type 0 where
   pub within : position ≤ length live
   pub above : (i : ℕ) → position ≡ suc i → pos 0 <ℤ turn_at E (slice_index_or live i 0) at
   pub below : position < length live → turn_at E (slice_index_or live position 0) at <ℤ pos 0

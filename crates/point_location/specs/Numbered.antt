@@ -11,6 +11,10 @@ nothing = record { at = no_point; number = 0 }
 -- All points, each with its number, and none comes before the one that stands before it.
 pub record IsInOrder (points : List Point) (order : List Numbered) : Type 0 where
   pub known : (i : ℕ) → i < length order → (slice_index_or order i nothing).number < length points
-  pub is : (i : ℕ) → i < length order → (slice_index_or order i nothing).at ≡ slice_index_or points (slice_index_or order i nothing).number no_point
-  pub all : (j : ℕ) → j < length points → (i : ℕ) × (i < length order) × ((slice_index_or order i nothing).number ≡ j)
-  pub rising : (i : ℕ) → suc i < length order → Before (slice_index_or order (suc i) nothing).at (slice_index_or order i nothing).at → ⊥
+  pub is : (i : ℕ) → i < length order
+      → (slice_index_or order i nothing).at
+      ≡ slice_index_or points (slice_index_or order i nothing).number no_point
+  pub all : (j : ℕ) → j < length points
+      → (i : ℕ) × (i < length order) × ((slice_index_or order i nothing).number ≡ j)
+  pub rising : (i : ℕ) → suc i < length order
+      → Before (slice_index_or order (suc i) nothing).at (slice_index_or order i nothing).at → ⊥

@@ -17,7 +17,7 @@ use std::alloc::Global;
 use straight_predicates::Row;
 
 /// The place of each point in the run that the events of a sweep over these edges make. The only
-/// error is want of memory. Costs stand at the head of the crate.
+/// error is out of memory. Costs stand at the head of the crate.
 pub fn locate(
     alloc: Global,
     edges: &[Edge],

@@ -25,7 +25,9 @@ AreSorted edges = (e : ℕ) → e < length edges → Before (edge_of edges e).lo
 
 -- All ends of all edges are close.
 abbrev pub AreAllClose : List Edge → Type 0
-AreAllClose edges = (d e : ℕ) → d < length edges → e < length edges → EdgesAreClose (edge_of edges d) (edge_of edges e)
+AreAllClose edges =
+    (d e : ℕ) → d < length edges → e < length edges
+    → EdgesAreClose (edge_of edges d) (edge_of edges e)
 
 -- Each edge is less than 2 ^ 41 units wide and high, and its low end as close to the point.
 pub record IsCloseToAll (edges : List Edge) (at : Point) : Type 0 where

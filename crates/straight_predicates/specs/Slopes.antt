@@ -13,7 +13,8 @@ turn_between a b = (a.x *ℤ b.y) -ℤ (a.y *ℤ b.x)
 
 -- Rays by slope, and those of one slope by number.
 abbrev pub ray_cmp : Ray → Ray → Ordering
-ray_cmp a b = ordering_then (int_cmp (pos 0) (turn_between a.direction b.direction)) (nat_cmp a.edge b.edge)
+ray_cmp a b =
+    ordering_then (int_cmp (pos 0) (turn_between a.direction b.direction)) (nat_cmp a.edge b.edge)
 
 abbrev pub ray_lt : Ray → Ray → Bool
 ray_lt a b = is_lt (ray_cmp a b)

@@ -8,7 +8,12 @@ abbrev pub part_of : List ℕ → ℕ → ℕ → List ℕ
 part_of numbers from upto = take (upto - from) (drop from numbers)
 
 abbrev pub timed_at : List ℕ → Slot → Timed
-timed_at numbers s = record { at = s.at; ending = part_of numbers s.from s.middle; starting = part_of numbers s.middle s.upto }
+timed_at numbers s =
+    record {
+      at = s.at;
+      ending = part_of numbers s.from s.middle;
+      starting = part_of numbers s.middle s.upto;
+    }
 
 -- The slot's parts lie in a list of so many numbers.
 pub record IsSlot (size : ℕ) (s : Slot) : Type 0 where

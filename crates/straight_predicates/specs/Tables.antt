@@ -1,5 +1,6 @@
 -- Timetables as lists of events, and the ends of edges from which they are made.
-use Rattle.std.specs.Prelude.{◌≡◌, ◌⊎◌, ◌↔◌, ℕ, suc, ◌+◌, ◌<◌, ◌≤◌, true, false, cond, List, [], ◌∷◌, ◌++◌, map, length, take, drop, slice_index_or, All}
+use Rattle.std.specs.Prelude.{◌≡◌, ◌⊎◌, ◌↔◌, ℕ, suc, ◌+◌, ◌<◌, ◌≤◌, true, false, cond, List, []}
+use Rattle.std.specs.Prelude.{◌∷◌, ◌++◌, map, length, take, drop, slice_index_or, All}
 use Rattle.plane.specs.declared.kinds.Point.{Point}
 use Rattle.plane.specs.declared.kinds.Edge.{Edge}
 use Rattle.plane.specs.Lists.{Each, Has, Neighbours}
@@ -29,7 +30,9 @@ abbrev pub high_end : List Edge → ℕ → End
 high_end edges e = record { at = (edge_of edges e).high; edge = e; starts = false }
 
 abbrev pub ends_of : ℕ → Edge → List End
-ends_of e edge = record { at = edge.low; edge = e; starts = true } ∷ record { at = edge.high; edge = e; starts = false } ∷ []
+ends_of e edge =
+    record { at = edge.low; edge = e; starts = true }
+    ∷ record { at = edge.high; edge = e; starts = false } ∷ []
 
 -- All ends of edges, the first of which has number e.
 abbrev pub all_ends : ℕ → List Edge → List End
@@ -52,7 +55,8 @@ pub record IsGroup (ends : List End) (n : ℕ) : Type 0 where
   pub some : 0 < n
   pub within : n ≤ length ends
   pub one : (k : ℕ) (d : End) → k < n → (slice_index_or ends k d).at ≡ (slice_index_or ends 0 d).at
-  pub next : (d : End) → n < length ends → (slice_index_or ends n d).at ≡ (slice_index_or ends 0 d).at → ⊥
+  pub next : (d : End) → n < length ends
+      → (slice_index_or ends n d).at ≡ (slice_index_or ends 0 d).at → ⊥
 
 -- The ends of one point, by number.
 pub record IsGroupOf (edges : List Edge) (at : Point) (group : List End) : Type 0 where
@@ -70,20 +74,23 @@ starting_of [] = []
 starting_of (z ∷ zs) = cond z.starts (z.edge ∷ starting_of zs) (starting_of zs)
 
 -- The numbers gained the edges that end, and rays were made of those that start.
-pub record IsSplit (edges : List Edge) (group : List End) (old new : List ℕ) (made : List Ray) : Type 0 where
+pub record IsSplit (edges : List Edge) (group : List End) (old new : List ℕ)
+    (made : List Ray) : Type 0 where
   pub numbers : new ≡ old ++ ending_of group
   pub rays : ray_edges made ≡ starting_of group
   pub directions : All (IsRayOf edges) made
 
 -- The event holds exactly the edges whose ends are among these ends at its point, in order.
 pub record IsTimedBy (E : ℕ → Edge) (ends : List End) (t : Timed) : Type 0 where
-  pub starting : (e : ℕ) → Has e t.starting ↔ Has (record { at = t.at; edge = e; starts = true }) ends
+  pub starting : (e : ℕ)
+      → Has e t.starting ↔ Has (record { at = t.at; edge = e; starts = true }) ends
   pub by_slope : Neighbours (BySlope E) t.starting
   pub ending : (e : ℕ) → Has e t.ending ↔ Has (record { at = t.at; edge = e; starts = false }) ends
   pub by_number : Neighbours (λ a b. a < b) t.ending
 
 -- One event more was written, that of a group of ends.
-pub record AddsEvent (E : ℕ → Edge) (group : List End) (old_slots : List Slot) (old_numbers : List ℕ) (new_slots : List Slot) (new_numbers : List ℕ) : Type 0 where
+pub record AddsEvent (E : ℕ → Edge) (group : List End) (old_slots : List Slot)
+    (old_numbers : List ℕ) (new_slots : List Slot) (new_numbers : List ℕ) : Type 0 where
   pub slot : Slot
   pub more : List ℕ
   pub slots : new_slots ≡ old_slots ++ slot ∷ []
@@ -102,7 +109,8 @@ pub record IsFilled (E : ℕ → Edge) (passed rest : List End) (table : List Ti
   pub some : (t : Timed) → Has t table → (z : End) × Has z passed × (z.at ≡ t.at)
 
 -- What writing the events keeps: the first i ends were passed.
-pub record IsFilledTo (edges : List Edge) (ends : List End) (i : ℕ) (made : List Slot) (written : List ℕ) : Type 0 where
+pub record IsFilledTo (edges : List Edge) (ends : List End) (i : ℕ) (made : List Slot)
+    (written : List ℕ) : Type 0 where
   pub within : i ≤ length ends
   pub table : IsFilled (edge_of edges) (take i ends) (drop i ends) (map (timed_at written) made)
   pub slots : AreSlots (length written) made

@@ -16,7 +16,7 @@ pub fn edge_before(live: &Row<u32>, place: usize) -> Option<u32>
     }
 }
 
-/// The edge at a place of the list, and None behind all.
+/// The edge at a place of the list, and None after all.
 pub fn edge_at(live: &Row<u32>, place: usize) -> Option<u32>
     ensures { result ≡ edge_at live.now place }
 {

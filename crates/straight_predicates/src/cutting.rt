@@ -24,7 +24,7 @@ pub fn turn_over(edges: &[Edge], edge: u32, at: Point) -> Turn
 }
 
 /// A place in a list of edges such that the point is strictly above the edge before it, and not
-/// above the edge behind it. Where the list is in order at the point, all edges before the place
+/// above the edge after it. Where the list is in order at the point, all edges before the place
 /// are strictly below the point and no other is. It takes no memory, and a turn for each halving
 /// of the list, of whose blocks it then counts those before the place.
 pub fn cut(live: &Row<u32>, edges: &[Edge], at: Point) -> usize

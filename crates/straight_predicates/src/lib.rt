@@ -13,7 +13,7 @@
 //! - **Degenerate cases.** Upright edges, equal edges, edges of one line that overlap, touch or
 //!   leave a gap, and ends that coincide in each of the four ways are all taken.
 //! - **Lists of edges.** `Timetable` is the ends of edges in order, each with the edges that end
-//!   there, by number, and those that start there, by slope and then by number; it also tells the
+//!   there, by number, and those that start there, by slope and then by number; it also gives the
 //!   events of each edge's ends (`edge_events`), for a mesh of them. `cut` finds the place of a
 //!   point in a list of edges; it promises the two edges beside the place and asks for no order of
 //!   the list. `Row` is a list that is changed in place, in blocks of at most 8,192 values. A sweep

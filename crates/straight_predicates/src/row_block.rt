@@ -81,7 +81,7 @@ impl<T: Copy> Block<T> {
 }
 
 /// Puts values in the place of `count` others, from `from` on. There is room for them. Where as
-/// many come as go, nothing else is moved; else each value behind them is moved once or twice.
+/// many come as go, nothing else is moved; else each value after them is moved once or twice.
 fn change<T: Copy>(values: &mut Vec<T>, from: usize, count: usize, with: &[T])
     requires within { from + count ≤ length values.old.items }
     requires room { length values.old.items + length with.now ≤ vec_capacity values.old + count }

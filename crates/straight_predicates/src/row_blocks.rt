@@ -17,7 +17,7 @@ pub struct Spot {
     pub offset: usize,
 }
 
-/// The block of a place, and behind all values the end of the last one.
+/// The block of a place, and after all values the end of the last one.
 pub fn find<T: Copy>(blocks: &[Block<T>], place: usize) -> Spot
     requires some { 0 < length blocks.now }
     requires place { place ≤ length (joined blocks.now) }

@@ -24,7 +24,7 @@ impl Timetable {
     ghost use Rattle.straight_predicates.specs.EdgeLists.{edge_of, AreSorted, AreAllClose};
     ghost use Rattle.straight_predicates.specs.Tables.{table_of};
 
-    /// The timetable of these edges. The only error is want of memory. It sorts the ends: of m
+    /// The timetable of these edges. The only error is out of memory. It sorts the ends: of m
     /// edges it takes O(m log m) time, and 48 bytes for each while it does; the timetable keeps
     /// 8 bytes for each edge and 32 for each event.
     pub fn new(alloc: Global, edges: &[Edge]) -> Result<Timetable, Memory>

@@ -25,7 +25,8 @@ edges_of d = map straight_edge d.curves
 
 -- beyond the last one it is not meant
 abbrev pub nth_curve : List Curve → ℕ → Curve
-nth_curve curves i = get_or curves i (straight (record { x = pos 0; y = pos 0 }) (record { x = pos 0; y = pos 0 }) 0)
+nth_curve curves i =
+    get_or curves i (straight (record { x = pos 0; y = pos 0 }) (record { x = pos 0; y = pos 0 }) 0)
 
 -- all curves are straights
 abbrev pub AreAllStraight : List Curve → Type 0

@@ -1,4 +1,5 @@
--- What tells which side of an edge faces its tube from within, in the words of a list of edges with owners.
+-- What says which side of an edge faces its tube from within, in the words of a list of edges with
+-- owners.
 use Rattle.std.specs.Prelude.{ℕ, ◌^◌, Bool, cond, not, List, slice_index_or}
 use Rattle.plane.specs.CurveRuns.TubedRuns.{runs_on, third_is_left}
 use Rattle.plane.specs.Rule.Curves.{arc}
@@ -22,8 +23,8 @@ no_owner = record { curve = 0; part = part.Straight }
 abbrev pub owner_at : List Owner → ℕ → Owner
 owner_at owners e = slice_index_or owners e no_owner
 
--- An edge of an inner chain has its tube below it exactly where it runs on with the third point on the left of the half arc, or back
--- with that point on the right.
+-- An edge of an inner chain has its tube below it exactly where it runs on with the third point on
+-- the left of the half arc, or back with that point on the right.
 abbrev pub is_under : Curve → Edge → Bool
 is_under c e = cond (third_is_left c) (runs_on c e) (not (runs_on c e))
 
@@ -32,7 +33,8 @@ side_of part.Straight c e = facing.Neither
 side_of part.Inner c e = cond (is_under c e) facing.Below facing.Above
 side_of part.Outer c e = cond (is_under c e) facing.Above facing.Below
 
--- The numbers of both tests are small: the half arc has a circle, and the ends of the edge lie near.
+-- The numbers of both tests are small: the half arc has a circle, and the ends of the edge lie
+-- near.
 pub record IsSmall (c : Curve) (e : Edge) : Type 0 where
   pub circle : HasCircle (arc c)
   pub near : AreNear (2 ^ 29) e.low e.high
@@ -45,4 +47,6 @@ HasSmallTube part.Outer c e = IsSmall c e
 
 -- The sides of the edges of a list, each by its owner.
 abbrev pub listed_side : Plan → EdgeList → ℕ → Facing
-listed_side d list e = side_of (owner_at list.owners.items e).part (curve d (owner_at list.owners.items e).curve) (edge_of list.edges.items e)
+listed_side d list e =
+    side_of (owner_at list.owners.items e).part (curve d (owner_at list.owners.items e).curve)
+    (edge_of list.edges.items e)

@@ -1,5 +1,8 @@
--- The tube of a half arc at a level: corners made by whole numbers alone, and the conditions that they meet.
-use Rattle.std.specs.Prelude.{unsigned_abs, ◌≡◌, ℕ, zero, suc, ◌+◌, ◌*◌, ◌/◌, ◌^◌, Bool, cond, nat_lt, Option, None, Some, List, [], ◌∷◌, ℤ, pos, ◌+ℤ◌, ◌*ℤ◌, ◌-ℤ◌, ◌<ℤ◌, ◌≤ℤ◌}
+-- The tube of a half arc at a level: corners made by whole numbers alone, and the conditions that
+-- they meet.
+use Rattle.std.specs.Prelude.{unsigned_abs, ◌≡◌, ℕ, zero, suc, ◌+◌, ◌*◌, ◌/◌, ◌^◌, Bool, cond}
+use Rattle.std.specs.Prelude.{nat_lt, Option, None, Some, List, [], ◌∷◌, ℤ, pos, ◌+ℤ◌, ◌*ℤ◌, ◌-ℤ◌}
+use Rattle.std.specs.Prelude.{◌<ℤ◌, ◌≤ℤ◌}
 use Rattle.std.specs.Int.{int_div_euclid}
 use Rattle.plane.specs.declared.kinds.Point.{Point}
 use Rattle.plane.specs.Faces.Cells.{is_positive}
@@ -19,7 +22,8 @@ root (suc n) = cond (nat_lt (suc n) (suc (root n) * suc (root n))) (root n) (suc
 abbrev pub whole_distance : Point → Point → ℕ
 whole_distance p q = root (unsigned_abs (distance p q))
 
--- The way from p to q, turned by a quarter to the side on which the half arc lies: away from its third point.
+-- The way from p to q, turned by a quarter to the side on which the half arc lies: away from its
+-- third point.
 abbrev pub turned_x : HalfArc → Point → Point → ℤ
 turned_x h p q = cond (is_positive (bend h)) (q.y -ℤ p.y) (p.y -ℤ q.y)
 
@@ -46,18 +50,24 @@ unfoldable pub with_bits : (ℕ → Bool) → ℕ → ℕ → ℕ
 with_bits test zero k = k
 with_bits test (suc b) k = with_bits test b (cond (test (k + 2 ^ b)) (k + 2 ^ b) k)
 
--- The count of two points that differ, where the point two units below their middle is strictly inside.
+-- The count of two points that differ, where the point two units below their middle is strictly
+-- inside.
 unfoldable pub count : HalfArc → Point → Point → Option ℕ
-count h p q = cond (nat_lt 0 (whole_distance p q)) (cond (is_inside h p q 0) (Some (with_bits (is_inside h p q) 27 0)) None) None
+count h p q =
+    cond (nat_lt 0 (whole_distance p q))
+    (cond (is_inside h p q 0) (Some (with_bits (is_inside h p q) 27 0)) None) None
 
 abbrev pub and_then : {X Y : Type 0} → Option X → (X → Option Y) → Option Y
 and_then None f = None
 and_then (Some x) f = f x
 
--- The points after p with a new one, two units less than the count from the middle, between every two neighbours.
+-- The points after p with a new one, two units less than the count from the middle, between every
+-- two neighbours.
 unfoldable pub refine : HalfArc → Point → List Point → Option (List Point)
 refine h p [] = Some []
-refine h p (q ∷ qs) = and_then (count h p q) (λ k. and_then (refine h q qs) (λ rest. Some (beside h p q (pos k -ℤ pos 2) ∷ q ∷ rest)))
+refine h p (q ∷ qs) =
+    and_then (count h p q)
+    (λ k. and_then (refine h q qs) (λ rest. Some (beside h p q (pos k -ℤ pos 2) ∷ q ∷ rest)))
 
 -- The inner points after `from`, that number of times refined.
 unfoldable pub inner_points : HalfArc → ℕ → Option (List Point)
@@ -67,11 +77,15 @@ inner_points h (suc n) = and_then (inner_points h n) (refine h h.from)
 -- The outer points, one over every two neighbours from p on.
 unfoldable pub outer_points : HalfArc → Point → List Point → Option (List Point)
 outer_points h p [] = Some []
-outer_points h p (q ∷ qs) = and_then (count h p q) (λ k. and_then (outer_points h q qs) (λ rest. Some (beside h p q (pos ((5 * k) / 2 + 4)) ∷ rest)))
+outer_points h p (q ∷ qs) =
+    and_then (count h p q)
+    (λ k.
+    and_then (outer_points h q qs) (λ rest. Some (beside h p q (pos ((5 * k) / 2 + 4)) ∷ rest)))
 
--- The inner points after `from` and the outer points are those of the tube of a half arc at a level: the circle is there, the half
--- arc is less than half a turn, the points can be made, lie near, rise along the chord and stand to each other as bays do; the
--- outer edges are outside, the first and the last but for the ends of the half arc.
+-- The inner points after `from` and the outer points are those of the tube of a half arc at a
+-- level: the circle is there, the half arc is less than half a turn, the points can be made, lie
+-- near, rise along the chord and stand to each other as bays do; the outer edges are outside, the
+-- first and the last but for the ends of the half arc.
 pub record IsTubeOf (h : HalfArc) (level : ℕ) (inner outer : List Point) : Type 0 where
   pub circle : HasCircle h
   pub less : pos 0 <ℤ facing h

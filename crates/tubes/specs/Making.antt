@@ -1,5 +1,6 @@
 -- What the making of a tube answers, and what its steps need.
-use Rattle.std.specs.Prelude.{◌≡◌, ℕ, ◌+◌, ◌*◌, ◌/◌, ◌^◌, Option, None, Some, List, [], ◌∷◌, ℤ, pos, ◌*ℤ◌, ◌-ℤ◌, ◌<ℤ◌, ◌≤ℤ◌}
+use Rattle.std.specs.Prelude.{◌≡◌, ℕ, ◌+◌, ◌*◌, ◌/◌, ◌^◌, Option, None, Some, List, [], ◌∷◌, ℤ, pos}
+use Rattle.std.specs.Prelude.{◌*ℤ◌, ◌-ℤ◌, ◌<ℤ◌, ◌≤ℤ◌}
 use Rattle.std.specs.Global.{Vec}
 use Rattle.plane.specs.Lists.{Each, First, Last, Neighbours}
 use Rattle.plane.specs.Numbers.{IsWithin}
@@ -7,14 +8,15 @@ use Rattle.plane.specs.Forms.Arcs.{along}
 use Rattle.plane.specs.Forms.Vectors.{point}
 use Rattle.plane.specs.Rule.HalfArcs.{HalfArc, bend, power}
 use Rattle.plane.specs.Rule.Turns.{AreNear}
-use Rattle.plane.specs.Tubes.Bays.{AreBays, AreNext, Bay, ahead_of_from, ahead_of_to, bays, distance, outward}
+use Rattle.plane.specs.Tubes.Bays.{AreBays, AreNext, Bay, ahead_of_from, ahead_of_to, bays}
+use Rattle.plane.specs.Tubes.Bays.{distance, outward}
 use Rattle.plane.specs.declared.kinds.Point.{Point}
 use Rattle.tubes.specs.HalfArcTubes.{HasNoTube, IsTubeOf, and_then, beside, count, whole_distance}
 use Rattle.tubes.specs.declared.kinds.Tube.{Tube}
 use Rattle.tubes.specs.declared.spans.Span.{Span}
 
--- The tube's inner points begin with the first end of the half arc; with those after it and the outer points it is the half
--- arc's tube at the level.
+-- The tube's inner points begin with the first end of the half arc; with those after it and the
+-- outer points it is the half arc's tube at the level.
 pub record IsMade (h : HalfArc) (level : ℕ) (t : Tube) : Type 0 where
   pub after : List Point
   pub inner : t.inner.items ≡ h.from ∷ after
@@ -60,17 +62,20 @@ bay outer inner = record { outer = outer; inner = inner }
 abbrev pub Rise : HalfArc → Point → Point → Point → Type 0
 Rise h p q r = (along h (point p) <ℤ along h (point q)) × (along h (point q) <ℤ along h (point r))
 
--- The square is less than four times how far the point is outside the circle; both are weighed by the square of the turn.
+-- The square is less than four times how far the point is outside the circle; both are weighed by
+-- the square of the turn.
 abbrev pub IsFar : HalfArc → Point → ℤ → Type 0
 IsFar h p square = ((bend h *ℤ bend h) *ℤ square) <ℤ (pos 4 *ℤ power h (point p))
 
--- The inner point is strictly on the inner side of the edge of two outer points, and that edge is outside.
+-- The inner point is strictly on the inner side of the edge of two outer points, and that edge is
+-- outside.
 pub record IsUnder (h : HalfArc) (outer inner next : Point) : Type 0 where
   pub under : outward h outer next inner <ℤ pos 0
   pub first_far : IsFar h outer (distance outer next)
   pub second_far : IsFar h next (distance outer next)
 
--- The outer edges are outside, the first and the last but for the ends of the half arc, and the inner points under them.
+-- The outer edges are outside, the first and the last but for the ends of the half arc, and the
+-- inner points under them.
 pub record AreOutside (h : HalfArc) (inner outer : List Point) : Type 0 where
   pub next : Neighbours (AreNext h) (bays inner outer)
   pub first : First (λ o. ahead_of_from h o ≤ℤ pos 0) outer

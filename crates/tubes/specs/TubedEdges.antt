@@ -1,5 +1,6 @@
 -- The edges of a drawing whose half arcs have tubes at a level, each with its curve.
-use Rattle.std.specs.Prelude.{◌≡◌, ℕ, ◌+◌, ◌<◌, Bool, true, false, Option, Some, None, List, [], ◌∷◌, ◌++◌, length, map}
+use Rattle.std.specs.Prelude.{◌≡◌, ℕ, ◌+◌, ◌<◌, Bool, true, false, Option, Some, None, List, []}
+use Rattle.std.specs.Prelude.{◌∷◌, ◌++◌, length, map}
 use Rattle.plane.specs.CurveRuns.TubedRuns as runs
 use Rattle.plane.specs.Rule.Curves.{arc}
 use Rattle.plane.specs.Rule.HalfArcs.{HalfArc}
@@ -30,7 +31,9 @@ made (Some points) = points
 
 -- The bays of the half arc's tube at the level, where it has one.
 unfoldable pub bays_at : HalfArc → ℕ → List Bay
-bays_at h level = bays (made (inner_points h (level + 1))) (made (outer_points h h.from (made (inner_points h (level + 1)))))
+bays_at h level =
+    bays (made (inner_points h (level + 1)))
+    (made (outer_points h h.from (made (inner_points h (level + 1)))))
 
 -- The same by the number of a curve.
 abbrev pub drawn_bays : Plan → ℕ → ℕ → List Bay
@@ -49,8 +52,8 @@ edge_as o = edge_from o.from o.to
 abbrev pub owner_as : runs.Owned → Owner
 owner_as o = record { curve = o.curve; part = part_of o.part }
 
--- All half arcs have tubes at the level, and the list is that of the curves in their order: a straight gives its edge, a half arc
--- its inner chain, then its outer one.
+-- All half arcs have tubes at the level, and the list is that of the curves in their order: a
+-- straight gives its edge, a half arc its inner chain, then its outer one.
 pub record IsTubedList (d : Plan) (level : ℕ) (list : EdgeList) : Type 0 where
   pub tubes : (i : ℕ) → IsHalfArc d i → HasTube (arc (curve d i)) level
   pub edges : list.edges.items ≡ map edge_as (runs.edge_list (drawn_bays d level) 0 d.curves)
@@ -61,7 +64,8 @@ abbrev pub IsListAt : Plan → ℕ → Option EdgeList → Type 0
 IsListAt d level None = (i : ℕ) × IsHalfArc d i × HasNoTube (arc (curve d i)) level
 IsListAt d level (Some list) = IsTubedList d level list
 
--- The edges have their low ends first, and are close enough to each other and to the objects' points for the exact predicates.
+-- The edges have their low ends first, and are close enough to each other and to the objects'
+-- points for the exact predicates.
 pub record AreUsable (d : Plan) (edges : List Edge) : Type 0 where
   pub sorted : AreSorted edges
   pub close : AreAllClose edges
@@ -95,16 +99,22 @@ pub record IsFit (c : Curve) : Type 0 where
   pub distinct : c.from ≡ c.to → ⊥
 
 -- The lists have grown by the edges of the owned ones, and by their owners.
-pub record AreGrown (all : List runs.Owned) (before grown : List Edge) (past more : List Owner) : Type 0 where
+pub record AreGrown (all : List runs.Owned) (before grown : List Edge)
+    (past more : List Owner) : Type 0 where
   pub edges : grown ≡ before ++ map edge_as all
   pub owners : more ≡ past ++ map owner_as all
 
 -- The half arc has a tube, whose chains are added; or it has none.
-abbrev pub IsTubeAdded : ℕ → Curve → ℕ → List Edge → List Edge → List Owner → List Owner → Bool → Type 0
-IsTubeAdded i c level edges grown owners more true = HasTube (arc c) level × AreGrown (runs.edges_of i kind.HalfArc c (bays_at (arc c) level)) edges grown owners more
+abbrev pub IsTubeAdded : ℕ → Curve → ℕ → List Edge → List Edge → List Owner → List Owner → Bool
+    → Type 0
+IsTubeAdded i c level edges grown owners more true =
+    HasTube (arc c) level
+    × AreGrown (runs.edges_of i kind.HalfArc c (bays_at (arc c) level)) edges grown owners more
 IsTubeAdded i c level edges grown owners more false = HasNoTube (arc c) level
 
 -- The curve's edges are added; or it is a half arc without a tube.
 abbrev pub IsAdded : ℕ → Curve → ℕ → List Edge → List Edge → List Owner → List Owner → Bool → Type 0
-IsAdded i c level edges grown owners more true = (c.kind ≡ kind.HalfArc → HasTube (arc c) level) × AreGrown (runs.edges_of i c.kind c (bays_at (arc c) level)) edges grown owners more
+IsAdded i c level edges grown owners more true =
+    (c.kind ≡ kind.HalfArc → HasTube (arc c) level)
+    × AreGrown (runs.edges_of i c.kind c (bays_at (arc c) level)) edges grown owners more
 IsAdded i c level edges grown owners more false = (c.kind ≡ kind.HalfArc) × HasNoTube (arc c) level

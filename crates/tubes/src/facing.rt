@@ -17,7 +17,7 @@ use std::alloc::Global;
 use straight_predicates::{Turn, turn};
 
 /// Which side of each edge faces the tube of its curve from within, in one pass; of the list of the
-/// drawing's edges at some level. One byte for each edge. The only error is want of memory.
+/// drawing's edges at some level. One byte for each edge. The only error is out of memory.
 pub fn facings(alloc: Global, drawing: &Drawing, list: &EdgeList) -> Result<Vec<Facing>, Memory>
     requires { (level : ℕ) × (level ≤ 5) × IsTubedList (plan drawing.now) level list.now }
     ensures { IfOk result (λ facings. (level : ℕ) → IsTubedList (plan drawing.now) level list.now

@@ -1,11 +1,11 @@
 //! The tubes of half arcs, and the edges that stand for the curves of a drawing.
 //!
 //! - **What it answers.** `tube` gives the tube of a half arc at a level from 0 to 5: corners by
-//!   whole numbers, whose triangles cover the half arc. `holds` tells whether a point is in one of
+//!   whole numbers, whose triangles cover the half arc. `holds` says whether a point is in one of
 //!   a tube's closed triangles. `edge_list` gives the edges that stand for the curves of a
 //!   drawing at a level, in their order, each with its curve: for a straight its edge, from the end
 //!   that comes first by x, then y, to the other one; for a half arc the inner chain of its tube,
-//!   then the outer one. Of a list at a level, `facings` tells which side of each edge faces its
+//!   then the outer one. Of a list at a level, `facings` says which side of each edge faces its
 //!   tube, and `foreign_corner` the first event at which a corner of a tube, other than the ends of
 //!   its half arc, is another curve's.
 //! - **The rule that it serves.** `specs/HalfArcTubes.antt` says which corners a tube has and when

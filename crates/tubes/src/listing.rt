@@ -15,7 +15,7 @@ use straight_predicates::edge_between;
 
 /// The edges of the drawing at a level from 0 to 5: for each straight its edge, and for each half
 /// arc the inner chain of its tube, then the outer one. `None` exactly where a half arc has no tube
-/// at the level. The only error is want of memory.
+/// at the level. The only error is out of memory.
 pub fn edge_list(alloc: Global, drawing: &Drawing, level: u8) -> Result<Option<EdgeList>, Memory>
     requires { level ≤ 5 }
     ensures list { IfOk result (IsListAt (plan drawing.now) level) }
@@ -32,7 +32,7 @@ pub fn edge_list(alloc: Global, drawing: &Drawing, level: u8) -> Result<Option<E
     Ok(Some(EdgeList { edges, owners }))
 }
 
-/// Adds the edges of a curve, and tells whether it has any: a half arc without a tube has none.
+/// Adds the edges of a curve, and says whether it has any: a half arc without a tube has none.
 fn add_curve(
     alloc: Global,
     edges: &mut Vec<Edge>,

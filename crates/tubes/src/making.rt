@@ -14,7 +14,7 @@ use ports::Memory;
 use std::alloc::{AllocError, Global};
 
 /// The tube of a half arc at a level from 0 to 5; `None` exactly where it has none there. The only
-/// error is want of memory.
+/// error is out of memory.
 pub fn tube(alloc: Global, curve: &Curve, level: u8) -> Result<Option<Tube>, Memory>
     requires level { level ≤ 5 }
     requires short { IsShort curve.now.from }

@@ -1,4 +1,5 @@
--- The label of a point of a drawing with half arcs: by a cell, which may also be under all edges or over all, or by a tube and its side.
+-- The label of a point of a drawing with half arcs: by a cell, which may also be under all edges or
+-- over all, or by a tube and its side.
 use Rattle.std.specs.Prelude.{◌≡◌, ◌⊎◌, ℕ, ◌≤◌, List, length}
 use Rattle.plane.specs.declared.kinds.Point.{Point}
 use Rattle.plane.specs.Rule.Plans.{Plan}
@@ -18,5 +19,7 @@ pub record IsInRegion (d : Plan) (r : Replay) (lab : Labels) (v : Point) (n : �
   pub region : n ≤ length d.points
 
 -- The point has the label n.
-abbrev pub HasRegion : Plan → (ℕ → List Bay) → Replay → Labels → (ℕ → ℕ) → (ℕ → ℕ) → Point → ℕ → Type 0
-HasRegion d bays r lab inside outside v n = IsInRegion d r lab v n ⊎ IsInTube d bays inside outside v n
+abbrev pub HasRegion : Plan → (ℕ → List Bay) → Replay → Labels → (ℕ → ℕ) → (ℕ → ℕ) → Point → ℕ
+    → Type 0
+HasRegion d bays r lab inside outside v n =
+    IsInRegion d r lab v n ⊎ IsInTube d bays inside outside v n

@@ -1,6 +1,9 @@
--- Sectors of a run, what opens from one to the next, and places joined by segments that hit no edge.
--- A cell is made of sectors, one in each strip that it goes through; border sectors lie under all edges or over all.
-use Rattle.std.specs.Prelude.{◌≡◌, ℕ, zero, suc, ◌+◌, ◌<◌, ◌≤◌, ◌⊎◌, Bool, true, false, cond, List, [], ◌∷◌, length, ℤ, pos, negsuc, ◌*ℤ◌, ◌-ℤ◌}
+-- Sectors of a run, what opens from one to the next, and places joined by segments that hit no
+-- edge.
+-- A cell is made of sectors, one in each strip that it goes through; border sectors lie under all
+-- edges or over all.
+use Rattle.std.specs.Prelude.{◌≡◌, ℕ, zero, suc, ◌+◌, ◌<◌, ◌≤◌, ◌⊎◌, Bool, true, false, cond, List}
+use Rattle.std.specs.Prelude.{[], ◌∷◌, length, ℤ, pos, negsuc, ◌*ℤ◌, ◌-ℤ◌}
 use Rattle.plane.specs.Forms.Vectors.{Vector, Place, Same, side, sweep, HitsEdge}
 use Rattle.plane.specs.Faces.Labels.{Labels, label_at}
 use Rattle.plane.specs.Faces.Replays.{Replay, reach}
@@ -13,14 +16,16 @@ is_positive (negsuc n) = false
 -- how many of the first k events have a sweep value at most that of z
 abbrev pub passed : Replay → Vector → ℕ → ℕ
 passed r z zero = 0
-passed r z (suc k) = cond (is_positive ((reach r k *ℤ z.n) -ℤ sweep r.weight z)) (passed r z k) (suc (passed r z k))
+passed r z (suc k) =
+    cond (is_positive ((reach r k *ℤ z.n) -ℤ sweep r.weight z)) (passed r z k) (suc (passed r z k))
 
 -- how many edges of the list are strictly below z
 abbrev pub raised : Replay → Vector → List ℕ → ℕ
 raised r z [] = 0
 raised r z (e ∷ es) = cond (is_positive (side (r.edge e) z)) (suc (raised r z es)) (raised r z es)
 
--- A piece of a cell in one strip: how many events come before it, and how many edges of the live list lie under it.
+-- A piece of a cell in one strip: how many events come before it, and how many edges of the live
+-- list lie under it.
 pub record Sector : Type 0 where
   pub strip : ℕ
   pub index : ℕ

@@ -1,4 +1,5 @@
--- The rotation of half-edges round events, what connects them to faces, and links that lead to a root.
+-- The rotation of half-edges round events, what connects them to faces, and links that lead to a
+-- root.
 -- A face is a class of connected half-edges; no geometry appears here.
 use Rattle.std.specs.Prelude.{◌≡◌, ℕ, ◌<◌, ◌⊎◌, List, [], ◌∷◌, ◌++◌}
 use Rattle.plane.specs.Runs.Steps.{Step}
@@ -59,7 +60,8 @@ pub data Crossing (r : Replay) : Half → Half → Type 0 where
   same : (g h : Half) → g ≡ h → Crossing r g h
   cross : (g h i : Half) → Across r g h → Crossing r h i → Crossing r g i
 
--- from g to h by cells between two edges, by the step from a half-edge to its next one or back, and over the border
+-- from g to h by cells between two edges, by the step from a half-edge to its next one or back, and
+-- over the border
 pub data Connected (r : Replay) : Half → Half → Type 0 where
   same : (g h : Half) → g ≡ h → Connected r g h
   cross : (g h i : Half) → Across r g h → Connected r h i → Connected r g i
@@ -95,8 +97,10 @@ AreLeads r lab rank link Root = (h : Half) → edge_of h < r.edges → IsLead r 
 pub record IsFaces (r : Replay) (face : Half → ℕ) : Type 0 where
   pub across : (g h : Half) → Across r g h → face g ≡ face h
   pub border : (h : Half) → Touches r h → face h ≡ 0
-  pub one : (g h : Half) → edge_of g < r.edges → edge_of h < r.edges → face g ≡ face h → Connected r g h
-  pub outside : (h : Half) → edge_of h < r.edges → face h ≡ 0 → (t : Half) × Connected r h t × Touches r t
+  pub one : (g h : Half) → edge_of g < r.edges → edge_of h < r.edges → face g ≡ face h
+      → Connected r g h
+  pub outside : (h : Half) → edge_of h < r.edges → face h ≡ 0
+      → (t : Half) × Connected r h t × Touches r t
 
 -- the numbers as labels
 abbrev pub numbers : (Half → ℕ) → Labels
@@ -109,5 +113,6 @@ face_of r face c = label_of (numbers face) r c
 -- ---- labels that tell apart whatever face numbers tell apart
 pub record AreFine (r : Replay) (lab : Labels) (face : Half → ℕ) : Type 0 where
   pub faces : IsFaces r face
-  pub finer : (g h : Half) → edge_of g < r.edges → edge_of h < r.edges → mark lab g ≡ mark lab h → face g ≡ face h
+  pub finer : (g h : Half) → edge_of g < r.edges → edge_of h < r.edges → mark lab g ≡ mark lab h
+      → face g ≡ face h
   pub outer : (h : Half) → edge_of h < r.edges → mark lab h ≡ 0 → face h ≡ 0

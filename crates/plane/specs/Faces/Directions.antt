@@ -1,5 +1,6 @@
 -- Half-edges round a point, counterclockwise from the direction straight down.
--- The next half-edge is the first one clockwise after another, in this order read backwards and round.
+-- The next half-edge is the first one clockwise after another, in this order read backwards and
+-- round.
 use Rattle.std.specs.Prelude.{◌≡◌, ℕ, ◌<◌, ◌⊎◌, ℤ, pos, ◌*ℤ◌, ◌-ℤ◌, ◌<ℤ◌}
 use Rattle.plane.specs.declared.kinds.Point.{Point}
 use Rattle.plane.specs.Forms.Vectors.{Edge}
@@ -32,14 +33,18 @@ TurnsLeft a b = pos 0 <ℤ ((a.x *ℤ b.y) -ℤ (a.y *ℤ b.x))
 
 -- a comes before b
 abbrev pub Precedes : Direction → Direction → Type 0
-Precedes a b = (IsRight a × IsLeft b) ⊎ (((IsRight a × IsRight b) ⊎ (IsLeft a × IsLeft b)) × TurnsLeft a b)
+Precedes a b =
+    (IsRight a × IsLeft b) ⊎ (((IsRight a × IsRight b) ⊎ (IsLeft a × IsLeft b)) × TurnsLeft a b)
 
 abbrev pub Comes : (ℕ → Edge) → Half → Half → Type 0
 Comes E g h = Precedes (direction E g) (direction E h)
 
--- of the half-edges x that start where t starts, g is the first one clockwise after t: it is the last one before t,
--- or, where t is the first of all, the last of all
+-- of the half-edges x that start where t starts, g is the first one clockwise after t: it is the
+-- last one before t, or, where t is the first of all, the last of all
 pub record IsClockwiseNext (m : ℕ) (E : ℕ → Edge) (t g : Half) : Type 0 where
   pub start : origin E g ≡ origin E t
-  pub turn : (Comes E g t × ((x : Half) → edge_of x < m → origin E x ≡ origin E t → ((x ≡ g) ⊎ Comes E x g) ⊎ ((x ≡ t) ⊎ Comes E t x)))
-      ⊎ ((x : Half) → edge_of x < m → origin E x ≡ origin E t → ((x ≡ g) ⊎ Comes E x g) × ((x ≡ t) ⊎ Comes E t x))
+  pub turn : (Comes E g t
+      × ((x : Half) → edge_of x < m → origin E x ≡ origin E t
+      → ((x ≡ g) ⊎ Comes E x g) ⊎ ((x ≡ t) ⊎ Comes E t x)))
+      ⊎ ((x : Half) → edge_of x < m → origin E x ≡ origin E t
+      → ((x ≡ g) ⊎ Comes E x g) × ((x ≡ t) ⊎ Comes E t x))

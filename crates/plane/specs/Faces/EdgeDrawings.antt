@@ -1,4 +1,5 @@
--- A drawing of given edges: laws on drawings then speak of edges that belong to no drawing, as those of some of the lines alone.
+-- A drawing of given edges: laws on drawings then speak of edges that belong to no drawing, as
+-- those of some of the lines alone.
 use Rattle.std.specs.Prelude.{ℕ, zero, suc, List, [], ◌∷◌}
 use Rattle.plane.specs.declared.kinds.Curve.{Curve}
 use Rattle.plane.specs.declared.window.Window2.{Window2}
@@ -10,6 +11,7 @@ abbrev pub straights_of : (ℕ → Edge) → ℕ → List Curve
 straights_of E zero = []
 straights_of E (suc m) = straight (E 0).low (E 0).high 0 ∷ straights_of (λ e. E (suc e)) m
 
--- the drawing of the edges with numbers below m, in some window that no law reads, with no object's point
+-- the drawing of the edges with numbers below m, in some window that no law reads, with no object's
+-- point
 abbrev pub as_straights : Window2 → (ℕ → Edge) → ℕ → Plan
 as_straights u E m = record { window = u; curves = straights_of E m; points = [] }

@@ -5,7 +5,8 @@ use Rattle.plane.specs.Faces.Labels.{Labels, MatchesAt}
 use Rattle.plane.specs.Faces.Replays.{Replay}
 use Rattle.plane.specs.Faces.Cells.{Sector}
 
--- one side of an edge: under e is numbered 2 e and runs from the high end to the low end, over e is numbered 2 e + 1 and runs back;
+-- one side of an edge: under e is numbered 2 e and runs from the high end to the low end, over e is
+-- numbered 2 e + 1 and runs back;
 -- each has its own side of the edge on its left
 pub data Half : Type 0 where
   under : ℕ → Half
@@ -40,7 +41,8 @@ abbrev pub mark : Labels → Half → ℕ
 mark a (under e) = a.below e
 mark a (over e) = a.above e
 
--- at each event, for each two new neighbours the label above the lower one is the label below the upper one, borders included
+-- at each event, for each two new neighbours the label above the lower one is the label below the
+-- upper one, borders included
 abbrev pub IsMatched : Replay → Labels → Type 0
 IsMatched r a = (k : ℕ) → k < r.steps → MatchesAt a (r.step k)
 

@@ -1,6 +1,7 @@
 -- Parity: counts of edges over a place, along the vertical and along the sweep line.
--- Chosen edges are told by their numbers.
-use Rattle.std.specs.Prelude.{◌≡◌, ℕ, zero, suc, Bool, true, false, cond, List, [], ◌∷◌, ℤ, pos, ◌*ℤ◌, ◌-ℤ◌}
+-- Chosen edges are known by their numbers.
+use Rattle.std.specs.Prelude.{◌≡◌, ℕ, zero, suc, Bool, true, false, cond, List, [], ◌∷◌, ℤ, pos}
+use Rattle.std.specs.Prelude.{◌*ℤ◌, ◌-ℤ◌}
 use Rattle.plane.specs.declared.kinds.Point.{Point}
 use Rattle.plane.specs.Faces.Labels.{Labels}
 use Rattle.plane.specs.Faces.Cells.{is_positive}

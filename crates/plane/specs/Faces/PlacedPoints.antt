@@ -7,7 +7,8 @@ use Rattle.plane.specs.Faces.Replays.{Replay}
 use Rattle.plane.specs.Faces.Halves.{At, AtBefore}
 
 -- by x, then y, exactly the first k events come before the point, which is none of them;
--- it is strictly above the edge before place i of the live list, and strictly below the edge at place i
+-- it is strictly above the edge before place i of the live list, and strictly below the edge at
+-- place i
 pub record IsPlaced (r : Replay) (v : Point) (k i : ℕ) : Type 0 where
   pub fits : k ≤ r.steps
   pub passed : (j : ℕ) → j < k → Before (r.step j).at v

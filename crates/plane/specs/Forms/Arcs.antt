@@ -1,4 +1,5 @@
--- Working forms of half arcs: how places are seen from the chord, and hits with the segment's places as means of its ends.
+-- Working forms of half arcs: how places are seen from the chord, and hits with the segment's
+-- places as means of its ends.
 use Rattle.std.specs.Prelude.{◌⊎◌, ℤ, pos, ◌+ℤ◌, ◌*ℤ◌, ◌-ℤ◌, ◌<ℤ◌}
 use Rattle.plane.specs.Forms.Vectors.{Vector}
 pub use Rattle.plane.specs.Rule.HalfArcs.{HalfArc, wide, tall, third_x, third_y, off_x, off_y}
@@ -22,4 +23,5 @@ seen h v = record { x = along h v; y = bow h v; n = v.n }
 
 -- p and q are both strictly inside the circle or both strictly outside
 abbrev pub SameSign : HalfArc → Vector → Vector → Type 0
-SameSign h p q = ((power h p <ℤ pos 0) × (power h q <ℤ pos 0)) ⊎ ((pos 0 <ℤ power h p) × (pos 0 <ℤ power h q))
+SameSign h p q =
+    ((power h p <ℤ pos 0) × (power h q <ℤ pos 0)) ⊎ ((pos 0 <ℤ power h p) × (pos 0 <ℤ power h q))

@@ -23,18 +23,22 @@ pub record IsRoundedDown (h n b : ℤ) : Type 0 where
   pub most : (h *ℤ b) ≤ℤ n
   pub least : n <ℤ ((h *ℤ b) +ℤ h)
 
--- b is the bend of the straight from p to q beside p, by at most d: with v the way from p to q, u this way turned by a quarter and
--- h the whole root of its length, b is p + (8 d v + (d - 2) u) / h, each coordinate rounded down. The straight is long for d.
+-- b is the bend of the straight from p to q beside p, by at most d: with v the way from p to q, u
+-- this way turned by a quarter and h the whole root of its length, b is p + (8 d v + (d - 2) u) /
+-- h, each coordinate rounded down. The straight is long for d.
 pub record IsBend (d : ℤ) (left : Bool) (p q b : Point) : Type 0 where
   pub root : ℤ
   pub root_most : (root *ℤ root) ≤ℤ square p q
   pub root_least : square p q <ℤ ((root +ℤ pos 1) *ℤ (root +ℤ pos 1))
   pub wide : pos 8 ≤ℤ d
   pub long : (pos 32 *ℤ d) ≤ℤ root
-  pub x : IsRoundedDown root (((pos 8 *ℤ d) *ℤ (q.x -ℤ p.x)) +ℤ ((d -ℤ pos 2) *ℤ aside_x left p q)) (b.x -ℤ p.x)
-  pub y : IsRoundedDown root (((pos 8 *ℤ d) *ℤ (q.y -ℤ p.y)) +ℤ ((d -ℤ pos 2) *ℤ aside_y left p q)) (b.y -ℤ p.y)
+  pub x : IsRoundedDown root (((pos 8 *ℤ d) *ℤ (q.x -ℤ p.x)) +ℤ ((d -ℤ pos 2) *ℤ aside_x left p q))
+      (b.x -ℤ p.x)
+  pub y : IsRoundedDown root (((pos 8 *ℤ d) *ℤ (q.y -ℤ p.y)) +ℤ ((d -ℤ pos 2) *ℤ aside_y left p q))
+      (b.y -ℤ p.y)
 
--- How far z lies along the way from p to q, and how far on its left: each times the way's length and n.
+-- How far z lies along the way from p to q, and how far on its left: each times the way's length
+-- and n.
 abbrev pub ahead : Point → Point → Vector → ℤ
 ahead p q z = ((q.x -ℤ p.x) *ℤ (z.x -ℤ (p.x *ℤ z.n))) +ℤ ((q.y -ℤ p.y) *ℤ (z.y -ℤ (p.y *ℤ z.n)))
 
@@ -52,7 +56,10 @@ pub record IsClose (d : ℤ) (p q : Point) (z : Vector) : Type 0 where
   pub foot : Vector
   pub place : Place foot
   pub of_straight : IsOnStraight (point p) (point q) foot
-  pub near : ((((z.x *ℤ foot.n) -ℤ (foot.x *ℤ z.n)) *ℤ ((z.x *ℤ foot.n) -ℤ (foot.x *ℤ z.n))) +ℤ (((z.y *ℤ foot.n) -ℤ (foot.y *ℤ z.n)) *ℤ ((z.y *ℤ foot.n) -ℤ (foot.y *ℤ z.n)))) ≤ℤ ((d *ℤ (z.n *ℤ foot.n)) *ℤ (d *ℤ (z.n *ℤ foot.n)))
+  pub near :
+      ((((z.x *ℤ foot.n) -ℤ (foot.x *ℤ z.n)) *ℤ ((z.x *ℤ foot.n) -ℤ (foot.x *ℤ z.n)))
+      +ℤ (((z.y *ℤ foot.n) -ℤ (foot.y *ℤ z.n)) *ℤ ((z.y *ℤ foot.n) -ℤ (foot.y *ℤ z.n)))) ≤ℤ
+      ((d *ℤ (z.n *ℤ foot.n)) *ℤ (d *ℤ (z.n *ℤ foot.n)))
 
 -- The half arc from its other end.
 abbrev pub from_other_end : HalfArc → HalfArc

@@ -19,7 +19,8 @@ pub record InBox (b : Box) (z : Vector) : Type 0 where
   pub under : (b.low.y *ℤ z.n) ≤ℤ z.y
   pub over : z.y ≤ℤ (b.high.y *ℤ z.n)
 
--- The box goes beyond p by at least x to the left and to the right, and by at least y downwards and upwards.
+-- The box goes beyond p by at least x to the left and to the right, and by at least y downwards and
+-- upwards.
 pub record GoesBeyond (p : Point) (x y : ℤ) (b : Box) : Type 0 where
   pub left : (b.low.x +ℤ x) ≤ℤ p.x
   pub right : (p.x +ℤ x) ≤ℤ b.high.x
@@ -38,13 +39,16 @@ steps p q = size (q.x -ℤ p.x) +ℤ size (q.y -ℤ p.y)
 unfoldable pub sides : HalfArc → ℤ
 sides h = (steps h.from h.to *ℤ steps h.from h.third) *ℤ steps h.to h.third
 
--- The place is in the cap of the half arc: not outside its circle, and not on the third point's side of its chord.
+-- The place is in the cap of the half arc: not outside its circle, and not on the third point's
+-- side of its chord.
 pub record InCap (h : HalfArc) (z : Vector) : Type 0 where
   pub within : power h z ≤ℤ pos 0
   pub away : pos 0 ≤ℤ bow h z
 
--- The box holds all of the curve that a report may speak of: its ends, and of a half arc the places of its cap that have a side for it.
+-- The box holds all of the curve that a report may speak of: its ends, and of a half arc the places
+-- of its cap that have a side for it.
 pub record HoldsCurve (b : Box) (c : Curve) : Type 0 where
   pub from : InBox b (point c.from)
   pub to : InBox b (point c.to)
-  pub cap : c.kind ≡ kind.HalfArc → (z : Vector) → Place z → HasSide (arc c) z → InCap (arc c) z → InBox b z
+  pub cap : c.kind ≡ kind.HalfArc → (z : Vector) → Place z → HasSide (arc c) z → InCap (arc c) z
+      → InBox b z

@@ -17,7 +17,8 @@ pub record SharesPlace (p q : Vector) (e : Edge) : Type 0 where
 abbrev pub IsEdgeOf : Edge → Curve → Type 0
 IsEdgeOf e c = ((e.low ≡ c.from) × (e.high ≡ c.to)) ⊎ ((e.low ≡ c.to) × (e.high ≡ c.from))
 
--- All curves of the drawing are straights, and the edge of each number is the edge of the curve of that number.
+-- All curves of the drawing are straights, and the edge of each number is the edge of the curve of
+-- that number.
 pub record AreEdgesOf (E : ℕ → Edge) (d : Plan) : Type 0 where
   pub straight : (i : ℕ) → i < length d.curves → (curve d i).kind ≡ kind.Straight
   pub edge : (i : ℕ) → i < length d.curves → IsEdgeOf (E i) (curve d i)

@@ -1,4 +1,5 @@
--- Working forms: edges, two linear forms on places, and the places of a segment as means of its ends.
+-- Working forms: edges, two linear forms on places, and the places of a segment as means of its
+-- ends.
 -- A vector with n = 0 is a direction.
 use Rattle.std.specs.Prelude.{◌≡◌, ℤ, pos, negsuc, ◌+ℤ◌, ◌*ℤ◌, ◌-ℤ◌, ◌<ℤ◌, ◌≤ℤ◌, ◌⊎◌, ℕ, ◌<◌}
 use Rattle.plane.specs.declared.kinds.Point.{Point}
@@ -7,7 +8,12 @@ pub use Rattle.plane.specs.Rule.Places.{Vector, Place, point, Same}
 
 -- s p + t q
 abbrev pub mix : ℤ → Vector → ℤ → Vector → Vector
-mix s p t q = record { x = (s *ℤ p.x) +ℤ (t *ℤ q.x); y = (s *ℤ p.y) +ℤ (t *ℤ q.y); n = (s *ℤ p.n) +ℤ (t *ℤ q.n) }
+mix s p t q =
+    record {
+      x = (s *ℤ p.x) +ℤ (t *ℤ q.x);
+      y = (s *ℤ p.y) +ℤ (t *ℤ q.y);
+      n = (s *ℤ p.n) +ℤ (t *ℤ q.n);
+    }
 
 -- z is a place of the segment from p to q
 pub record Between (z p q : Vector) : Type 0 where
@@ -20,7 +26,9 @@ pub record Between (z p q : Vector) : Type 0 where
 
 -- above 0: v is strictly above the line of e; 0: on it; below 0: strictly below
 unfoldable pub side : Edge → Vector → ℤ
-side e v = ((e.high.x -ℤ e.low.x) *ℤ (v.y -ℤ (e.low.y *ℤ v.n))) -ℤ ((e.high.y -ℤ e.low.y) *ℤ (v.x -ℤ (e.low.x *ℤ v.n)))
+side e v =
+    ((e.high.x -ℤ e.low.x) *ℤ (v.y -ℤ (e.low.y *ℤ v.n)))
+    -ℤ ((e.high.y -ℤ e.low.y) *ℤ (v.x -ℤ (e.low.x *ℤ v.n)))
 
 -- where the sweep line with weight w meets v
 unfoldable pub sweep : ℤ → Vector → ℤ

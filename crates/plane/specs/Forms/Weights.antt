@@ -4,6 +4,8 @@ use Rattle.plane.specs.declared.kinds.Point.{Point}
 use Rattle.plane.specs.Lists.{Has}
 use Rattle.plane.specs.Forms.Vectors.{point, sweep, Before}
 
--- w is a weight of the points where each point that comes before another, by x and then y, has the smaller sweep value.
+-- w is a weight of the points where each point that comes before another, by x and then y, has the
+-- smaller sweep value.
 abbrev pub Weight : ℤ → List Point → Type 0
-Weight w pts = (a b : Point) → Has a pts → Has b pts → Before a b → sweep w (point a) <ℤ sweep w (point b)
+Weight w pts =
+    (a b : Point) → Has a pts → Has b pts → Before a b → sweep w (point a) <ℤ sweep w (point b)

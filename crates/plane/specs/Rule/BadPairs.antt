@@ -1,4 +1,5 @@
--- Pairs of curves that a report may name: two curves of which finite arithmetic shows that they are not apart.
+-- Pairs of curves that a report may name: two curves of which finite arithmetic shows that they are
+-- not apart.
 use Rattle.std.specs.Prelude.{◌≡◌, ◌⊎◌, ℕ, ◌<◌, ◌+◌, ◌-◌, pos, ◌+ℤ◌, ◌*ℤ◌, ◌<ℤ◌, ◌≤ℤ◌, length}
 use Rattle.plane.specs.Rule.Places.{Vector, Place, point}
 use Rattle.plane.specs.Rule.HalfArcs.{HalfArc, power, bow, HasSide}
@@ -22,7 +23,8 @@ pub record StraightsMeet (c d : Curve) : Type 0 where
 abbrev pub IsEndOf : Curve → Point → Type 0
 IsEndOf c p = (c.from ≡ p) ⊎ (c.to ≡ p)
 
--- A control point of c is on d and is no control point of it. Where d is a half arc, the point has a side for it.
+-- A control point of c is on d and is no control point of it. Where d is a half arc, the point has
+-- a side for it.
 pub record EndsOn (c d : Curve) : Type 0 where
   pub at : Point
   pub of_first : IsEndOf c at
@@ -43,21 +45,23 @@ sixteenth c k = record {
   n = pos 16;
 }
 
--- Two places are a trial crossing of a half arc where both have a side for it, neither is on the third point's side of the
--- chord, and one is strictly inside the circle and the other strictly outside.
+-- Two places are a trial crossing of a half arc where both have a side for it, neither is on the
+-- third point's side of the chord, and one is strictly inside the circle and the other strictly
+-- outside.
 pub record IsTrialCrossing (h : HalfArc) (p q : Vector) : Type 0 where
   pub first_side : HasSide h p
   pub second_side : HasSide h q
   pub first_away : pos 0 ≤ℤ bow h p
   pub second_away : pos 0 ≤ℤ bow h q
-  pub changes : ((power h p <ℤ pos 0) × (pos 0 <ℤ power h q)) ⊎ ((pos 0 <ℤ power h p) × (power h q <ℤ pos 0))
+  pub changes : ((power h p <ℤ pos 0) × (pos 0 <ℤ power h q))
+      ⊎ ((pos 0 <ℤ power h p) × (power h q <ℤ pos 0))
 
 -- No control point of the one is a control point of the other.
 abbrev pub HaveNoCommonEnd : Curve → Curve → Type 0
 HaveNoCommonEnd c d = (p : Point) → IsEndOf c p → IsEndOf d p → ⊥
 
--- A straight c and a half arc d have no common control point, and two neighbours among the straight's seventeen places at
--- sixteenths are a trial crossing.
+-- A straight c and a half arc d have no common control point, and two neighbours among the
+-- straight's seventeen places at sixteenths are a trial crossing.
 pub record IsCrossedOnTrial (c d : Curve) : Type 0 where
   pub straight : c.kind ≡ kind.Straight
   pub half_arc : d.kind ≡ kind.HalfArc
@@ -70,8 +74,9 @@ pub record IsCrossedOnTrial (c d : Curve) : Type 0 where
 abbrev pub HaveSameEnds : Curve → Curve → Type 0
 HaveSameEnds c d = ((c.from ≡ d.from) × (c.to ≡ d.to)) ⊎ ((c.from ≡ d.to) × (c.to ≡ d.from))
 
--- Two half arcs with the same two control points, where the third point of d has a side for c and is on c's circle, and the two
--- third points lie on one side of the chord. The two are then one set of places.
+-- Two half arcs with the same two control points, where the third point of d has a side for c and
+-- is on c's circle, and the two third points lie on one side of the chord. The two are then one set
+-- of places.
 pub record AreOneArc (c d : Curve) : Type 0 where
   pub first : c.kind ≡ kind.HalfArc
   pub second : d.kind ≡ kind.HalfArc

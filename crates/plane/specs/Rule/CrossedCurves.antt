@@ -8,8 +8,9 @@ use Rattle.plane.specs.Rule.Curves.{arc, Hits}
 use Rattle.plane.specs.Rule.Plans.{Plan, curve, object}
 use Rattle.plane.specs.Rule.Partition.{IsOff, Joined, IsOuter}
 
--- The segment from p to q crosses curve i, whose edge is e: both its ends are on no curve, p strictly left of the edge as seen
--- from its low end and q strictly right of it, and it hits curve i and no other curve.
+-- The segment from p to q crosses curve i, whose edge is e: both its ends are on no curve, p
+-- strictly left of the edge as seen from its low end and q strictly right of it, and it hits curve
+-- i and no other curve.
 pub record CrossesCurve (d : Plan) (e : Edge) (i : ℕ) (p q : Vector) : Type 0 where
   pub p_place : Place p
   pub q_place : Place q
@@ -20,8 +21,9 @@ pub record CrossesCurve (d : Plan) (e : Edge) (i : ℕ) (p q : Vector) : Type 0 
   pub hits : Hits (curve d i) p q
   pub clear : (j : ℕ) → j < length d.curves → (j ≡ i → ⊥) → Hits (curve d j) p q → ⊥
 
--- The segment from p to q crosses the half arc of curve i: both its ends are on no curve and not on the third point's side of the
--- chord, p strictly inside the circle and q strictly outside, and it hits curve i and no other curve.
+-- The segment from p to q crosses the half arc of curve i: both its ends are on no curve and not on
+-- the third point's side of the chord, p strictly inside the circle and q strictly outside, and it
+-- hits curve i and no other curve.
 pub record CrossesHalfArc (d : Plan) (i : ℕ) (p q : Vector) : Type 0 where
   pub p_place : Place p
   pub q_place : Place q

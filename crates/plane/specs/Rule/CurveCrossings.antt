@@ -1,4 +1,5 @@
--- A segment that crosses one curve of a drawing from its left to its right, as seen from `from` to `to`.
+-- A segment that crosses one curve of a drawing from its left to its right, as seen from `from` to
+-- `to`.
 use Rattle.std.specs.Prelude.{◌≡◌, ℕ, ◌<◌, pos, ◌<ℤ◌, length}
 use Rattle.plane.specs.Forms.Vectors.{Vector, Place, point}
 use Rattle.plane.specs.Rule.Straights.{turn}
@@ -6,8 +7,8 @@ use Rattle.plane.specs.Rule.Curves.{Hits}
 use Rattle.plane.specs.Rule.Plans.{Plan, curve}
 use Rattle.plane.specs.Rule.Partition.{IsOff}
 
--- The segment from p to q crosses curve i: both its ends are on no curve, p strictly left of the straight from `from` to `to` and q
--- strictly right of it, and it hits curve i and no other curve.
+-- The segment from p to q crosses curve i: both its ends are on no curve, p strictly left of the
+-- straight from `from` to `to` and q strictly right of it, and it hits curve i and no other curve.
 pub record Crosses (d : Plan) (i : ℕ) (p q : Vector) : Type 0 where
   pub p_place : Place p
   pub q_place : Place q

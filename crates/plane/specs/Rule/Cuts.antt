@@ -16,13 +16,15 @@ abbrev pub CrossesKind : CurveKind → Plan → ℕ → Vector → Vector → Ty
 CrossesKind kind.Straight d i p q = CrossesCurve d (course (curve d i)) i p q
 CrossesKind kind.HalfArc d i p q = CrossesHalfArc d i p q
 
--- The segment from p to q crosses curve i: its ends are on no curve, and it hits curve i and no other curve. Of a straight p is
--- strictly left, as seen from `from` to `to`, and q strictly right; of a half arc neither is on the third point's side of the
--- chord, p is strictly inside the circle and q strictly outside.
+-- The segment from p to q crosses curve i: its ends are on no curve, and it hits curve i and no
+-- other curve. Of a straight p is strictly left, as seen from `from` to `to`, and q strictly right;
+-- of a half arc neither is on the third point's side of the chord, p is strictly inside the circle
+-- and q strictly outside.
 abbrev pub CrossesOne : Plan → ℕ → Vector → Vector → Type 0
 CrossesOne d i p q = CrossesKind (curve d i).kind d i p q
 
--- Curve i has one face on both sides: the two ends of some segment that crosses it are joined, or are both outer.
+-- Curve i has one face on both sides: the two ends of some segment that crosses it are joined, or
+-- are both outer.
 pub record IsCut (d : Plan) (i : ℕ) : Type 0 where
   pub p : Vector
   pub q : Vector

@@ -14,7 +14,8 @@ mean i p j q k r = record {
   n = ((i *ℤ p.n) +ℤ (j *ℤ q.n)) +ℤ (k *ℤ r.n);
 }
 
--- A place is in the triangle of three places where it is a mean of them with whole weights of at least 0 that are not all 0.
+-- A place is in the triangle of three places where it is a mean of them with whole weights of at
+-- least 0 that are not all 0.
 pub record InTriangle (z p q r : Vector) : Type 0 where
   pub i : ℤ
   pub j : ℤ
@@ -38,18 +39,22 @@ pub record Triangle : Type 0 where
 abbrev pub InSome : List Triangle → Vector → Type 0
 InSome ts z = (t : Triangle) × Has t ts × InTriangle z t.a t.b t.c
 
--- A list of triangles covers a curve where every segment that hits the curve has a place in one of the triangles.
+-- A list of triangles covers a curve where every segment that hits the curve has a place in one of
+-- the triangles.
 abbrev pub Covers : List Triangle → Curve → Type 0
-Covers ts c = (p q : Vector) → Place p → Place q → Hits c p q → (z : Vector) × Place z × IsOnStraight p q z × InSome ts z
+Covers ts c =
+    (p q : Vector) → Place p → Place q → Hits c p q
+    → (z : Vector) × Place z × IsOnStraight p q z × InSome ts z
 
--- Two curves are apart where lists of triangles cover the one and the other, so that each place in a triangle of both lists is
--- a control point of both curves.
+-- Two curves are apart where lists of triangles cover the one and the other, so that each place in
+-- a triangle of both lists is a control point of both curves.
 pub record Apart (c d : Curve) : Type 0 where
   pub first : List Triangle
   pub second : List Triangle
   pub first_covers : Covers first c
   pub second_covers : Covers second d
-  pub apart : (z : Vector) → Place z → InSome first z → InSome second z → IsControl c z × IsControl d z
+  pub apart : (z : Vector) → Place z → InSome first z → InSome second z
+      → IsControl c z × IsControl d z
 
 -- Each common place of the two curves is a control point of both.
 abbrev pub ShareControls : Curve → Curve → Type 0

@@ -23,8 +23,8 @@ pub record IsInside (low high p : Point) : Type 0 where
   pub bottom : low.y ≤ℤ p.y
   pub top : p.y ≤ℤ high.y
 
--- The curve may be drawn in the window: all its points are inside, its ends differ, the third point of a straight is its
--- end, and the three points of a half arc are not collinear.
+-- The curve may be drawn in the window: all its points are inside, its ends differ, the third point
+-- of a straight is its end, and the three points of a half arc are not collinear.
 pub record IsDrawn (low high : Point) (c : Curve) : Type 0 where
   pub from : IsInside low high c.from
   pub to : IsInside low high c.to

@@ -1,4 +1,5 @@
--- Events as a program tells them: each with its position in the live list, and the steps that they make.
+-- Events as a program gives them: each with its position in the live list, and the steps that they
+-- make.
 use Rattle.std.specs.Prelude.{ℕ, ◌+◌, ◌≤◌, pos, List, [], ◌∷◌, length}
 use Rattle.plane.specs.declared.kinds.Point.{Point}
 use Rattle.plane.specs.Lists.{Has, Once}
@@ -6,7 +7,8 @@ use Rattle.plane.specs.Forms.Vectors.{Edge, Before}
 use Rattle.plane.specs.Runs.Steps.{Step, after, live, GoodStep}
 use Rattle.plane.specs.Runs.Positions.{step_at}
 
--- an event: after `position` edges of the live list the next `ending` ones end, and `starting` take their place
+-- an event: after `position` edges of the live list the next `ending` ones end, and `starting` take
+-- their place
 pub record Move : Type 0 where
   pub at : Point
   pub position : ℕ

@@ -5,7 +5,8 @@ use Rattle.plane.specs.declared.kinds.Point.{Point}
 use Rattle.plane.specs.Forms.Vectors.{Vector, point, Edge, side, sweep, rise, Before}
 use Rattle.plane.specs.Lists.{Each, First, Last, Neighbours, Has, Once}
 
--- one step: its point, and the numbers of the edges below it, of those that end and that start there, and of those above it
+-- one step: its point, and the numbers of the edges below it, of those that end and that start
+-- there, and of those above it
 pub record Step : Type 0 where
   pub at : Point
   pub below : List ℕ
@@ -25,8 +26,9 @@ after s = s.below ++ (s.starting ++ s.above)
 abbrev pub Turns : (ℕ → Edge) → ℕ → ℕ → Type 0
 Turns E a b = pos 0 <ℤ side (E a) (point (E b).high)
 
--- the step is right for the edges with numbers below m: its lists of ending and of starting edges are exactly those of its point,
--- the starting ones turn left from neighbour to neighbour, and the nearest edges below and above are strictly so
+-- the step is right for the edges with numbers below m: its lists of ending and of starting edges
+-- are exactly those of its point, the starting ones turn left from neighbour to neighbour, and the
+-- nearest edges below and above are strictly so
 pub record GoodStep (m : ℕ) (E : ℕ → Edge) (s : Step) : Type 0 where
   pub ending_only : (e : ℕ) → Has e s.ending → (e < m) × ((E e).high ≡ s.at)
   pub ending_all : (e : ℕ) → e < m → (E e).high ≡ s.at → Has e s.ending
@@ -37,7 +39,8 @@ pub record GoodStep (m : ℕ) (E : ℕ → Edge) (s : Step) : Type 0 where
   pub nearest_below : Last (λ e. pos 0 <ℤ side (E e) (point s.at)) s.below
   pub nearest_above : First (λ e. side (E e) (point s.at) <ℤ pos 0) s.above
 
--- from the live list `now` on, the steps are good, each begins with what the one before left, and they leave nothing
+-- from the live list `now` on, the steps are good, each begins with what the one before left, and
+-- they leave nothing
 abbrev pub IsReplay : ℕ → (ℕ → Edge) → List ℕ → List Step → Type 0
 IsReplay m E now [] = now ≡ []
 IsReplay m E now (s ∷ steps) = (now ≡ before s) × GoodStep m E s × IsReplay m E (after s) steps
@@ -51,7 +54,8 @@ pub record Run (m : ℕ) (E : ℕ → Edge) (steps : List Step) : Type 0 where
   pub replays : IsReplay m E [] steps
   pub rises : Neighbours (λ s t. Before s.at t.at) steps
   pub ends : (e : ℕ) → e < m → AtSome (E e).low steps × AtSome (E e).high steps
-  pub events : (s : Step) → Has s steps → (e : ℕ) × (e < m) × (((E e).low ≡ s.at) ⊎ ((E e).high ≡ s.at))
+  pub events : (s : Step) → Has s steps
+      → (e : ℕ) × (e < m) × (((E e).low ≡ s.at) ⊎ ((E e).high ≡ s.at))
   pub edges : (e : ℕ) → e < m → Before (E e).low (E e).high
 
 -- ---- moments of a run: the steps that are done, the latest first, and those that are still to do
@@ -64,7 +68,8 @@ abbrev pub live : List Step → List ℕ
 live [] = []
 live (s ∷ done) = after s
 
--- the steps that are done are good, and each began with what the one before left, the first one with nothing
+-- the steps that are done are good, and each began with what the one before left, the first one
+-- with nothing
 abbrev pub Replayed : ℕ → (ℕ → Edge) → List Step → Type 0
 Replayed m E [] = Unit {0}
 Replayed m E (s ∷ done) = (live done ≡ before s) × GoodStep m E s × Replayed m E done
@@ -72,14 +77,16 @@ Replayed m E (s ∷ done) = (live done ≡ before s) × GoodStep m E s × Replay
 -- each step is before all later ones on the sweep
 abbrev pub Rising : ℤ → List Step → Type 0
 Rising w [] = Unit {0}
-Rising w (s ∷ steps) = Each (λ t. sweep w (point s.at) <ℤ sweep w (point t.at)) steps × Rising w steps
+Rising w (s ∷ steps) =
+    Each (λ t. sweep w (point s.at) <ℤ sweep w (point t.at)) steps × Rising w steps
 
 -- a run seen by the sweep with weight w
 pub record WeighedRun (w : ℤ) (m : ℕ) (E : ℕ → Edge) (steps : List Step) : Type 0 where
   pub replays : IsReplay m E [] steps
   pub rising : Rising w steps
   pub ends : (e : ℕ) → e < m → AtSome (E e).low steps × AtSome (E e).high steps
-  pub events : (s : Step) → Has s steps → (e : ℕ) × (e < m) × (((E e).low ≡ s.at) ⊎ ((E e).high ≡ s.at))
+  pub events : (s : Step) → Has s steps
+      → (e : ℕ) × (e < m) × (((E e).low ≡ s.at) ⊎ ((E e).high ≡ s.at))
   pub rises : (e : ℕ) → e < m → pos 0 <ℤ rise w (E e)
 
 -- the steps up to the sweep value of z are done, and no others

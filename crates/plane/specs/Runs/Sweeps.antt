@@ -1,4 +1,5 @@
--- A sweep that is under way: the steps that are done, and the points of the events that are to come.
+-- A sweep that is under way: the steps that are done, and the points of the events that are to
+-- come.
 -- A step is made from the live list by a cut, and neighbours are tested as they come together.
 use Rattle.std.specs.Prelude.{◌≡◌, ℕ, ◌<◌, ℤ, pos, ◌<ℤ◌, ◌≤ℤ◌, ◌⊎◌, List, [], ◌∷◌}
 use Rattle.plane.specs.declared.kinds.Point.{Point}
@@ -22,19 +23,24 @@ trail (s ∷ done) ps = trail done (s.at ∷ ps)
 
 -- at p's sweep value a is strictly below b, or both start in p and b turns left from a
 abbrev pub Lies : ℤ → (ℕ → Edge) → Point → ℕ → ℕ → Type 0
-Lies w E p a b = (gap w (E a) (E b) (point p) <ℤ pos 0) ⊎ (((E a).low ≡ p) × ((E b).low ≡ p) × Turns E a b)
+Lies w E p a b =
+    (gap w (E a) (E b) (point p) <ℤ pos 0) ⊎ (((E a).low ≡ p) × ((E b).low ≡ p) × Turns E a b)
 
 -- the live list is in order at the latest event, and no edge of it starts later
 abbrev pub Ordered : ℤ → (ℕ → Edge) → List Step → Type 0
 Ordered w E [] = Unit {0}
-Ordered w E (s ∷ done) = Neighbours (Lies w E s.at) (after s) × ((e : ℕ) → Has e (after s) → sweep w (point (E e).low) ≤ℤ sweep w (point s.at))
+Ordered w E (s ∷ done) =
+    Neighbours (Lies w E s.at) (after s)
+    × ((e : ℕ) → Has e (after s) → sweep w (point (E e).low) ≤ℤ sweep w (point s.at))
 
 -- two edges by number are not bad
 abbrev pub FinePair : (ℕ → Edge) → ℕ → ℕ → Type 0
 FinePair E a b = Fine (E a) (E b)
 
--- all is well so far: the steps that are done are good, with the edges in order and no bad neighbours
-pub record Front (w : ℤ) (m : ℕ) (E : ℕ → Edge) (pts : List Point) (done : List Step) (coming : List Point) : Type 0 where
+-- all is well so far: the steps that are done are good, with the edges in order and no bad
+-- neighbours
+pub record Front (w : ℤ) (m : ℕ) (E : ℕ → Edge) (pts : List Point) (done : List Step)
+    (coming : List Point) : Type 0 where
   pub replayed : Replayed m E done
   pub is : trail done coming ≡ pts
   pub late : (e : ℕ) → Has e (live done) → Has (E e).high coming
@@ -45,7 +51,8 @@ pub record Front (w : ℤ) (m : ℕ) (E : ℕ → Edge) (pts : List Point) (done
 abbrev pub Clear : (ℕ → Edge) → List ℕ → Point → Type 0
 Clear E now p = (e : ℕ) → Has e now → OnStraight (E e) (point p) → (E e).high ≡ p
 
--- the step is made from the live list: cut where the sides at its point change, and with the edges that start there by slope.
+-- the step is made from the live list: cut where the sides at its point change, and with the edges
+-- that start there by slope.
 -- Only the edges beside a cut are asked for, so a binary search can give it
 pub record Made (m : ℕ) (E : ℕ → Edge) (now : List ℕ) (s : Step) : Type 0 where
   pub is : now ≡ before s
@@ -80,15 +87,17 @@ pub record BadAfter (m : ℕ) (E : ℕ → Edge) (now : List ℕ) (p : Point) : 
   pub made : Made m E now step
   pub pair : SomeNeighbours (λ a b. Bad (E a) (E b)) (after step)
 
--- A sweep is under way: for some weight of the points all is well so far. This is what a sweep keeps from event to event.
-pub record IsUnderWay (m : ℕ) (E : ℕ → Edge) (pts : List Point) (done : List Step) (coming : List Point) : Type 0 where
+-- A sweep is under way: for some weight of the points all is well so far. This is what a sweep
+-- keeps from event to event.
+pub record IsUnderWay (m : ℕ) (E : ℕ → Edge) (pts : List Point) (done : List Step)
+    (coming : List Point) : Type 0 where
   pub weight : ℤ
   pub heavy : Weight weight pts
   pub ends : IsEventList m E pts
   pub front : Front weight m E pts done coming
 
--- A sweep has come to a fault: it is under way up to some event, and that one is on a live edge that does not end there, or has
--- bad neighbours after it.
+-- A sweep has come to a fault: it is under way up to some event, and that one is on a live edge
+-- that does not end there, or has bad neighbours after it.
 pub record IsFaulty (m : ℕ) (E : ℕ → Edge) (pts : List Point) : Type 0 where
   pub done : List Step
   pub event : Point

@@ -1,4 +1,5 @@
--- A cap of a circle over a chord, in its own picture: the chord lies on the x axis from 0 to `chord`.
+-- A cap of a circle over a chord, in its own picture: the chord lies on the x axis from 0 to
+-- `chord`.
 use Rattle.std.specs.Prelude.{ℤ, pos, ◌+ℤ◌, ◌*ℤ◌, ◌-ℤ◌, ◌<ℤ◌, ◌≤ℤ◌}
 use Rattle.plane.specs.Forms.Vectors.{Vector}
 use Rattle.plane.specs.Forms.Arcs.{HalfArc, bend, chord, facing}

@@ -22,8 +22,10 @@ pub record IsFaced (m : ℕ) (lab : Labels) (t : ℕ) (hs : List Half) : Type 0 
   pub faces : (h : Half) → Has h hs → mark lab h ≡ t
   pub only : (h : Half) → edge_of h < m → mark lab h ≡ t → Has h hs
 
--- a tube of the drawing: from its first point over its bays, with the half-edges that face it from within, in the order of its bounds
-pub record IsDrawnTube (r : Replay) (lab : Labels) (t : ℕ) (a : Point) (k : Bay) (ks : List Bay) (hs : List Half) : Type 0 where
+-- a tube of the drawing: from its first point over its bays, with the half-edges that face it from
+-- within, in the order of its bounds
+pub record IsDrawnTube (r : Replay) (lab : Labels) (t : ℕ) (a : Point) (k : Bay) (ks : List Bay)
+    (hs : List Half) : Type 0 where
   pub tiled : IsTiled r.weight (tiles a (k ∷ ks))
   pub bounds : bounds a (k ∷ ks) ≡ map (way r.edge) hs
   pub faced : IsFaced r.edges lab t hs
@@ -37,7 +39,12 @@ tip b (c ∷ bs) = tip c bs
 abbrev pub IsTubeCorner : Replay → List Half → Point → Type 0
 IsTubeCorner r hs p = (h : Half) × Has h hs × IsEnd (r.edge (edge_of h)) p
 
--- at each event that is a corner of the tube, but for its first point and its tip, all edges are the tube's
-pub record IsClean (r : Replay) (a : Point) (b : Bay) (bs : List Bay) (hs : List Half) : Type 0 where
+-- at each event that is a corner of the tube, but for its first point and its tip, all edges are
+-- the tube's
+pub record IsClean (r : Replay) (a : Point) (b : Bay) (bs : List Bay)
+    (hs : List Half) : Type 0 where
   pub clean : (k : ℕ) → k < r.steps → IsTubeCorner r hs (r.step k).at
-      → ((r.step k).at ≡ a) ⊎ (((r.step k).at ≡ tip b bs) ⊎ ((e : ℕ) → e < r.edges → IsEnd (r.edge e) (r.step k).at → (h : Half) × Has h hs × (edge_of h ≡ e)))
+      → ((r.step k).at ≡ a)
+      ⊎ (((r.step k).at ≡ tip b bs)
+      ⊎ ((e : ℕ) → e < r.edges → IsEnd (r.edge e) (r.step k).at
+      → (h : Half) × Has h hs × (edge_of h ≡ e)))

@@ -1,12 +1,14 @@
 -- Arrows, how often they pass under a place, triangles, and the tube between two chains.
-use Rattle.std.specs.Prelude.{◌≡◌, ◌⊎◌, Bool, true, false, cond, List, [], ◌∷◌, ℤ, pos, negsuc, ◌+ℤ◌, ◌*ℤ◌, ◌-ℤ◌, ◌<ℤ◌, ◌≤ℤ◌}
+use Rattle.std.specs.Prelude.{◌≡◌, ◌⊎◌, Bool, true, false, cond, List, [], ◌∷◌, ℤ, pos, negsuc}
+use Rattle.std.specs.Prelude.{◌+ℤ◌, ◌*ℤ◌, ◌-ℤ◌, ◌<ℤ◌, ◌≤ℤ◌}
 use Rattle.plane.specs.declared.kinds.Point.{Point}
 use Rattle.plane.specs.Lists.{Each, Has}
 use Rattle.plane.specs.Forms.Vectors.{Vector, Same, Between, point, Edge, side, sweep}
 use Rattle.plane.specs.Faces.Cells.{is_positive}
 pub use Rattle.plane.specs.Tubes.Bays.{Bay}
 
--- the arrow from p to q: an edge whose ends may stand in either order. What is left of it has a side above 0
+-- the arrow from p to q: an edge whose ends may stand in either order. What is left of it has a
+-- side above 0
 abbrev pub arrow : Point → Point → Edge
 arrow p q = record { low = p; high = q }
 
@@ -75,20 +77,25 @@ pub record InTile (t : Tile) (z : Vector) : Type 0 where
 
 -- how often the triangle goes round z
 abbrev pub winding : ℤ → Vector → Tile → ℤ
-winding w z t = (turning w z (arrow t.a t.b) +ℤ turning w z (arrow t.b t.c)) +ℤ turning w z (arrow t.c t.a)
+winding w z t =
+    (turning w z (arrow t.a t.b) +ℤ turning w z (arrow t.b t.c)) +ℤ turning w z (arrow t.c t.a)
 
--- ---- a tube: from its first point on, in turn the next point of the outer chain and the next one of the inner chain
+-- ---- a tube: from its first point on, in turn the next point of the outer chain and the next one
+-- of the inner chain
 
 -- the triangles from the diagonal between the inner point p and the outer point u on
 abbrev pub strips : Point → Point → List Bay → List Tile
 strips p u [] = []
-strips p u (k ∷ ks) = record { a = u; b = p; c = k.outer } ∷ record { a = p; b = k.inner; c = k.outer } ∷ strips k.inner k.outer ks
+strips p u (k ∷ ks) =
+    record { a = u; b = p; c = k.outer } ∷ record { a = p; b = k.inner; c = k.outer }
+    ∷ strips k.inner k.outer ks
 
 abbrev pub tiles : Point → List Bay → List Tile
 tiles a [] = []
 tiles a (k ∷ ks) = record { a = a; b = k.inner; c = k.outer } ∷ strips k.inner k.outer ks
 
--- the arrows round it: the inner chain onward, the outer chain backward, and from the last inner point to the last outer one
+-- the arrows round it: the inner chain onward, the outer chain backward, and from the last inner
+-- point to the last outer one
 abbrev pub fence : Point → Point → List Bay → List Edge
 fence p u [] = arrow p u ∷ []
 fence p u (k ∷ ks) = arrow p k.inner ∷ arrow k.outer u ∷ fence k.inner k.outer ks
