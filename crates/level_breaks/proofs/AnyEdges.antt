@@ -1,12 +1,12 @@
 -- How two edges meet is decided, also where an edge is one point.
-use Rattle.std.proofs.Common.{◌≡◌, ◌⊎◌, inl, inr, Bool, true, false, cond, ℤ, pos, ◌≤ℤ◌, ◌<ℤ◌, refl, arith, ap, sym, ◌∙◌, subst}
+use Rattle.std.proofs.Common.{◌≡◌, ◌⊎◌, inl, inr, Bool, true, false, cond, pos, ◌≤ℤ◌, ◌<ℤ◌, refl, arith, sym, ◌∙◌, subst}
 use Rattle.std.proofs.lemmas.Int.{ints, by_lt_z}
-use Rattle.plane.specs.Forms.Meets.{Bad, CommonEnd, Disjoint, Fine, IsEnd, OnStraight, Touch}
+use Rattle.plane.specs.Forms.Meets.{Bad, Disjoint, Fine, IsEnd, OnStraight, Touch}
 use Rattle.plane.specs.Forms.Vectors.{Before, Place, Same, Vector, point}
 use Rattle.plane.specs.Rule.Straights.{IsOnStraight, dot, turn}
 use Rattle.plane.specs.declared.kinds.Edge.{Edge}
 use Rattle.plane.specs.declared.kinds.Point.{Point}
-use Rattle.plane.proofs.Covers.SamePlace.{first_on, last_on, on_straight_same, same_refl, same_sym, segment_same}
+use Rattle.plane.proofs.Covers.SamePlace.{first_on, on_straight_same, same_refl, same_sym, segment_same}
 use Rattle.plane.proofs.Linear.EdgePlaces.{place_point}
 use Rattle.plane.proofs.Windings.Enters.{Decided, decide_point, decide_z}
 use Rattle.tubes.specs.DrawnEdges.{comes_first, edge_from}

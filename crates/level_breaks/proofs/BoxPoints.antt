@@ -1,14 +1,13 @@
 -- Boxes that grow, and what they hold.
-use Rattle.std.proofs.Common.{◌≡◌, ◌↔◌, ◌⊎◌, inl, inr, ℕ, List, [], ◌∷◌, ◌++◌, IsTrue, Bool, true, false, ℤ, pos, ◌*ℤ◌, ◌≤ℤ◌, refl, arith, ap, sym, subst}
+use Rattle.std.proofs.Common.{◌≡◌, List, [], ◌∷◌, ◌++◌, ℤ, pos, ◌*ℤ◌, ◌≤ℤ◌, arith}
 use Rattle.std.proofs.lemmas.Int.{ints}
 use Rattle.plane.specs.Forms.Boxes.{Box, InBox}
 use Rattle.plane.specs.Forms.Meets.{Bad}
-use Rattle.plane.specs.Forms.Vectors.{Place, Same, Vector, point}
-use Rattle.plane.specs.Lists.{Each}
+use Rattle.plane.specs.Forms.Vectors.{Place, Vector, point}
 use Rattle.plane.specs.Rule.Straights.{IsOnStraight}
 use Rattle.plane.specs.declared.kinds.Edge.{Edge}
 use Rattle.plane.specs.declared.kinds.Point.{Point}
-use Rattle.near_pairs.specs.Boxes.{ShareAPlace, box_of}
+use Rattle.near_pairs.specs.Boxes.{ShareAPlace}
 use Rattle.level_breaks.specs.Groups.{Covers, HoldsAll}
 
 -- ---- points
@@ -59,13 +58,6 @@ all_covered b a (p ∷ ps) k h = (covered b a p k h.0, all_covered b a ps k h.1)
 pub all_of_both : (b : Box) (ps qs : List Point) → HoldsAll b ps → HoldsAll b qs → HoldsAll b (ps ++ qs)
 all_of_both b [] qs h k = k
 all_of_both b (p ∷ ps) qs h k = (h.0, all_of_both b ps qs h.1 k)
-
--- ---- points in boxes
-pub in_box_is : (b : Box) (p : Point) → (((b.low.x ≤ℤ p.x) × (p.x ≤ℤ b.high.x)) × ((b.low.y ≤ℤ p.y) × (p.y ≤ℤ b.high.y))) ↔ InBox b (point p)
-in_box_is b p = (
-  (λ h. in_between b.low b.high p h.0.0 h.1.0 h.0.1 h.1.1),
-  (λ h. let l = h.left in let r = h.right in let u = h.under in let o = h.over in ((omega (arith, ints, l), omega (arith, ints, r)), (omega (arith, ints, u), omega (arith, ints, o)))),
-)
 
 -- ---- edges that share a place
 module _ (law : (b : Box) (z : Vector) (p q : Point) → Place z → InBox b (point p) → InBox b (point q) → IsOnStraight (point p) (point q) z → InBox b z) where

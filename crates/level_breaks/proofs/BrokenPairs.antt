@@ -1,14 +1,13 @@
 -- Of two curves that break a level one is a half arc, and their boxes share a place.
-use Rattle.std.proofs.Common.{◌≡◌, ◌⊎◌, inl, inr, ℕ, ◌<◌, ◌≤◌, Bool, true, Option, Some, None, List, [], ◌∷◌, ◌++◌, length, refl, arith, ap, sym, ◌∙◌, subst}
+use Rattle.std.proofs.Common.{◌≡◌, ◌⊎◌, inl, inr, ℕ, ◌<◌, ◌≤◌, Bool, true, Option, Some, None, List, [], ◌∷◌, length, refl, arith, sym, ◌∙◌, subst}
 use Rattle.plane.specs.CurveRuns.TubedRuns as runs
 use Rattle.plane.specs.Forms.Boxes.{Box, InBox}
 use Rattle.plane.specs.Forms.Meets.{Bad}
 use Rattle.plane.specs.Forms.Segments.{IsEdgeOf}
 use Rattle.plane.specs.Forms.Vectors.{Place, Vector, point}
 use Rattle.plane.specs.Lists.{Each, Has}
-use Rattle.plane.specs.Rule.BadPairs.{AreBad, HaveSameEnds, IsBadPair, IsEndOf, StraightsMeet, straights_meet}
-use Rattle.plane.specs.Rule.Curves.{arc}
-use Rattle.plane.specs.Rule.Plans.{IsHalfArc, IsStraight, Plan, curve}
+use Rattle.plane.specs.Rule.BadPairs.{AreBad, HaveSameEnds, IsBadPair, StraightsMeet, straights_meet}
+use Rattle.plane.specs.Rule.Plans.{IsHalfArc, Plan, curve}
 use Rattle.plane.specs.Rule.Straights.{IsOnStraight}
 use Rattle.plane.specs.Tubes.Bays.{Bay, InTube}
 use Rattle.plane.specs.declared.kinds.Curve.{Curve}
@@ -21,7 +20,7 @@ use Rattle.straight_predicates.proofs.Orders.{by_lt}
 use Rattle.near_pairs.specs.Boxes.{AreNear, ShareAPlace, box_of, mark_of, reach_of}
 use Rattle.near_pairs.specs.declared.reaches.Reach.{Reach}
 use Rattle.tubes.specs.DrawnEdges.{AreStraights}
-use Rattle.tubes.specs.Settled.{AreTubesAt, Breaks, BreaksOneWay, EdgesMeet, EndsAt, EntersTube, HasGroup, LiesUnderChord, SharesCorner, corners, edges, group, missing}
+use Rattle.tubes.specs.Settled.{AreTubesAt, Breaks, BreaksOneWay, EdgesMeet, EndsAt, EntersTube, corners, edges, group, missing}
 use Rattle.tubes.specs.TubedEdges.{drawn_bays, edge_as}
 use Rattle.tubes.specs.declared.kinds.Tube.{Tube}
 use Rattle.level_breaks.specs.Groups as groups

@@ -1,5 +1,5 @@
 -- What tests say, one after the other and in a loop, and of a product by its signs.
-use Rattle.std.proofs.Common.{◌≡◌, ◌↔◌, ℕ, ◌∷◌, ◌+◌, ◌<◌, ◌≤◌, Bool, true, false, IsTrue, ℤ, pos, ◌*ℤ◌, ◌-ℤ◌, ◌<ℤ◌, ◌≤ℤ◌, refl, arith, ap, sym, ◌∙◌, subst, []}
+use Rattle.std.proofs.Common.{◌≡◌, ◌↔◌, ◌⊎◌, inl, inr, ℕ, ◌∷◌, ◌+◌, ◌<◌, ◌≤◌, Bool, true, false, IsTrue, ℤ, pos, ◌*ℤ◌, ◌-ℤ◌, ◌<ℤ◌, ◌≤ℤ◌, refl, arith, ap, sym, ◌∙◌, subst, []}
 use Rattle.std.proofs.lemmas.Int.{ints, by_lt_z}
 use Rattle.plane.specs.Forms.Vectors.{point}
 use Rattle.plane.specs.Rule.Curves.{arc}
@@ -24,6 +24,19 @@ both_of A B N b h a n = ((λ t. n.0 (a, h.0 t)), (λ k. h.1 (n.1 k).1))
 
 pub none_of : (A B N : Type 0) (b : Bool) → (IsTrue b ↔ A) → b ≡ false → ((A × B) ↔ N) → IsTrue b ↔ N
 none_of A B N b h e n = ((λ t. clash (sym e ∙ t)), (λ k. h.1 (n.1 k).0))
+
+-- one of two
+pub either_first : (A B N : Type 0) (a : Bool) → (IsTrue a ↔ A) → a ≡ true → ((A ⊎ B) ↔ N) → IsTrue a ↔ N
+either_first A B N a h e n = ((λ t. n.0 (inl (h.0 t))), (λ k. e))
+
+pub either_second : (A B N : Type 0) (a b : Bool) → (IsTrue a ↔ A) → a ≡ false → (IsTrue b ↔ B) → ((A ⊎ B) ↔ N) → IsTrue b ↔ N
+either_second A B N a b h e k n = (
+  (λ t. n.0 (inr (k.0 t))),
+  (λ x. elim (n.1 x) [ inl y ↦ absurd (refuted A a h e y) | inr y ↦ k.1 y ]),
+)
+
+pub itself : (A : Type 0) → A ↔ A
+itself A = ((λ a. a), (λ a. a))
 
 -- ---- in a loop
 pub none_more : (P : ℕ → Type 0) (n : ℕ) → ((k : ℕ) → k < n → P k → ⊥) → (P n → ⊥) → (k : ℕ) → k < n + 1 → P k → ⊥

@@ -1,6 +1,6 @@
 -- The first two curves that break a level, and what a test of two curves of a drawing says.
-use Rattle.std.proofs.Common.{◌≡◌, ◌↔◌, ◌⊎◌, inl, inr, ℕ, ◌<◌, ◌≤◌, Bool, true, false, IsTrue, Option, Some, None, Result, Ok, Err, List, length, refl, arith, ap, sym, ◌∙◌, subst, All}
-use Rattle.std.specs.Prelude.{IfOk, IfSome}
+use Rattle.std.proofs.Common.{◌≡◌, ◌↔◌, ◌⊎◌, inl, inr, ℕ, ◌<◌, ◌≤◌, Bool, false, IsTrue, Option, Some, None, List, length, refl, arith, sym, ◌∙◌, subst, All}
+use Rattle.std.specs.Prelude.{IfSome}
 use Rattle.plane.specs.CurveRuns.TubedRuns as runs
 use Rattle.plane.specs.Forms.Meets.{Bad, Disjoint, IsEnd, Touch}
 use Rattle.plane.specs.Forms.Vectors.{point}
@@ -19,9 +19,9 @@ use Rattle.near_pairs.specs.Boxes.{box_of, reach_of}
 use Rattle.near_pairs.specs.LeastPairs.{IsLeastPair, IsLess}
 use Rattle.near_pairs.specs.declared.pairs.NearPair.{NearPair}
 use Rattle.near_pairs.specs.declared.reaches.Reach.{Reach}
-use Rattle.tubes.specs.DrawnEdges.{edge_from, nth_curve}
+use Rattle.tubes.specs.DrawnEdges.{edge_from}
 use Rattle.tubes.specs.HalfArcTubes.{HasNoTube}
-use Rattle.tubes.specs.Settled.{AreTubesAt, Breaks, HasGroup, HaveTubes, IsFirstBreak, IsSettledAt, IsTubeFor, corners, edges, missing, owned_at}
+use Rattle.tubes.specs.Settled.{AreTubesAt, Breaks, HaveTubes, IsFirstBreak, IsSettledAt, IsTubeFor, corners, edges, missing, owned_at}
 use Rattle.tubes.specs.TubedEdges.{HasTube, drawn_bays}
 use Rattle.tubes.specs.declared.kinds.Tube.{Tube}
 use Rattle.level_breaks.specs.GroupBreaks.{AreBroken, HasEdges}
@@ -30,7 +30,7 @@ use Rattle.level_breaks.specs.Groups.{AreGroups, HoldsAll, IsGroup, IsTubed}
 use Rattle.level_breaks.specs.LevelLists.{AreBoxesTo, IsBare, IsFirstBare, IsLesser, tube_of}
 use Rattle.level_breaks.specs.declared.groups.Group.{Group}
 use Rattle.level_breaks.specs.declared.pairs.LevelBreak.{LevelBreak}
-use Rattle.level_breaks.proofs.Choices.{clash, refuted}
+use Rattle.level_breaks.proofs.Choices.{clash}
 use Rattle.level_breaks.proofs.ShortForm.{broken_is, group_has_edges, groups_of, tubed_of}
 use Rattle.level_breaks.proofs.Unbroken.{settled}
 

@@ -6,14 +6,11 @@ use Rattle.plane.specs.Forms.Meets.{IsEnd}
 use Rattle.plane.specs.Forms.Vectors.{Before}
 use Rattle.plane.specs.Lists.{Has, Last}
 use Rattle.plane.specs.Rule.Curves.{arc}
-use Rattle.plane.specs.Rule.HalfArcs.{HalfArc}
 use Rattle.plane.specs.Rule.Windows.{IsDrawn}
 use Rattle.plane.specs.declared.kinds.Curve.{Curve}
 use Rattle.plane.specs.declared.kinds.CurveKind.{CurveKind}
-use Rattle.plane.specs.declared.kinds.CurveKind.TheVariants as kind
 use Rattle.plane.specs.declared.kinds.Edge.{Edge}
 use Rattle.plane.specs.declared.kinds.Point.{Point}
-use Rattle.straight_predicates.proofs.Orders.{by_lt}
 use Rattle.straight_predicates.specs.EdgeLists.{HasEnds, edge_of, no_edge}
 use Rattle.tubes.specs.DrawnEdges.{comes_first, edge_from}
 use Rattle.tubes.specs.Making.{IsMade}
@@ -23,7 +20,7 @@ use Rattle.tubes.proofs.ChainEdges.{chains_distinct, edges_are, owned_are}
 use Rattle.tubes.proofs.EdgeLemmas.{one_edge}
 use Rattle.tubes.proofs.Rounds.{few_points}
 use Rattle.tubes.proofs.TubePoints.{inner_are, outer_size, power_positive}
-use Rattle.level_breaks.specs.Groups.{HasChains, IsEdged, IsGroup, IsTubed, chain_through, corners, edges_with, nth}
+use Rattle.level_breaks.specs.Groups.{HasChains, IsEdged, IsTubed, chain_through, corners, edges_with, nth}
 
 -- ---- lists
 pub map_app : {X Y : Type 0} (f : X → Y) (xs ys : List X) → map f (xs ++ ys) ≡ map f xs ++ map f ys

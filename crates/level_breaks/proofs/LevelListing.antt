@@ -1,24 +1,22 @@
 -- The lists of tubes, boxes and marks as they grow.
-use Rattle.std.proofs.Common.{◌≡◌, ◌⊎◌, inl, inr, ℕ, suc, ◌+◌, ◌<◌, ◌≤◌, Bool, true, false, IsTrue, ◌↔◌, Option, Some, None, List, [], ◌∷◌, ◌++◌, length, get_or, arith, refl, ap, sym, ◌∙◌, subst}
+use Rattle.std.proofs.Common.{◌≡◌, ℕ, suc, ◌+◌, ◌<◌, ◌≤◌, Bool, true, false, IsTrue, ◌↔◌, Option, Some, None, List, [], ◌∷◌, ◌++◌, length, get_or, arith, ap, sym, ◌∙◌, subst}
 use Rattle.std.proofs.lemmas.List.{length-append, get_or_append_left}
 use Rattle.std.proofs.Math.Seq.{get_or-append_seam}
 use Rattle.plane.specs.Forms.Boxes.{Box, InBox}
 use Rattle.plane.specs.Forms.Vectors.{point}
-use Rattle.plane.specs.Rule.Curves.{arc}
-use Rattle.plane.specs.Rule.Plans.{Plan, curve}
+use Rattle.plane.specs.Rule.Plans.{Plan}
 use Rattle.plane.specs.declared.kinds.Curve.{Curve}
-use Rattle.plane.specs.declared.kinds.CurveKind.{CurveKind}
 use Rattle.plane.specs.declared.kinds.CurveKind.TheVariants as kind
 use Rattle.plane.specs.declared.kinds.Point.{Point}
 use Rattle.straight_predicates.proofs.Orders.{by_lt}
-use Rattle.near_pairs.specs.Boxes.{box_of, mark_of, no_reach, reach_of}
+use Rattle.near_pairs.specs.Boxes.{box_of, no_reach}
 use Rattle.near_pairs.specs.declared.reaches.Reach.{Reach}
 use Rattle.tubes.specs.DrawnEdges.{nth_curve}
 use Rattle.tubes.specs.Settled.{AreTubesAt, IsTubeFor}
 use Rattle.tubes.specs.declared.kinds.Tube.{Tube}
 use Rattle.level_breaks.specs.Groups.{Covers, HoldsAll, corners, nth}
-use Rattle.level_breaks.specs.LevelLists.{AreBoxesTo, AreMarksTo, AreTubesTo, IsBare, tube_of}
-use Rattle.level_breaks.proofs.BoxPoints.{all_covered, all_of_both, covered, covers_through}
+use Rattle.level_breaks.specs.LevelLists.{AreBoxesTo, AreMarksTo, AreTubesTo, tube_of}
+use Rattle.level_breaks.proofs.BoxPoints.{all_covered, all_of_both, covered}
 
 last : (i k : ℕ) → i < k + 1 → k ≤ i → i ≡ k
 last i k l m = omega (arith, l, m)

@@ -7,6 +7,9 @@ pub mod AnyEdges
 pub mod Unbroken
 pub mod ShortForm
 pub mod PlacedGroups
+pub mod StretchParts
+pub mod PartEdges
+pub mod PartClashes
 pub mod LevelListing
 pub mod BrokenPairs
 pub mod FirstBreaks

@@ -1,14 +1,12 @@
 -- The edges of a drawing at a level by number, and those of each of its curves.
-use Rattle.std.proofs.Common.{◌≡◌, ◌⊎◌, inl, inr, ℕ, zero, suc, ◌+◌, ◌<◌, ◌≤◌, Bool, true, false, cond, List, [], ◌∷◌, ◌++◌, length, get_or, map, refl, arith, ap, sym, ◌∙◌, subst}
+use Rattle.std.proofs.Common.{◌≡◌, inl, inr, ℕ, zero, suc, ◌+◌, ◌<◌, Bool, true, false, cond, List, [], ◌∷◌, ◌++◌, length, get_or, map, refl, arith, ap, sym, ◌∙◌, subst}
 use Rattle.std.proofs.lemmas.List.{length-map}
 use Rattle.plane.specs.CurveRuns.TubedRuns as runs
 use Rattle.plane.specs.Lists.{Has}
-use Rattle.plane.specs.Rule.Plans.{IsHalfArc, IsStraight, Plan, curve}
+use Rattle.plane.specs.Rule.Plans.{Plan, curve}
 use Rattle.plane.specs.Tubes.Bays.{Bay}
-use Rattle.plane.specs.declared.kinds.Curve.{Curve}
 use Rattle.plane.specs.declared.kinds.CurveKind.{CurveKind}
 use Rattle.plane.specs.declared.kinds.CurveKind.TheVariants as kind
-use Rattle.plane.specs.declared.kinds.Edge.{Edge}
 use Rattle.plane.specs.declared.kinds.Point.{Point}
 use Rattle.plane.proofs.TubedRuns.ArcEdges.{edge_curve}
 use Rattle.plane.proofs.TubedRuns.EdgeNumbers.{from_at, group_at, group_fits, group_of}

@@ -1,32 +1,32 @@
 -- Two curves with their tubes in one window: their corners are close, and their edges can be tested.
-use Rattle.std.proofs.Common.{rules, ◌≡◌, ◌⊎◌, inl, inr, ℕ, ◌+◌, ◌-◌, ◌<◌, ◌≤◌, Option, Some, None, List, [], ◌∷◌, ◌++◌, length, get_or, map, refl, arith, ap, sym, ◌∙◌, subst}
-use Rattle.std.proofs.lemmas.List.{get_or_append_left, get_or-append-add, length-append}
+use Rattle.std.proofs.Common.{◌≡◌, inr, ℕ, suc, ◌<◌, Option, Some, None, List, [], ◌∷◌, ◌++◌, length, arith, ap, sym, ◌∙◌, subst}
+use Rattle.std.proofs.lemmas.List.{length-append}
 use Rattle.plane.specs.CurveRuns.TubedRuns as runs
-use Rattle.plane.specs.Forms.Boxes.{Box, InBox}
+use Rattle.plane.specs.Forms.Boxes.{Box}
 use Rattle.plane.specs.Forms.Meets.{IsEnd}
-use Rattle.plane.specs.Forms.Vectors.{Before, Place, Vector, point}
 use Rattle.plane.specs.Lists.{Each, Has}
 use Rattle.plane.specs.Rule.Curves.{arc}
 use Rattle.plane.specs.Rule.Windows.{IsDrawn, IsNarrow}
-use Rattle.plane.specs.Tubes.Bays.{Bay, InTube}
 use Rattle.plane.specs.declared.kinds.Curve.{Curve}
 use Rattle.plane.specs.declared.kinds.CurveKind.TheVariants as kind
 use Rattle.plane.specs.declared.kinds.Edge.{Edge}
 use Rattle.plane.specs.declared.kinds.Point.{Point}
-use Rattle.straight_predicates.proofs.Orders.{by_lt}
 use Rattle.straight_predicates.proofs.WindowEdges.{inside_close}
 use Rattle.straight_predicates.specs.EdgeLists.{edge_of, no_edge, no_point}
 use Rattle.straight_predicates.specs.Meetings.{AreClose, EdgesAreClose}
 use Rattle.near_pairs.specs.Boxes.{box_of}
-use Rattle.tubes.specs.Holding.{InTubeOf, IsSomeTube}
 use Rattle.tubes.specs.TubedEdges.{HasTube, bays_at, edge_as}
 use Rattle.tubes.specs.declared.kinds.Tube.{Tube}
-use Rattle.tubes.proofs.UsableEdges.{IsAbout, IsGood, IsGoodOwned, about_close, about_each, each_map, edge_at, good_curve, inside_about}
-use Rattle.level_breaks.specs.GroupBreaks.{AreJudged, IsBeside, IsChordJudged, IsJudged}
-use Rattle.level_breaks.specs.Groups.{AreGroups, HoldsAll, IsEdged, IsGroup, IsTubed, corners, edges_with, nth}
+use Rattle.tubes.proofs.UsableEdges.{IsAbout, IsGood, about_close, about_each, each_map, edge_at, good_curve, inside_about}
+use Rattle.level_breaks.specs.GroupBreaks.{IsChordJudged}
+use Rattle.level_breaks.specs.Parts.{AreTurnableAt, HoldsPart, HoldsTubePart, IsBeside}
+use Rattle.level_breaks.specs.Stretches.{IsPlaced, IsStretch}
+use Rattle.level_breaks.specs.declared.halves.Stretch.{Stretch}
+use Rattle.level_breaks.specs.Groups.{AreGroups, HoldsAll, HoldsPoint, IsEdged, IsTubed, bays_of, corners, edges_with, nth}
 use Rattle.level_breaks.specs.declared.groups.Group.{Group}
-use Rattle.level_breaks.proofs.GroupEdges.{at_has, edged_with, edges_map, ends_are, has_left, has_right}
-use Rattle.level_breaks.proofs.TubePlaces.{each_has, tube_in_box}
+use Rattle.level_breaks.proofs.GroupEdges.{at_has, edged_with, edges_map, ends_are, has_left, to_is_inner}
+use Rattle.tubes.proofs.TubeTriangles.{made_turnable}
+use Rattle.level_breaks.proofs.TubePlaces.{each_has}
 
 two_kinds : {P : Type 0} → kind.Straight ≡ kind.HalfArc → P
 two_kinds e = cc
@@ -92,7 +92,7 @@ first_edged g h a = edged_with a.low a.high a.level g.curve.now g.tube.now a.few
 pub second_edged : (g h : Group) → AreGroups g h → IsEdged h.curve.now h.tube.now
 second_edged g h a = edged_with a.low a.high a.level h.curve.now h.tube.now a.few a.second.drawn a.second.tubed
 
-pub beside : (g h : Group) (k : ℕ) → AreGroups g h → k < length (edges_with g.curve.now g.tube.now) → IsBeside (edge_of (edges_with g.curve.now g.tube.now) k) (edges_with h.curve.now h.tube.now) (box_of h.reach)
+pub beside : (g h : Group) (k : ℕ) → AreGroups g h → k < length (edges_with g.curve.now g.tube.now) → IsBeside (edge_of (edges_with g.curve.now g.tube.now) k) (edges_with h.curve.now h.tube.now)
 beside g h k a l =
     let mine = good_edges a.low a.high a.level g.curve.now g.tube.now a.first.drawn a.first.tubed k l in
     let other = good_edges a.low a.high a.level h.curve.now h.tube.now a.second.drawn a.second.tubed in
@@ -100,26 +100,49 @@ beside g h k a l =
       sorted = mine.sorted;
       rising = λ m lm. (other m lm).sorted;
       close = λ m lm. good_close a.low a.high (edge_of (edges_with g.curve.now g.tube.now) k) (edge_of es m) a.narrow mine (other m lm);
-      holds_low = λ m lm. each_has (λ p. InBox (box_of h.reach) (point p)) (corners h.curve.now h.tube.now) (edge_of es m).low a.second.holds (end_has a.low a.high a.level h.curve.now h.tube.now m (edge_of es m).low a.second.tubed lm (inl refl));
-      holds_high = λ m lm. each_has (λ p. InBox (box_of h.reach) (point p)) (corners h.curve.now h.tube.now) (edge_of es m).high a.second.holds (end_has a.low a.high a.level h.curve.now h.tube.now m (edge_of es m).high a.second.tubed lm (inr refl));
     }
 
-module _ (law : (b : Box) (z : Vector) (v : Point) (bs : List Bay) → Place z → InBox b (point v) → Each (λ k. InBox b (point k.outer) × InBox b (point k.inner)) bs → InTube v bs z → InBox b z) where
-  pub judged : (g h : Group) (t : Tube) → AreGroups g h → g.tube.now ≡ Some t → AreJudged t (box_of g.reach) (corners h.curve.now h.tube.now)
-  judged g h t a e k l =
-      let p = nth (corners h.curve.now h.tube.now) k in
-      let about = each_nth (IsAbout a.low a.high) (corners h.curve.now h.tube.now) k (about_corners a.low a.high a.level h.curve.now h.tube.now a.second.drawn a.second.tubed) l in
-      let tubed = subst (IsTubed a.level g.curve.now) e a.first.tubed in
-      let mine = about_corners a.low a.high a.level g.curve.now (Some t) a.first.drawn tubed in
-      let close = each_mapped (IsAbout a.low a.high) (λ q. AreClose q p) (corners g.curve.now (Some t)) (λ q b. about_close a.low a.high q p a.narrow b about) mine in record {
-        made = (arc g.curve.now, a.level, tubed.1);
-        inner = each_front (λ q. AreClose q p) t.inner.items t.outer.items close;
-        outer = each_back (λ q. AreClose q p) t.inner.items t.outer.items close;
-        holds = λ z. tube_in_box a.level g.curve.now t tubed.1 law (box_of g.reach) (point p) (place_of p) (subst (λ u. HoldsAll (box_of g.reach) (corners g.curve.now u)) e a.first.holds) z;
-      }
-    where
-      place_of : (p : Point) → Place (point p)
-      place_of p = search rules
+pub turnable_at : (g h : Group) (t : Tube) → AreGroups g h → h.tube.now ≡ Some t → AreTurnableAt t (edges_with g.curve.now g.tube.now)
+turnable_at g h t a e k l p end =
+    let has = end_has a.low a.high a.level g.curve.now g.tube.now k p a.first.tubed l end in
+    let about = each_has (IsAbout a.low a.high) (corners g.curve.now g.tube.now) p (about_corners a.low a.high a.level g.curve.now g.tube.now a.first.drawn a.first.tubed) has in
+    let tubed = subst (IsTubed a.level h.curve.now) e a.second.tubed in
+    let mine = about_corners a.low a.high a.level h.curve.now (Some t) a.second.drawn tubed in
+    let close = each_mapped (IsAbout a.low a.high) (λ q. AreClose q p) (corners h.curve.now (Some t)) (λ q b. about_close a.low a.high q p a.narrow b about) mine in
+    made_turnable t p (arc h.curve.now, a.level, tubed.1) (each_front (λ q. AreClose q p) t.inner.items t.outer.items close) (each_back (λ q. AreClose q p) t.inner.items t.outer.items close)
+
+-- all parts are in the curve's box
+tube_parts_held : (b : Box) (c : Curve) (t : Tube) → IsEdged c (Some t) → HoldsAll b (corners c (Some t)) → Has c.to t.inner.items → (i : ℕ) → i < suc (length t.outer.items) → HoldsTubePart c t b i
+tube_parts_held b c t h all to i l =
+    let n = ap length h.inner in
+    let z = h.sizes in
+    let inner : (k : ℕ) → k < length t.inner.items → HoldsPoint b (nth t.inner.items k) = λ k m. held (nth t.inner.items k) (has_left (nth t.inner.items k) t.inner.items t.outer.items (at_has no_point t.inner.items k m)) in
+    let from : HoldsPoint b c.from = subst (λ (ps : List Point). HoldsPoint b (nth ps 0)) h.inner (inner 0 (omega (arith, n))) in record {
+      inner = inner i (omega (arith, n, z, l));
+      next = λ m. inner (suc i) (omega (arith, n, z, m));
+      start = each_nth (HoldsPoint b) (c.from ∷ t.outer.items) i (from, each_back (HoldsPoint b) t.inner.items t.outer.items all) l;
+      end = each_nth (HoldsPoint b) (t.outer.items ++ c.to ∷ []) i (each_joined (HoldsPoint b) t.outer.items (c.to ∷ []) (each_back (HoldsPoint b) t.inner.items t.outer.items all) (held c.to (has_left c.to t.inner.items t.outer.items to), tt)) (let m = length-append t.outer.items (c.to ∷ []) in omega (arith, m, l));
+    }
+  where
+    held : (p : Point) → Has p (corners c (Some t)) → HoldsPoint b p
+    held p h = each_has (HoldsPoint b) (corners c (Some t)) p all h
+
+pub parts_held : (level : ℕ) (b : Box) (c : Curve) (t : Option Tube) → IsTubed level c t → IsEdged c t → HoldsAll b (corners c t) → IsPlaced (HoldsPart c t b) 0 (suc (bays_of t))
+parts_held level b c None k h all i f l = (all.0, all.1.0)
+parts_held level b c (Some t) (k, m) h all i f l = tube_parts_held b c t h all (subst (Has c.to) (sym m.inner) (inr (to_is_inner level c t m))) i l
+
+whole_is : (b : Box) (c : Curve) (t : Option Tube) (s : Stretch) → IsPlaced (HoldsPart c t b) 0 (suc (bays_of t)) → s.from ≡ 0 → s.to ≡ suc (bays_of t) → box_of s.reach ≡ b → IsStretch (HoldsPart c t) (suc (bays_of t)) s
+whole_is b c t s p f g e = record {
+  order = omega (arith, f);
+  there = omega (arith, g);
+  placed = λ i l m. subst (λ (x : Box). HoldsPart c t x i) (sym e) (p i (omega (arith, l)) (omega (arith, m, g)));
+}
+
+pub whole_first : (g h : Group) (s : Stretch) → AreGroups g h → s.from ≡ 0 → s.to ≡ suc (bays_of g.tube.now) → s.reach ≡ g.reach → IsStretch (HoldsPart g.curve.now g.tube.now) (suc (bays_of g.tube.now)) s
+whole_first g h s a f to e = whole_is (box_of g.reach) g.curve.now g.tube.now s (parts_held a.level (box_of g.reach) g.curve.now g.tube.now a.first.tubed (first_edged g h a) a.first.holds) f to (ap box_of e)
+
+pub whole_second : (g h : Group) (s : Stretch) → AreGroups g h → s.from ≡ 0 → s.to ≡ suc (bays_of h.tube.now) → s.reach ≡ h.reach → IsStretch (HoldsPart h.curve.now h.tube.now) (suc (bays_of h.tube.now)) s
+whole_second g h s a f to e = whole_first h g s (groups_back g h a) f to e
 
 pub chord_judged : (g h : Group) (t : Tube) → AreGroups g h → h.tube.now ≡ Some t → IsChordJudged h.curve.now t.inner.items
 chord_judged g h t a e =
@@ -131,33 +154,3 @@ chord_judged g h t a e =
       third = inside_close a.low a.high c.from c.third a.narrow d.from d.third;
       points = λ k l. about_close a.low a.high c.from (nth t.inner.items k) a.narrow (inside_about a.low a.high c.from d.from) (each_nth (IsAbout a.low a.high) t.inner.items k about l);
     }
-
--- ---- points by number
-abbrev pub SomeAt : (Point → Type 0) → List Point → Type 0
-SomeAt P ps = (k : ℕ) × (k < length ps) × P (nth ps k)
-
-abbrev pub AllAt : (Point → Type 0) → List Point → Type 0
-AllAt P ps = (k : ℕ) → k < length ps → P (nth ps k)
-
-module _ (P : Point → Type 0) (xs ys : List Point) where
-  left_at : (k : ℕ) → k < length xs → nth (xs ++ ys) k ≡ nth xs k
-  left_at k l = get_or_append_left xs ys no_point k l
-
-  right_at : (k : ℕ) → nth (xs ++ ys) (length xs + k) ≡ nth ys k
-  right_at k = get_or-append-add xs ys k no_point
-
-  pub all_left : AllAt P (xs ++ ys) → AllAt P xs
-  all_left h k l = subst P (left_at k l) (h k (let n = length-append xs ys in omega (arith, l, n)))
-
-  pub all_right : AllAt P (xs ++ ys) → AllAt P ys
-  all_right h k l = subst P (right_at k) (h (length xs + k) (let n = length-append xs ys in omega (arith, l, n)))
-
-  pub some_left : SomeAt P xs → SomeAt P (xs ++ ys)
-  some_left (k, l, h) = (k, let n = length-append xs ys in omega (arith, l, n), subst P (sym (left_at k l)) h)
-
-  pub some_right : SomeAt P ys → SomeAt P (xs ++ ys)
-  some_right (k, l, h) = (length xs + k, let n = length-append xs ys in omega (arith, l, n), subst P (sym (right_at k)) h)
-
-  pub some_either : SomeAt P (xs ++ ys) → SomeAt P xs ⊎ SomeAt P ys
-  some_either (k, l, h) = by_lt k (length xs) (λ (m : k < length xs). inl (k, m, subst P (left_at k m) h))
-      (λ (m : length xs ≤ k). inr (k - length xs, let n = length-append xs ys in omega (arith, l, m, n), subst P (ap (λ (n : ℕ). nth (xs ++ ys) n) (omega (arith, m)) ∙ right_at (k - length xs)) h))

@@ -1,13 +1,13 @@
 -- What a program tests of two curves is that they break the level.
-use Rattle.std.proofs.Common.{◌≡◌, ◌↔◌, ◌⊎◌, inl, inr, ℕ, ◌+◌, ◌<◌, ◌≤◌, Option, Some, None, List, [], ◌∷◌, ◌++◌, length, get_or, map, refl, arith, ap, sym, ◌∙◌, subst, pos, ◌≤ℤ◌}
+use Rattle.std.proofs.Common.{◌≡◌, ◌↔◌, ◌⊎◌, inl, inr, ℕ, ◌<◌, Option, Some, None, List, [], ◌∷◌, length, map, refl, arith, ap, sym, ◌∙◌, subst, pos, ◌≤ℤ◌}
 use Rattle.plane.specs.CurveRuns.TubedRuns as runs
 use Rattle.plane.specs.Forms.Meets.{Bad, IsEnd}
 use Rattle.plane.specs.Forms.Vectors.{point}
 use Rattle.plane.specs.Lists.{Has}
-use Rattle.plane.specs.Rule.BadPairs.{HaveSameEnds, IsEndOf}
+use Rattle.plane.specs.Rule.BadPairs.{IsEndOf}
 use Rattle.plane.specs.Rule.Curves.{arc}
 use Rattle.plane.specs.Rule.HalfArcs.{bow}
-use Rattle.plane.specs.Rule.Plans.{IsHalfArc, IsStraight, Plan, curve}
+use Rattle.plane.specs.Rule.Plans.{IsHalfArc, Plan, curve}
 use Rattle.plane.specs.Tubes.Bays.{Bay, IsTube, bays}
 use Rattle.plane.specs.Tubes.Windings.{InTile, IsCornerOf, Tile, tiles}
 use Rattle.plane.specs.declared.kinds.Curve.{Curve}
@@ -16,18 +16,16 @@ use Rattle.plane.specs.declared.kinds.CurveKind.TheVariants as kind
 use Rattle.plane.specs.declared.kinds.Edge.{Edge}
 use Rattle.plane.specs.declared.kinds.Point.{Point}
 use Rattle.straight_predicates.specs.EdgeLists.{edge_of, no_edge, no_point}
-use Rattle.tubes.specs.HalfArcTubes.{HasNoTube}
 use Rattle.tubes.specs.Holding.{InTubeOf}
 use Rattle.tubes.specs.Making.{IsMade}
-use Rattle.tubes.specs.Settled.{Breaks, BreaksOneWay, EdgesMeet, EndsAt, EntersTube, HasGroup, IsTubeFor, LiesUnderChord, SharesCorner, corners, edge_at, edges, edges_at, group, missing, owned_at}
+use Rattle.tubes.specs.Settled.{Breaks, BreaksOneWay, EdgesMeet, EndsAt, EntersTube, HasGroup, IsTubeFor, LiesUnderChord, SharesCorner, corners, edge_at, edges, group, missing, owned_at}
 use Rattle.tubes.specs.TubedEdges.{HasTube, bays_at, drawn_bays, edge_as}
 use Rattle.tubes.specs.declared.kinds.Tube.{Tube}
 use Rattle.tubes.proofs.TubePoints.{tube_is}
-use Rattle.tubes.proofs.ChainEdges.{bays_are}
-use Rattle.level_breaks.specs.GroupBreaks.{AreBroken, BreakOneWay, HasEdges, IsEntered, IsInTube, IsLow, IsUnderChord, MeetsSome, SomeInTube, SomeLow, SomeMeet}
+use Rattle.level_breaks.specs.GroupBreaks.{AreBroken, BreakOneWay, HasEdges, IsInTube, IsUnderChord, SomeInTube, SomeMeet}
 use Rattle.level_breaks.specs.Groups as groups
 use Rattle.level_breaks.specs.Groups.{IsTubed, edges_with, nth}
-use Rattle.level_breaks.proofs.GroupEdges.{EndsOf, at_has, edges_map, ends_are, has_at, has_left, has_mapped, mapped_has, some_after, to_is_inner}
+use Rattle.level_breaks.proofs.GroupEdges.{at_has, edges_map, ends_are, has_at, has_left, has_mapped, mapped_has, some_after, to_is_inner}
 use Rattle.level_breaks.proofs.TubePlaces.{corner_is_corner, corner_is_held, held_is_in_tile, made_bays, made_sizes}
 use Rattle.level_breaks.proofs.NumberedEdges.{connects, edge_is, group_curve, listed, number_of}
 use Rattle.level_breaks.proofs.Unbroken.{decide_corner}

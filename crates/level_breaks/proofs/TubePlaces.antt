@@ -1,13 +1,12 @@
 -- The places of a tube by its triangles, its corners, and a box that holds them.
-use Rattle.std.proofs.Common.{◌≡◌, ◌↔◌, ◌⊎◌, inl, inr, ℕ, suc, ◌+◌, ◌<◌, Some, List, [], ◌∷◌, ◌++◌, length, refl, arith, ap, sym, ◌∙◌, subst, pos, ◌≤ℤ◌}
+use Rattle.std.proofs.Common.{◌≡◌, ◌↔◌, ◌⊎◌, inl, inr, ℕ, ◌<◌, Some, List, [], ◌∷◌, length, refl, arith, ap, sym, ◌∙◌, subst, pos}
 use Rattle.std.proofs.lemmas.Int.{ints}
 use Rattle.plane.specs.Forms.Boxes.{Box, InBox}
 use Rattle.plane.specs.Forms.Vectors.{Place, Vector, point}
 use Rattle.plane.specs.Lists.{Each, Has}
 use Rattle.plane.specs.Rule.Curves.{arc}
-use Rattle.plane.specs.Rule.HalfArcs.{HalfArc}
 use Rattle.plane.specs.Tubes.Bays.{Bay, InBays, InTriangle, InTube, bays}
-use Rattle.plane.specs.Tubes.Windings.{InSomeTile, InTile, IsCornerOf, Tile, strips, tiles}
+use Rattle.plane.specs.Tubes.Windings.{InSomeTile, IsCornerOf, Tile, strips, tiles}
 use Rattle.plane.specs.declared.kinds.Curve.{Curve}
 use Rattle.plane.specs.declared.kinds.Point.{Point}
 use Rattle.plane.proofs.OneTube.ArcTubes.{tiles_in_tube, tube_in_tiles}

@@ -1,7 +1,6 @@
 -- A level settles a drawing exactly where no two curves break it.
-use Rattle.std.proofs.Common.{◌≡◌, ◌⊎◌, inl, inr, ℕ, ◌+◌, ◌<◌, ◌≤◌, List, length, refl, arith, ap, sym, ◌∙◌, subst, pos, ◌<ℤ◌, ◌≤ℤ◌}
+use Rattle.std.proofs.Common.{◌≡◌, ◌⊎◌, inl, inr, ℕ, ◌<◌, ◌≤◌, length, refl, arith, ap, sym, ◌∙◌, subst, pos, ◌<ℤ◌, ◌≤ℤ◌}
 use Rattle.std.proofs.lemmas.Int.{ints, by_lt_z}
-use Rattle.plane.specs.CurveRuns.Levels.{IsSettledRun}
 use Rattle.plane.specs.CurveRuns.TubedRuns as runs
 use Rattle.plane.specs.Forms.Meets.{Bad, Disjoint, IsEnd, Touch}
 use Rattle.plane.specs.Forms.Vectors.{point}
@@ -9,7 +8,7 @@ use Rattle.plane.specs.Lists.{Has}
 use Rattle.plane.specs.Rule.BadPairs.{HaveSameEnds, IsEndOf}
 use Rattle.plane.specs.Rule.Curves.{arc}
 use Rattle.plane.specs.Rule.HalfArcs.{bow}
-use Rattle.plane.specs.Rule.Plans.{IsHalfArc, IsStraight, Plan, curve}
+use Rattle.plane.specs.Rule.Plans.{IsHalfArc, Plan, curve}
 use Rattle.plane.specs.Tubes.Bays.{Bay, IsTube}
 use Rattle.plane.specs.Tubes.Windings.{InTile, IsCornerOf, Tile, tiles}
 use Rattle.plane.specs.declared.kinds.CurveKind.{CurveKind}
@@ -20,7 +19,7 @@ use Rattle.plane.proofs.Windings.Enters.{Decided, decide_point}
 use Rattle.straight_predicates.proofs.Orders.{by_lt}
 use Rattle.tubes.specs.DrawnEdges.{edge_from}
 use Rattle.tubes.specs.HalfArcTubes.{HasNoTube}
-use Rattle.tubes.specs.Settled.{Breaks, BreaksOneWay, EdgesMeet, EndsAt, EntersTube, HasGroup, HaveTubes, IsOwnCorner, IsSettledAt, LiesUnderChord, SharesCorner, corners, edge_at, edges, edges_at, group, missing, owned_at}
+use Rattle.tubes.specs.Settled.{Breaks, BreaksOneWay, EndsAt, EntersTube, HasGroup, HaveTubes, IsOwnCorner, IsSettledAt, LiesUnderChord, SharesCorner, corners, edge_at, edges, edges_at, group, missing, owned_at}
 use Rattle.tubes.specs.TubedEdges.{HasTube, drawn_bays, edge_as}
 use Rattle.level_breaks.proofs.AnyEdges.{bad_back}
 use Rattle.level_breaks.proofs.NumberedEdges.{IsOf, arc_part, connects, edge_is, group_curve, listed, number_of, one_edge, owner_of, tube_kind}

@@ -1,9 +1,7 @@
 -- Two curves with their edges that break a level, as a program tests it.
 use Rattle.std.specs.Prelude.{◌≡◌, ◌⊎◌, ℕ, ◌<◌, Option, Some, None, List, length, pos, ◌≤ℤ◌}
-use Rattle.plane.specs.Forms.Boxes.{Box, InBox}
 use Rattle.plane.specs.Forms.Meets.{Bad}
-use Rattle.plane.specs.Forms.Vectors.{Before, Place, Vector, point}
-use Rattle.plane.specs.Lists.{Each}
+use Rattle.plane.specs.Forms.Vectors.{point}
 use Rattle.plane.specs.Rule.BadPairs.{HaveSameEnds, IsEndOf}
 use Rattle.plane.specs.Rule.Curves.{arc}
 use Rattle.plane.specs.Rule.HalfArcs.{bow}
@@ -12,11 +10,10 @@ use Rattle.plane.specs.declared.kinds.CurveKind.TheVariants as kind
 use Rattle.plane.specs.declared.kinds.Edge.{Edge}
 use Rattle.plane.specs.declared.kinds.Point.{Point}
 use Rattle.straight_predicates.specs.EdgeLists.{edge_of}
-use Rattle.straight_predicates.specs.Meetings.{AreClose, EdgesAreClose}
-use Rattle.near_pairs.specs.Boxes.{box_of}
-use Rattle.tubes.specs.Holding.{InTubeOf, IsSomeTube}
+use Rattle.straight_predicates.specs.Meetings.{AreClose}
+use Rattle.tubes.specs.Holding.{InTubeOf}
 use Rattle.tubes.specs.declared.kinds.Tube.{Tube}
-use Rattle.level_breaks.specs.Groups.{IsEdged, corners, edges_with, nth}
+use Rattle.level_breaks.specs.Groups.{corners, edges_with, nth}
 
 -- ---- edges that meet
 -- The edge and one of the list share a place that is no common end, or more than one.
@@ -27,14 +24,6 @@ MeetsSome e fs = (k : ℕ) × (k < length fs) × Bad e (edge_of fs k)
 abbrev pub SomeMeet : List Edge → List Edge → Type 0
 SomeMeet es fs = (k : ℕ) × (k < length es) × MeetsSome (edge_of es k) fs
 
--- The edge can be tested with each edge of the list, and the box holds the ends of those.
-pub record IsBeside (e : Edge) (fs : List Edge) (b : Box) : Type 0 where
-  pub sorted : Before e.low e.high
-  pub rising : (k : ℕ) → k < length fs → Before (edge_of fs k).low (edge_of fs k).high
-  pub close : (k : ℕ) → k < length fs → EdgesAreClose e (edge_of fs k)
-  pub holds_low : (k : ℕ) → k < length fs → InBox b (point (edge_of fs k).low)
-  pub holds_high : (k : ℕ) → k < length fs → InBox b (point (edge_of fs k).high)
-
 -- ---- ends of edges in a tube
 -- The point is in the tube of the curve and no end of the curve.
 pub record IsInTube (c : Curve) (t : Tube) (p : Point) : Type 0 where
@@ -43,16 +32,6 @@ pub record IsInTube (c : Curve) (t : Tube) (p : Point) : Type 0 where
 
 abbrev pub SomeInTube : Curve → Tube → List Point → Type 0
 SomeInTube c t ps = (k : ℕ) × (k < length ps) × IsInTube c t (nth ps k)
-
--- It can be told whether the point is in the tube, all of which is in the box.
-pub record IsJudged (t : Tube) (b : Box) (p : Point) : Type 0 where
-  pub made : IsSomeTube t
-  pub inner : Each (λ q. AreClose q p) t.inner.items
-  pub outer : Each (λ q. AreClose q p) t.outer.items
-  pub holds : InTubeOf t (point p) → InBox b (point p)
-
-abbrev pub AreJudged : Tube → Box → List Point → Type 0
-AreJudged t b ps = (k : ℕ) → k < length ps → IsJudged t b (nth ps k)
 
 -- An edge of the second curve ends in the tube of the first one, but at no end of that.
 abbrev pub IsEntered : Curve → Option Tube → List Point → Type 0
@@ -80,12 +59,16 @@ IsUnderChord c None e None = ⊥
 IsUnderChord c None e (Some t) = HaveSameEnds c e × SomeLow e t.inner.items
 IsUnderChord c (Some u) e t = ⊥
 
+abbrev pub OneIsUnderChord : Curve → Option Tube → Curve → Option Tube → Type 0
+OneIsUnderChord c t e u = IsUnderChord c t e u ⊎ IsUnderChord e u c t
+
 -- ---- in all
 abbrev pub BreakOneWay : Curve → Option Tube → Curve → Option Tube → Type 0
 BreakOneWay c t e u = IsEntered c t (corners e u) ⊎ IsUnderChord c t e u
 
 abbrev pub AreBroken : Curve → Option Tube → Curve → Option Tube → Type 0
-AreBroken c t e u = SomeMeet (edges_with c t) (edges_with e u) ⊎ (BreakOneWay c t e u ⊎ BreakOneWay e u c t)
+AreBroken c t e u =
+    SomeMeet (edges_with c t) (edges_with e u) ⊎ (BreakOneWay c t e u ⊎ BreakOneWay e u c t)
 
 -- The curve has edges: where it is a half arc, it has a tube.
 abbrev pub HasEdges : Curve → Option Tube → Type 0

@@ -1,5 +1,6 @@
 -- A curve with its tube at a level: its edges, where they end, and a box that holds their ends.
-use Rattle.std.specs.Prelude.{◌≡◌, ℕ, ◌<◌, ◌≤◌, ◌^◌, Option, Some, None, List, [], ◌∷◌, ◌++◌, length, slice_index_or, ◌≤ℤ◌}
+use Rattle.std.specs.Prelude.{◌≡◌, ℕ, ◌<◌, ◌≤◌, ◌^◌, Option, Some, None, List, [], ◌∷◌, ◌++◌}
+use Rattle.std.specs.Prelude.{length, slice_index_or, ◌≤ℤ◌}
 use Rattle.plane.specs.Forms.Boxes.{Box, InBox}
 use Rattle.plane.specs.Forms.Vectors.{point}
 use Rattle.plane.specs.Lists.{Each}
@@ -26,22 +27,33 @@ abbrev pub chain_through : List Point → List Edge
 chain_through [] = []
 chain_through (p ∷ ps) = chain_edges p ps
 
--- The edges of a straight, or of a half arc with its tube: those of the inner chain, then those of the outer one.
+-- The edges of a straight, or of a half arc with its tube: those of the inner chain, then those of
+-- the outer one.
 abbrev pub edges_with : Curve → Option Tube → List Edge
 edges_with c None = edge_from c.from c.to ∷ []
-edges_with c (Some t) = chain_through t.inner.items ++ chain_edges c.from (t.outer.items ++ c.to ∷ [])
+edges_with c (Some t) =
+    chain_through t.inner.items ++ chain_edges c.from (t.outer.items ++ c.to ∷ [])
+
+-- How many bays there are.
+abbrev pub bays_of : Option Tube → ℕ
+bays_of None = 0
+bays_of (Some t) = length t.outer.items
 
 -- The points in which they end.
 abbrev pub corners : Curve → Option Tube → List Point
 corners c None = c.from ∷ c.to ∷ []
 corners c (Some t) = t.inner.items ++ t.outer.items
 
--- The curve is a straight and there is no tube, or it is a half arc and the tube is its tube at the level.
+-- The curve is a straight and there is no tube, or it is a half arc and the tube is its tube at the
+-- level.
 abbrev pub IsTubed : ℕ → Curve → Option Tube → Type 0
 IsTubed level c None = c.kind ≡ kind.Straight
 IsTubed level c (Some t) = (c.kind ≡ kind.HalfArc) × IsMade (arc c) level t
 
--- The box holds the points.
+-- The box holds the point; the points.
+abbrev pub HoldsPoint : Box → Point → Type 0
+HoldsPoint b p = InBox b (point p)
+
 abbrev pub HoldsAll : Box → List Point → Type 0
 HoldsAll b ps = Each (λ p. InBox b (point p)) ps
 
@@ -62,7 +74,8 @@ pub record AreGroups (g h : Group) : Type 0 where
   pub second : IsGroup low high level h
 
 -- ---- what is asked of one curve to make its edges
--- The tube's inner points begin with the curve's first end, there are as many bays as outer points, and neighbours differ.
+-- The tube's inner points begin with the curve's first end, there are as many bays as outer points,
+-- and neighbours differ.
 pub record HasChains (c : Curve) (t : Tube) : Type 0 where
   pub after : List Point
   pub inner : t.inner.items ≡ c.from ∷ after

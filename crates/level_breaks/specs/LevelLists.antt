@@ -1,5 +1,6 @@
 -- The tubes, boxes and marks of the curves of a drawing.
-use Rattle.std.specs.Prelude.{◌≡◌, ℕ, ◌<◌, ◌⊎◌, Bool, true, Option, Some, None, List, length, slice_index_or, IfSome}
+use Rattle.std.specs.Prelude.{◌≡◌, ℕ, ◌<◌, ◌⊎◌, Bool, true, Option, Some, None, List, length}
+use Rattle.std.specs.Prelude.{slice_index_or, IfSome}
 use Rattle.plane.specs.Rule.BadPairs.{AreBad}
 use Rattle.plane.specs.Rule.Plans.{IsStraight, Plan, curve}
 use Rattle.plane.specs.declared.kinds.Curve.{Curve}
@@ -18,14 +19,17 @@ abbrev pub tube_of : List (Option Tube) → ℕ → Option Tube
 tube_of tubes i = slice_index_or tubes i None
 
 -- The tubes of the first k curves.
-pub record AreTubesTo (curves : List Curve) (level k : ℕ) (tubes : List (Option Tube)) : Type 0 where
+pub record AreTubesTo (curves : List Curve) (level k : ℕ)
+    (tubes : List (Option Tube)) : Type 0 where
   pub size : length tubes ≡ k
   pub each : (i : ℕ) → i < k → IsTubeFor (nth_curve curves i) level (tube_of tubes i)
 
 -- The boxes of the first k curves with their tubes.
-pub record AreBoxesTo (curves : List Curve) (tubes : List (Option Tube)) (k : ℕ) (boxes : List Reach) : Type 0 where
+pub record AreBoxesTo (curves : List Curve) (tubes : List (Option Tube)) (k : ℕ)
+    (boxes : List Reach) : Type 0 where
   pub size : length boxes ≡ k
-  pub holds : (i : ℕ) → i < k → HoldsAll (box_of (reach_of boxes i)) (corners (nth_curve curves i) (tube_of tubes i))
+  pub holds : (i : ℕ) → i < k
+      → HoldsAll (box_of (reach_of boxes i)) (corners (nth_curve curves i) (tube_of tubes i))
 
 -- The marks of the first k curves: half arcs are marked.
 pub record AreMarksTo (curves : List Curve) (k : ℕ) (marks : List Bool) : Type 0 where
@@ -41,14 +45,17 @@ pub record IsBare (curves : List Curve) (tubes : List (Option Tube)) (i : ℕ) :
 -- The first such curve, where there is one.
 abbrev pub IsFirstBare : List Curve → List (Option Tube) → Option ℕ → Type 0
 IsFirstBare curves tubes None = (i : ℕ) → IsBare curves tubes i → ⊥
-IsFirstBare curves tubes (Some i) = IsBare curves tubes i × ((k : ℕ) → k < i → IsBare curves tubes k → ⊥)
+IsFirstBare curves tubes (Some i) =
+    IsBare curves tubes i × ((k : ℕ) → k < i → IsBare curves tubes k → ⊥)
 
 -- No two straights of the drawing are bad.
 abbrev pub HasNoBadStraights : Plan → Type 0
-HasNoBadStraights d = (i j : ℕ) → IsStraight d i → IsStraight d j → i < j → AreBad (curve d i) (curve d j) → ⊥
+HasNoBadStraights d =
+    (i j : ℕ) → IsStraight d i → IsStraight d j → i < j → AreBad (curve d i) (curve d j) → ⊥
 
 -- The pair of two curves, or the one curve named twice; neither of them is less.
 pub record IsLesser (pair : Option NearPair) (bare : Option ℕ) (r : LevelBreak) : Type 0 where
-  pub is : (pair ≡ Some (record { first = r.first; second = r.second })) ⊎ ((bare ≡ Some r.first) × (r.first ≡ r.second))
+  pub is : (pair ≡ Some (record { first = r.first; second = r.second }))
+      ⊎ ((bare ≡ Some r.first) × (r.first ≡ r.second))
   pub not_pair : IfSome pair (λ p. IsLess p.first p.second r.first r.second → ⊥)
   pub not_bare : IfSome bare (λ i. IsLess i i r.first r.second → ⊥)

@@ -1,3 +1,5 @@
 pub mod Groups
 pub mod GroupBreaks
 pub mod LevelLists
+pub mod Stretches
+pub mod Parts

@@ -1,5 +1,5 @@
 // Boxes of points.
-ghost use Rattle.std.specs.Prelude.{◌↔◌, ◌≤ℤ◌, IsTrue};
+ghost use Rattle.std.specs.Prelude.{◌≤ℤ◌};
 ghost use Rattle.plane.specs.Forms.Boxes.{InBox};
 ghost use Rattle.plane.specs.Forms.Vectors.{point};
 ghost use Rattle.near_pairs.specs.Boxes.{box_of};
@@ -37,19 +37,6 @@ pub fn edge_reach(edge: &Edge) -> Reach
     ensures high { InBox (box_of result) (point edge.now.high) }
 {
     grown(around(edge.low), edge.high)
-}
-
-/// Whether the point is in the box.
-pub fn is_within(reach: &Reach, p: Point) -> bool
-    ensures { IsTrue result ↔ InBox (box_of reach.now) (point p) }
-{
-    is_between(reach.low.x, p.x, reach.high.x) && is_between(reach.low.y, p.y, reach.high.y)
-}
-
-fn is_between(low: i64, z: i64, high: i64) -> bool
-    ensures { IsTrue result ↔ ((low ≤ℤ z) × (z ≤ℤ high)) }
-{
-    low <= z && z <= high
 }
 
 fn lesser(a: i64, b: i64) -> i64

@@ -1,63 +1,67 @@
-// Edges that end in a tube.
-ghost use Rattle.std.specs.Prelude.{◌≡◌, ◌↔◌, IsTrue};
+// Edges that end in a part of a tube.
+ghost use Rattle.std.specs.Prelude.{◌≡◌, ◌↔◌, ◌≤◌, Some, IsTrue};
+ghost use Rattle.plane.specs.Forms.Meets.{IsEnd};
 ghost use Rattle.plane.specs.Rule.BadPairs.{IsEndOf};
-ghost use Rattle.near_pairs.specs.Boxes.{box_of};
-ghost use Rattle.level_breaks.specs.GroupBreaks.{AreJudged, IsEntered, IsInTube, IsJudged};
-ghost use Rattle.level_breaks.specs.GroupBreaks.{SomeInTube};
-ghost use Rattle.level_breaks.specs.Groups.{AreGroups, corners};
+ghost use Rattle.plane.specs.declared.kinds.Point.{Point};
+ghost use Rattle.tubes.specs.Holding.{AreTurnable};
+ghost use Rattle.level_breaks.specs.Groups.{AreGroups, IsEdged, bays_of, edges_with};
+ghost use Rattle.level_breaks.specs.Parts.{AreTurnableAt, ArePartsOf, EndsEnter, EndsInPart};
+ghost use Rattle.level_breaks.specs.Parts.{EntersPart, InnerEnters};
 
-use super::boxes::is_within;
-use super::groups::Group;
-use near_pairs::Reach;
-use plane::{Curve, Point};
-use tubes::{Tube, holds};
+use super::groups::{Group, bay_count};
+use super::parts::{inner_of, outer_of};
+use super::triangles::is_in_part;
+use plane::{Curve, Edge, Point};
+use tubes::Tube;
 
-/// Whether an edge of the second curve ends in the tube of the first, but at no end of that.
-pub fn is_entered(group: &Group, other: &Group) -> bool
-    requires { AreGroups group.now other.now }
-    ensures { IsTrue result ↔ IsEntered group.now.curve.now group.now.tube.now
-        (corners other.now.curve.now other.now.tube.now) }
+/// Whether an edge of the part ends in a part of the other's tube, but at no end of that.
+pub fn ends_enter(group: &Group, part: usize, other: &Group, number: usize) -> bool
+    requires groups { AreGroups group.now other.now }
+    requires parts { ArePartsOf group.now.tube.now other.now.tube.now part number }
+    ensures { IsTrue result ↔ EndsEnter group.now.curve.now group.now.tube.now part
+        other.now.curve.now other.now.tube.now number }
 {
-    plane::arcs::boxes_hold_means();
-    match group.tube {
-        Some(tube) => some_enter(group.curve, tube, &group.reach, other),
+    match other.tube {
+        Some(tube) => some_end_enters(group, part, other.curve, tube, number),
         None => false,
     }
 }
 
-fn some_enter(curve: &Curve, tube: &Tube, reach: &Reach, other: &Group) -> bool
-    requires { AreJudged tube.now (box_of reach.now)
-        (corners other.now.curve.now other.now.tube.now) }
-    ensures { IsTrue result ↔ SomeInTube curve.now tube.now
-        (corners other.now.curve.now other.now.tube.now) }
+fn some_end_enters(group: &Group, part: usize, curve: &Curve, tube: &Tube, number: usize) -> bool
+    requires edged { IsEdged group.now.curve.now group.now.tube.now }
+    requires part { part ≤ bays_of group.now.tube.now }
+    requires turnable { AreTurnableAt tube.now
+        (edges_with group.now.curve.now group.now.tube.now) }
+    ensures { IsTrue result ↔ EndsEnter group.now.curve.now group.now.tube.now part
+        curve.now (Some tube.now) number }
 {
-    match other.tube {
-        Some(own) => {
-            any_in_tube(curve, tube, reach, &own.inner)
-                || any_in_tube(curve, tube, reach, &own.outer)
-        }
-        None => any_in_tube(curve, tube, reach, &[other.curve.from, other.curve.to]),
-    }
+    ends_in_part(&outer_of(group, part), curve, tube, number)
+        || inner_enters(group, part, curve, tube, number)
 }
 
-fn any_in_tube(curve: &Curve, tube: &Tube, reach: &Reach, points: &[Point]) -> bool
-    requires { AreJudged tube.now (box_of reach.now) points.now }
-    ensures { IsTrue result ↔ SomeInTube curve.now tube.now points.now }
+fn inner_enters(group: &Group, part: usize, curve: &Curve, tube: &Tube, number: usize) -> bool
+    requires edged { IsEdged group.now.curve.now group.now.tube.now }
+    requires turnable { AreTurnableAt tube.now
+        (edges_with group.now.curve.now group.now.tube.now) }
+    ensures { IsTrue result ↔ InnerEnters group.now.curve.now group.now.tube.now part
+        curve.now (Some tube.now) number }
 {
-    for point in points {
-        if is_in_tube(curve, tube, reach, *point) {
-            return true;
-        }
-    }
-    false
+    part < bay_count(group) && ends_in_part(&inner_of(group, part), curve, tube, number)
 }
 
-/// Whether the point is in the tube and no end of the curve.
-fn is_in_tube(curve: &Curve, tube: &Tube, reach: &Reach, p: Point) -> bool
-    requires { IsJudged tube.now (box_of reach.now) p }
-    ensures { IsTrue result ↔ IsInTube curve.now tube.now p }
+fn ends_in_part(edge: &Edge, curve: &Curve, tube: &Tube, number: usize) -> bool
+    requires { (p : Point) → IsEnd edge.now p
+        → AreTurnable tube.now.inner.items tube.now.outer.items p }
+    ensures { IsTrue result ↔ EndsInPart curve.now (Some tube.now) number edge.now }
 {
-    is_within(reach, p) && !is_end(curve, p) && holds(tube, p)
+    enters(edge.low, curve, tube, number) || enters(edge.high, curve, tube, number)
+}
+
+fn enters(p: Point, curve: &Curve, tube: &Tube, number: usize) -> bool
+    requires { AreTurnable tube.now.inner.items tube.now.outer.items p }
+    ensures { IsTrue result ↔ EntersPart curve.now tube.now number p }
+{
+    !is_end(curve, p) && is_in_part(tube, number, p)
 }
 
 /// Whether the point is an end of the curve.

@@ -4,15 +4,14 @@ ghost use Rattle.std.specs.Prelude.{length};
 ghost use Rattle.plane.specs.Rule.Plans.{plan};
 ghost use Rattle.near_pairs.specs.LeastPairs.{IsLeastPair};
 ghost use Rattle.tubes.specs.Settled.{AreTubesAt, Breaks, IsFirstBreak, IsSettledAt};
-ghost use Rattle.level_breaks.specs.GroupBreaks.{AreBroken, BreakOneWay, HasEdges};
+ghost use Rattle.level_breaks.specs.GroupBreaks.{AreBroken, HasEdges, OneIsUnderChord};
 ghost use Rattle.level_breaks.specs.Groups.{AreGroups};
 ghost use Rattle.level_breaks.specs.LevelLists.{HasNoBadStraights, IsLesser};
 
 use super::chords::is_under_chord;
-use super::entering::is_entered;
 use super::groups::Group;
 use super::listing::{boxes, first_bare, half_arc_marks, is_half_arc, level_tubes};
-use super::meeting::edges_meet;
+use super::meeting::parts_clash;
 use super::pairs::LevelBreak;
 use near_pairs::{NearPair, PairTest, Reach, least};
 use plane::Drawing;
@@ -92,20 +91,20 @@ fn are_broken(one: &Group, other: &Group) -> bool
     ensures { IsTrue result ↔ AreBroken one.now.curve.now one.now.tube.now
         other.now.curve.now other.now.tube.now }
 {
-    edges_meet(one, other) || break_one_way(one, other) || break_one_way(other, one)
+    parts_clash(one, other) || one_is_under_chord(one, other)
 }
 
-fn break_one_way(one: &Group, other: &Group) -> bool
+fn one_is_under_chord(one: &Group, other: &Group) -> bool
     requires { AreGroups one.now other.now }
-    ensures { IsTrue result ↔ BreakOneWay one.now.curve.now one.now.tube.now
+    ensures { IsTrue result ↔ OneIsUnderChord one.now.curve.now one.now.tube.now
         other.now.curve.now other.now.tube.now }
 {
-    is_entered(one, other) || is_under_chord(one, other)
+    is_under_chord(one, other) || is_under_chord(other, one)
 }
 
 /// The least pair of curves that breaks the level, by its first number, then by its second; a half
 /// arc without a tube is named twice. None exactly where the level settles the drawing. No two
-/// straights of the drawing may be bad. The only error is want of memory.
+/// straights of the drawing may be bad. The only error is out of memory.
 pub fn first_break(
     alloc: Global,
     drawing: &Drawing,

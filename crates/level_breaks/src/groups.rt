@@ -2,7 +2,7 @@
 ghost use Rattle.std.specs.Prelude.{◌≡◌, ◌<◌, ◌≤◌, ◌++◌, ◌∷◌, [], Some, length};
 ghost use Rattle.straight_predicates.specs.EdgeLists.{edge_of};
 ghost use Rattle.tubes.specs.TubedEdges.{AreDistinct, chain_edges};
-ghost use Rattle.level_breaks.specs.Groups.{IsEdged, edges_with, nth};
+ghost use Rattle.level_breaks.specs.Groups.{IsEdged, bays_of, edges_with, nth};
 
 use near_pairs::Reach;
 use plane::{Curve, Edge, Point};
@@ -25,6 +25,16 @@ pub fn edge_count(group: &Group) -> usize
     match group.tube {
         Some(tube) => 2 * tube.outer.len() + 1,
         None => 1,
+    }
+}
+
+/// How many outer points the curve has; a straight has none.
+pub fn bay_count(group: &Group) -> usize
+    ensures { result ≡ bays_of group.now.tube.now }
+{
+    match group.tube {
+        Some(tube) => tube.outer.len(),
+        None => 0,
     }
 }
 
@@ -65,7 +75,7 @@ fn outer_edge(curve: &Curve, outer: &[Point], number: usize) -> Edge
     edge_between(start(curve, outer, number), end(curve, outer, number))
 }
 
-fn start(curve: &Curve, outer: &[Point], number: usize) -> Point
+pub fn start(curve: &Curve, outer: &[Point], number: usize) -> Point
     requires { number ≤ length outer.now }
     ensures { result ≡ nth (curve.now.from ∷ outer.now) number }
 {
@@ -76,7 +86,7 @@ fn start(curve: &Curve, outer: &[Point], number: usize) -> Point
     }
 }
 
-fn end(curve: &Curve, outer: &[Point], number: usize) -> Point
+pub fn end(curve: &Curve, outer: &[Point], number: usize) -> Point
     requires { number ≤ length outer.now }
     ensures { result ≡ nth (outer.now ++ curve.now.to ∷ []) number }
 {

@@ -16,7 +16,9 @@
 //!   of that curve; or one of them is a straight between the ends of the other, a half arc whose
 //!   tube has an inner corner on the chord or beyond it. A tube alone breaks nothing. In each case
 //!   boxes round the ends of their edges share a place, so that `near_pairs` finds the pairs to
-//!   test; within a pair edges and points are held against the other curve's box first.
+//!   test. Of such a pair the parts are compared: a part is a bay of a tube with the two edges over
+//!   it, or a straight. Stretches of parts whose boxes share no place are told apart at once; of
+//!   others the longer one is halved, until eight parts at most are compared with each other.
 //! - **Widths.** Corners of tubes leave the window by less than 2^28 units, so that all differences
 //!   are below 2^41, as turns and meetings of edges ask.
 //! - **Degenerate cases.** No curve, half arcs of a few units and of half a turn and more, flat
@@ -25,9 +27,11 @@
 //! - **Not here:** the sweep of a level's edges, and which level is tried.
 //!
 //! Cost: the tubes of the level; then half arcs times the curves that begin within their boxes
-//! along x, or the other way round, and for those whose boxes share a place at most the product of
-//! their edges. Memory: 32 bytes for each corner pair of a tube (32 K bytes with K = 2^(level + 1)
-//! bays), a `Tube` and 65 bytes a curve.
+//! along x, or the other way round, and for those whose boxes share a place boxes of halves of
+//! their parts, as many as it takes to give the curves apart, and at most the product of their
+//! parts, as for curves that run along each other closer than a part is long. A box of n parts
+//! reads the corners of n parts. Memory: 32 bytes for each corner pair of a tube (32 K bytes
+//! with K = 2^(level + 1) bays), a `Tube` and 65 bytes a curve; comparing takes none.
 #![tactic(auto)]
 
 mod boxes;
@@ -35,10 +39,13 @@ mod chords;
 mod entering;
 mod finding;
 mod groups;
+mod halves;
 pub mod laws;
 mod listing;
 mod meeting;
 mod pairs;
+mod parts;
+mod triangles;
 
 pub use finding::first_break;
 pub use pairs::LevelBreak;

@@ -1,4 +1,4 @@
-use Rattle.std.proofs.Common.{◌≡◌, List, Option, subst, ◌∙◌}
+use Rattle.std.proofs.Common.{List, Option, subst}
 use Rattle.plane.specs.Rule.Plans.{plan}
 use Rattle.plane.specs.declared.kinds.Curve.{Curve}
 use Rattle.tubes.specs.TubedEdges.{drawn_bays}

@@ -1,4 +1,4 @@
-use Rattle.std.proofs.Common.{◌≡◌, None, ℕ, ◌<◌, length, subst}
+use Rattle.std.proofs.Common.{◌≡◌, None, ℕ, ◌<◌, subst}
 use Rattle.std.specs.Prelude.{IfOk, IfSome}
 use Rattle.near_pairs.specs.LeastPairs.{IsLeastPair}
 use Rattle.plane.specs.Rule.Plans.{plan}

@@ -1,4 +1,4 @@
-use Rattle.std.proofs.Common.{ℕ, [], ◌+◌, ◌-◌, ◌<◌, ◌≤◌, ◌≡◌, List, length, ◌++◌, ◌∷◌, arith, ap, sym, subst, ◌∙◌}
+use Rattle.std.proofs.Common.{ℕ, [], ◌+◌, ◌-◌, ◌<◌, ◌≤◌, List, length, ◌++◌, ◌∷◌, arith, ap, sym, subst, ◌∙◌}
 use Rattle.plane.specs.declared.kinds.Point.{Point}
 use Rattle.straight_predicates.specs.EdgeLists.{HasEnds, edge_of, no_point}
 use Rattle.tubes.specs.TubedEdges.{AreDistinct, chain_edges}

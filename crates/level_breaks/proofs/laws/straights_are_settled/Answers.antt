@@ -1,5 +1,4 @@
-use Rattle.std.proofs.Common.{inl, inr, sym, ◌∙◌}
-use Rattle.plane.specs.Rule.Plans.{IsHalfArc}
+use Rattle.std.proofs.Common.{inl, inr}
 use Rattle.tubes.specs.TubedEdges.{drawn_bays}
 use Rattle.level_breaks.proofs.AnyEdges.{any_meet}
 use Rattle.level_breaks.proofs.BrokenPairs.{no_bad_straights, no_half_arc, one_is_half_arc}

@@ -1,6 +1,5 @@
-use Rattle.std.proofs.Common.{Option, List, sym, subst}
+use Rattle.std.proofs.Common.{Option, sym, subst}
 use Rattle.near_pairs.specs.Boxes.{box_of}
-use Rattle.plane.specs.declared.kinds.Point.{Point}
 use Rattle.tubes.specs.declared.kinds.Tube.{Tube}
 use Rattle.level_breaks.specs.Groups.{HoldsAll, corners}
 use Rattle.level_breaks.proofs.LevelListing.{box_of_straight, box_of_tube}

@@ -1,4 +1,4 @@
-use Rattle.std.proofs.Common.{◌≡◌, ◌<◌, List, length, sym, subst}
+use Rattle.std.proofs.Common.{◌<◌, List, length, sym, subst}
 use Rattle.plane.specs.declared.kinds.Curve.{Curve}
 use Rattle.tubes.specs.DrawnEdges.{nth_curve}
 use Rattle.tubes.specs.TubedEdges.{IsFit}

@@ -1,9 +1,6 @@
-use Rattle.std.proofs.Common.{ℕ, ◌<◌, arith, sym, subst, ◌∙◌}
-use Rattle.plane.specs.Forms.Boxes.{InBox}
-use Rattle.plane.specs.Forms.Vectors.{point}
-use Rattle.plane.specs.declared.kinds.Point.{Point}
+use Rattle.std.proofs.Common.{arith}
 use Rattle.near_pairs.specs.Boxes.{box_of}
-use Rattle.level_breaks.proofs.BoxPoints.{covers_itself, covers_through}
+use Rattle.level_breaks.proofs.BoxPoints.{covers_through}
 use Rattle.level_breaks.proofs.LevelListing.{holds_by_number, point_more}
 use Rattle.level_breaks.proofs.listing.with_points.Goals as goal
 

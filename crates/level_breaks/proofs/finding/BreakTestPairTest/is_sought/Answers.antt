@@ -1,4 +1,3 @@
-use Rattle.std.proofs.Common.{refl}
 use Rattle.plane.specs.Rule.Plans.{plan}
 use Rattle.tubes.specs.TubedEdges.{drawn_bays}
 use Rattle.level_breaks.proofs.FirstBreaks.{none_sought, placed, sought_is}
