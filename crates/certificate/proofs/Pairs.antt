@@ -2,7 +2,7 @@
 use Rattle.std.proofs.Common.{◌≡◌, List, [], ◌∷◌, ◌++◌, ◌/◌, length, refl, sym, ap, arith}
 use Rattle.std.specs.List.{AllByRecursion}
 use Rattle.certificate.specs.declared.notes.HalfNote.{HalfNote}
-use Rattle.certificate.specs.Spelling.{pairs, ArePaired}
+use Rattle.certificate.specs.Spelling.{pairs, ArePaired, FitsHalf, FitsEdge}
 
 pub all_more : {X : Type 0} (P : X → Type 0) (xs : List X) (x : X) → AllByRecursion P xs → P x → AllByRecursion P (xs ++ (x ∷ []))
 all_more P [] x h k = (k, tt)
@@ -17,6 +17,11 @@ pub paired_more : (notes : List HalfNote) (below above : HalfNote) → ArePaired
 paired_more [] below above h = tt
 paired_more (a ∷ []) below above h = absurd h
 paired_more (a ∷ b ∷ notes) below above h = paired_more notes below above h
+
+pub pairs_fit : (notes : List HalfNote) → AllByRecursion FitsHalf notes → AllByRecursion FitsEdge (pairs notes)
+pairs_fit [] h = tt
+pairs_fit (a ∷ []) h = tt
+pairs_fit (a ∷ b ∷ notes) h = ((h.0, h.1.0), pairs_fit notes h.1.1)
 
 pub length_pairs : (notes : List HalfNote) → length (pairs notes) ≡ length notes / 2
 length_pairs [] = omega arith

@@ -1,5 +1,6 @@
 -- What writing in pieces adds to a file.
-use Rattle.std.specs.Prelude.{◌≡◌, ◌≤◌, ℕ, List, [], ◌++◌, codes, Option, Some, None, Result, Ok, Err, OnErr, ⊤, ◌⊎◌}
+use Rattle.std.specs.Prelude.{◌≡◌, ◌≤◌, ℕ, List, [], ◌++◌, codes, Option, Some, None, Result, Ok}
+use Rattle.std.specs.Prelude.{Err, OnErr, ⊤, ◌⊎◌}
 use Rattle.std.specs.Fmt.{decimal}
 use Rattle.std.specs.FinMap as map
 use Rattle.ports.specs.declared.Failed.{Failed}
@@ -20,22 +21,29 @@ next_word word = codes " " ++ word_text word
 -- the file of that name gained these bytes
 abbrev pub Added : Option Files → List ℕ → List ℕ → Option Files → Type 0
 Added None name bytes now = ⊤
-Added (Some files) name bytes now = ((bytes ≡ []) × (now ≡ Some files)) ⊎ (now ≡ Some (map.insert files name (bytes_of (map.get files name) ++ bytes)))
+Added (Some files) name bytes now =
+    ((bytes ≡ []) × (now ≡ Some files))
+    ⊎ (now ≡ Some (map.insert files name (bytes_of (map.get files name) ++ bytes)))
 
 -- of this text the front was added to the file, and the rest is in the buffer
-pub record Pending (before : Option Files) (name text : List ℕ) (now : Option Files) (waits : List ℕ) : Type 0 where
+pub record Pending (before : Option Files) (name text : List ℕ) (now : Option Files)
+    (waits : List ℕ) : Type 0 where
   pub gained : List ℕ
   pub parts : text ≡ gained ++ waits
   pub added : Added before name gained now
 
 -- after a failure only a front of the text was added
-abbrev pub Outcome : Result (Unit {0}) Failed → Option Files → List ℕ → List ℕ → Option Files → List ℕ → Type 0
+abbrev pub Outcome : Result (Unit {0}) Failed → Option Files → List ℕ → List ℕ → Option Files
+    → List ℕ → Type 0
 Outcome (Ok u) before name text now waits = Pending before name text now waits
 Outcome (Err e) before name text now waits = Gained before name text now
 
 -- a call wrote these bytes after whatever text was written before it
-abbrev pub Writes : List ℕ → List ℕ → Option Files → List ℕ → Result (Unit {0}) Failed → Option Files → List ℕ → Type 0
-Writes name bytes held waits result now left = (before : Option Files) (text : List ℕ) → Pending before name text held waits → Outcome result before name (text ++ bytes) now left
+abbrev pub Writes : List ℕ → List ℕ → Option Files → List ℕ → Result (Unit {0}) Failed
+    → Option Files → List ℕ → Type 0
+Writes name bytes held waits result now left =
+    (before : Option Files) (text : List ℕ) → Pending before name text held waits
+    → Outcome result before name (text ++ bytes) now left
 
 -- no count of faults fell, and a call that failed raised that of failed writes
 abbrev pub OnlyWritesFail : (List ℕ → ℕ) → ℕ → Result (Unit {0}) Failed → (List ℕ → ℕ) → ℕ → Type 0

@@ -1,5 +1,6 @@
 -- The first bad line of a text that spells no list, without a word of how it is read.
-use Rattle.std.specs.Prelude.{◌≡◌, ℕ, zero, suc, ◌<◌, ◌≤◌, cond, nat_eq, List, [], ◌∷◌, ◌++◌, length}
+use Rattle.std.specs.Prelude.{◌≡◌, ℕ, zero, suc, ◌<◌, ◌≤◌, cond, nat_eq, List, [], ◌∷◌, ◌++◌}
+use Rattle.std.specs.Prelude.{length}
 use Rattle.certificate.specs.declared.fault.CertFault.{CertFault}
 use Rattle.certificate.specs.declared.fault.CertFault.TheVariants as faults
 use Rattle.certificate.specs.Spelling.{Plain, AreSpelt, spelling}
@@ -13,7 +14,8 @@ lf_count (c ∷ bytes) = cond (nat_eq c 10) (suc (lf_count bytes)) (lf_count byt
 abbrev pub first_lines : ℕ → List ℕ → List ℕ
 first_lines zero bytes = []
 first_lines (suc n) [] = []
-first_lines (suc n) (c ∷ bytes) = c ∷ cond (nat_eq c 10) (first_lines n bytes) (first_lines (suc n) bytes)
+first_lines (suc n) (c ∷ bytes) =
+    c ∷ cond (nat_eq c 10) (first_lines n bytes) (first_lines (suc n) bytes)
 
 -- the bytes begin the spelling of some list of certificates
 pub record Begin (bytes : List ℕ) : Type 0 where
@@ -22,8 +24,8 @@ pub record Begin (bytes : List ℕ) : Type 0 where
   pub rest : List ℕ
   pub is : spelling list ≡ bytes ++ rest
 
--- The first n lines begin the spelling of some list, and the next one is bad: it has no LF, or with it they begin no
--- spelling.
+-- The first n lines begin the spelling of some list, and the next one is bad: it has no LF, or with
+-- it they begin no spelling.
 pub record IsFirstBad (bytes : List ℕ) (n : ℕ) : Type 0 where
   pub whole : n ≤ lf_count bytes
   pub begin : Begin (first_lines n bytes)

@@ -1,5 +1,6 @@
 -- The lines of a certificate's text, each from left to right.
-use Rattle.std.specs.Prelude.{ℕ, ◌^◌, Bool, true, false, cond, ◌&&◌, ◌==◌, nat_eq, nat_lt, get_or, List, [], ◌∷◌, length, take, drop, codes, Option, Some, None}
+use Rattle.std.specs.Prelude.{ℕ, ◌^◌, Bool, true, false, cond, ◌&&◌, ◌==◌, nat_eq, nat_lt, get_or}
+use Rattle.std.specs.Prelude.{List, [], ◌∷◌, length, take, drop, codes, Option, Some, None}
 use Rattle.std.specs.Cmp.Lexicographic.{pointwise}
 use Rattle.std.specs.List.{prefix_len}
 use Rattle.std.specs.Char.{is_ascii_digit}
@@ -21,13 +22,15 @@ None >>= f = None
 abbrev pub Part : Type 0 → Type 0
 Part A = Option (A × List ℕ)
 
--- a line of a form, and the bytes after it. None: it has not the form. Without a value: it has the form, but one of its numbers is spelt wrong
+-- a line of a form, and the bytes after it. None: it has not the form. Without a value: it has the
+-- form, but one of its numbers is spelt wrong
 abbrev pub Line : Type 0 → Type 0
 Line A = Part (Option A)
 
 -- the bytes after a word
 abbrev pub after_word : List ℕ → List ℕ → Option (List ℕ)
-after_word word bytes = cond (pointwise nat_eq (take (length word) bytes) word) (Some (drop (length word) bytes)) None
+after_word word bytes =
+    cond (pointwise nat_eq (take (length word) bytes) word) (Some (drop (length word) bytes)) None
 
 -- the bytes at the front that pass, at least one
 abbrev pub front_of : {A : Type 0} → (List ℕ → A) → ℕ → List ℕ → Part A
@@ -43,7 +46,9 @@ has_leading_zero digits = nat_eq (get_or digits 0 0) 48 && nat_lt 1 (length digi
 
 -- the number that digits spell: none with a leading zero, or from 2 ^ 32 on
 abbrev pub number : List ℕ → Option ℕ
-number digits = cond (has_leading_zero digits) None (cond (nat_lt (digits_value 10 digits) (2 ^ 32)) (Some (digits_value 10 digits)) None)
+number digits =
+    cond (has_leading_zero digits) None
+    (cond (nat_lt (digits_value 10 digits) (2 ^ 32)) (Some (digits_value 10 digits)) None)
 
 -- a run of digits, read as a number
 abbrev pub number_at : List ℕ → Line ℕ
@@ -60,10 +65,10 @@ across_at bytes = number_at bytes >>= λ n. Some (across n.0, n.1)
 abbrev pub link_at : List ℕ → Line Link
 link_at [] = None
 link_at (c ∷ bytes) =
-    cond (c == 82) (Some (Some Root, bytes)) (
-    cond (c == 78) (Some (Some Next, bytes)) (
-    cond (c == 80) (Some (Some Prev, bytes)) (
-    cond (c == 67) (across_at bytes) None)))
+    cond (c == 82) (Some (Some Root, bytes))
+    (cond (c == 78) (Some (Some Next, bytes))
+    (cond (c == 80) (Some (Some Prev, bytes))
+    (cond (c == 67) (across_at bytes) None)))
 
 abbrev pub half_note : Option ℕ → Option Link → Option ℕ → Option HalfNote
 half_note label link rank = do
@@ -113,7 +118,8 @@ event_at bytes = numbered_at (codes "V ") bytes
 -- I for inside, O for outside
 abbrev pub side_at : List ℕ → Part Bool
 side_at [] = None
-side_at (c ∷ bytes) = cond (c == 73) (Some (true, bytes)) (cond (c == 79) (Some (false, bytes)) None)
+side_at (c ∷ bytes) =
+    cond (c == 73) (Some (true, bytes)) (cond (c == 79) (Some (false, bytes)) None)
 
 abbrev pub tube : Option ℕ → Bool → Option PointPlace
 tube None inside = None
@@ -173,7 +179,8 @@ counts_of edges events points = do
 abbrev pub if_level : Option ℕ → Option Counts → List ℕ → Line (ℕ × Counts)
 if_level None counts bytes = Some (None, bytes)
 if_level (Some level) None bytes = Some (None, bytes)
-if_level (Some level) (Some counts) bytes = cond (nat_lt level 256) (Some (Some (level, counts), bytes)) None
+if_level (Some level) (Some counts) bytes =
+    cond (nat_lt level 256) (Some (Some (level, counts), bytes)) None
 
 -- the line of the level and the counts
 unfoldable pub sizes_at : List ℕ → Line (ℕ × Counts)

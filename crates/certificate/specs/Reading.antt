@@ -1,11 +1,13 @@
 -- A certificate's text line by line, up to its first bad line.
-use Rattle.std.specs.Prelude.{◌≡◌, ℕ, zero, suc, ◌+◌, cond, nat_eq, List, [], ◌∷◌, length, Option, Some, None, Result, Ok, Err, ⊤}
+use Rattle.std.specs.Prelude.{◌≡◌, ℕ, zero, suc, ◌+◌, cond, nat_eq, List, [], ◌∷◌, length, Option}
+use Rattle.std.specs.Prelude.{Some, None, Result, Ok, Err, ⊤}
 use Rattle.certificate.specs.declared.notes.HalfNote.{HalfNote}
 use Rattle.certificate.specs.declared.notes.PointPlace.{PointPlace}
 use Rattle.certificate.specs.declared.fault.CertFault.{CertFault}
 use Rattle.certificate.specs.declared.fault.CertFault.TheVariants as faults
 use Rattle.certificate.specs.Spelling.{Plain}
-use Rattle.certificate.specs.Parts.{Line, Title, version_at, areas_at, title_at, sizes_at, event_at, edge_at, place_at, end_at}
+use Rattle.certificate.specs.Parts.{Line, Title, version_at, areas_at, title_at, sizes_at, event_at}
+use Rattle.certificate.specs.Parts.{edge_at, place_at, end_at}
 
 -- a text from the front of a line on, and that line's number
 pub record Text : Type 0 where
@@ -13,7 +15,8 @@ pub record Text : Type 0 where
   pub line : ℕ
 
 infixl 10 ◌>>=◌
-abbrev pub ◌>>=◌ : {A B : Type 0} → Result A CertFault → (A → Result B CertFault) → Result B CertFault
+abbrev pub ◌>>=◌ : {A B : Type 0} → Result A CertFault → (A → Result B CertFault)
+    → Result B CertFault
 (Ok x) >>= f = f x
 (Err e) >>= f = Err e
 
@@ -32,7 +35,8 @@ if_formed line (Some found) = if_spelt line found.0 found.1
 
 -- a line of a form, or its fault. The text ends too early where nothing is left of it
 abbrev pub line_of : {A : Type 0} → Text → Line A → Lines A
-line_of text found = cond (nat_eq (length text.rest) 0) (Err (faults.Short text.line)) (if_formed text.line found)
+line_of text found =
+    cond (nat_eq (length text.rest) 0) (Err (faults.Short text.line)) (if_formed text.line found)
 
 abbrev pub line_at : {A : Type 0} → (List ℕ → Line A) → Text → Lines A
 line_at form text = line_of text (form text.rest)
@@ -47,7 +51,15 @@ many_at one (suc n) text = do
 
 abbrev pub plain : Title → ℕ → List ℕ → List (HalfNote × HalfNote) → List PointPlace → Plain
 plain title level positions edges places =
-    record { topic = title.topic; table = title.table; attribute = title.attribute; level = level; positions = positions; edges = edges; places = places }
+    record {
+      topic = title.topic;
+      table = title.table;
+      attribute = title.attribute;
+      level = level;
+      positions = positions;
+      edges = edges;
+      places = places;
+    }
 
 -- the lines of a certificate
 unfoldable pub certificate_at : Text → Lines Plain

@@ -1,5 +1,6 @@
 -- The text of a list of certificates.
-use Rattle.std.specs.Prelude.{◌≡◌, ℕ, ◌^◌, ◌<◌, Bool, true, false, not, ◌&&◌, ◌==◌, List, [], ◌∷◌, ◌++◌, length, map, codes, ⊤}
+use Rattle.std.specs.Prelude.{◌≡◌, ℕ, ◌^◌, ◌<◌, Bool, true, false, not, ◌&&◌, ◌==◌, List, [], ◌∷◌}
+use Rattle.std.specs.Prelude.{◌++◌, length, map, codes, ⊤}
 use Rattle.std.specs.Fmt.{decimal}
 use Rattle.std.specs.List.{flat_map, AllByRecursion}
 use Rattle.certificate.specs.declared.notes.Link.{Link}
@@ -9,7 +10,8 @@ use Rattle.certificate.specs.declared.notes.PointPlace.{PointPlace}
 use Rattle.certificate.specs.declared.notes.PointPlace.TheVariants.{Cell, Tube}
 use Rattle.certificate.specs.declared.notes.Certificate.{Certificate}
 
--- a certificate without where it lies in memory: its names, its level, the position of each event, the notes below and above each edge, and the place of each point
+-- a certificate without where it lies in memory: its names, its level, the position of each event,
+-- the notes below and above each edge, and the place of each point
 pub record Plain : Type 0 where
   pub topic : List ℕ
   pub table : List ℕ
@@ -39,24 +41,36 @@ abbrev pub event_line : ℕ → List ℕ
 event_line position = line (codes "V" ∷ decimal position ∷ [])
 
 abbrev pub edge_line : HalfNote × HalfNote → List ℕ
-edge_line e = line (codes "E" ∷ decimal e.0.label ∷ link_word e.0.link ∷ decimal e.0.rank ∷ decimal e.1.label ∷ link_word e.1.link ∷ decimal e.1.rank ∷ [])
+edge_line e =
+    line (codes "E" ∷ decimal e.0.label ∷ link_word e.0.link ∷ decimal e.0.rank ∷ decimal e.1.label
+    ∷ link_word e.1.link ∷ decimal e.1.rank ∷ [])
 
 abbrev pub place_line : PointPlace → List ℕ
 place_line (Cell position) = line (codes "P" ∷ decimal position ∷ [])
-place_line (Tube curve inside) = line (codes "P" ∷ codes "T" ∷ decimal curve ∷ side_word inside ∷ [])
+place_line (Tube curve inside) =
+    line (codes "P" ∷ codes "T" ∷ decimal curve ∷ side_word inside ∷ [])
 
 abbrev pub title_line : Plain → List ℕ
 title_line c = line (codes "AREA" ∷ c.topic ∷ c.table ∷ c.attribute ∷ [])
 
 abbrev pub sizes_line : Plain → List ℕ
-sizes_line c = line (codes "SIZES" ∷ decimal c.level ∷ decimal (length c.edges) ∷ decimal (length c.positions) ∷ decimal (length c.places) ∷ [])
+sizes_line c =
+    line (codes "SIZES" ∷ decimal c.level ∷ decimal (length c.edges) ∷ decimal (length c.positions)
+    ∷ decimal (length c.places) ∷ [])
 
 abbrev pub certificate_text : Plain → List ℕ
-certificate_text c = title_line c ++ (sizes_line c ++ (flat_map event_line c.positions ++ (flat_map edge_line c.edges ++ (flat_map place_line c.places ++ line (codes "END" ∷ [])))))
+certificate_text c =
+    title_line c
+    ++ (sizes_line c
+    ++ (flat_map event_line c.positions
+    ++ (flat_map edge_line c.edges
+    ++ (flat_map place_line c.places ++ line (codes "END" ∷ [])))))
 
 -- the text of the list
 abbrev pub spelling : List Plain → List ℕ
-spelling cs = line (codes "ITFCERT" ∷ codes "1" ∷ []) ++ (line (codes "AREAS" ∷ decimal (length cs) ∷ []) ++ flat_map certificate_text cs)
+spelling cs =
+    line (codes "ITFCERT" ∷ codes "1" ∷ [])
+    ++ (line (codes "AREAS" ∷ decimal (length cs) ∷ []) ++ flat_map certificate_text cs)
 
 -- what a name may hold: neither blank nor LF
 abbrev pub is_name_byte : ℕ → Bool
@@ -98,6 +112,16 @@ pub record Fits (c : Plain) : Type 0 where
   pub edge_count : length c.edges < 2 ^ 32
   pub place_count : length c.places < 2 ^ 32
 
+-- what a certificate of the code needs so that it fits, as its numbers are in range by their types:
+-- three names, and each count below 2 ^ 32
+pub record HasNamesAndCounts (c : Plain) : Type 0 where
+  pub topic : IsName c.topic
+  pub table : IsName c.table
+  pub attribute : IsName c.attribute
+  pub position_count : length c.positions < 2 ^ 32
+  pub edge_count : length c.edges < 2 ^ 32
+  pub place_count : length c.places < 2 ^ 32
+
 abbrev pub AreSpelt : List Plain → Type 0
 AreSpelt cs = (length cs < 2 ^ 32) × AllByRecursion Fits cs
 
@@ -114,7 +138,16 @@ ArePaired (note ∷ []) = ⊥
 ArePaired (below ∷ above ∷ notes) = ArePaired notes
 
 abbrev pub view : Certificate → Plain
-view c = record { topic = c.topic; table = c.table; attribute = c.attribute; level = c.level; positions = c.positions.items; edges = pairs c.notes.items; places = c.places.items }
+view c =
+    record {
+      topic = c.topic;
+      table = c.table;
+      attribute = c.attribute;
+      level = c.level;
+      positions = c.positions.items;
+      edges = pairs c.notes.items;
+      places = c.places.items;
+    }
 
 abbrev pub views : List Certificate → List Plain
 views cs = map view cs

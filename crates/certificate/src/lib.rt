@@ -15,19 +15,23 @@
 //! - **`read`** gives the one list that the bytes spell, or the first bad line: `Short` where the
 //!   text ends before it, `Number` where it has its form but a number with a leading zero or one
 //!   above 4,294,967,295, `Line` where it has not its form. `specs/Parts.antt` has the forms.
+//! - **`numbers_fit`** says that a certificate has a spelling where it has three names and counts
+//!   below 2^32, so that `read` gives a list of fewer than 2^32 such back from its text.
 //! - **Degenerate cases.** The empty list has two lines. A last line without LF, a line after the
 //!   list, a level above 255, a version but 1 and an empty name are bad lines of the kind `Line`.
 //!   An empty text is short of line 1.
 //! - **Not here:** whether a certificate proves anything. A level of 200, names of no area and a
 //!   cycle of links are read and written like others.
-//! - **Cost.** Both calls are linear in the text. `read` grows its lists by the lines that come,
-//!   never by a count that the text promises, so time and memory are bounded by the text's length
-//!   whatever its counts say. A number is read digit by digit, whatever its length.
+//! - **Cost.** `read` and `write` are linear in the text, `numbers_fit` in the certificate, for
+//!   which it takes no memory. `read` grows its lists by the lines that come, never by a count
+//!   that the text promises, so time and memory are bounded by the text's length whatever its
+//!   counts say. A number is read digit by digit, whatever its length.
 //!
-//! The layer above may use the clauses of `read` and `write` and the two laws.
+//! The layer above may use the clauses of these three calls and the two laws.
 #![tactic(auto)]
 
 mod fault;
+mod fitting;
 mod forms;
 mod laws;
 mod lines;
@@ -40,6 +44,7 @@ mod words;
 mod writing;
 
 pub use fault::CertFault;
+pub use fitting::numbers_fit;
 pub use laws::{one_list, one_pairing};
 pub use notes::{Certificate, HalfNote, Link, PointPlace};
 pub use reading::read;
