@@ -1,7 +1,13 @@
--- Entries of lists, as a program looks them up and adds them.
+-- Entries of lists, as a program looks them up and adds them, and cases on the order of two numbers.
 use Rattle.std.proofs.Common.{◌≡◌, ℕ, zero, suc, ◌+◌, ◌<◌, ◌≤◌, List, [], ◌∷◌, ◌++◌, length, get_or, refl, arith, sym, subst}
 use Rattle.std.proofs.lemmas.List.{get_or_append_left, get_or-append-add}
-use Rattle.straight_predicates.proofs.Orders.{by_lt}
+
+-- x below y, or not
+pub by_lt : {P : Type 0} (x y : ℕ) → (x < y → P) → (y ≤ x → P) → P
+by_lt zero zero f g = g (omega arith)
+by_lt zero (suc y) f g = f (omega arith)
+by_lt (suc x) zero f g = g (omega arith)
+by_lt (suc x) (suc y) f g = by_lt x y (λ l. f (omega (arith, l))) (λ l. g (omega (arith, l)))
 
 -- an entry that is there does not depend on what stands for those that are not
 pub entry : {X : Type 0} (xs : List X) (k : ℕ) (y z : X) → k < length xs → get_or xs k y ≡ get_or xs k z

@@ -1,5 +1,6 @@
 -- The first edges of curves, counted one by one.
 use Rattle.std.proofs.Common.{◌≡◌, ℕ, zero, suc, ◌+◌, ◌*◌, ◌<◌, ◌≤◌, ◌^◌, List, [], ◌∷◌, length, get_or, refl, arith, ap, sym, ◌∙◌, subst}
+use Rattle.std.proofs.lemmas.List.{length-append}
 use Rattle.plane.specs.CurveRuns.TubedRuns as runs
 use Rattle.plane.specs.Rule.Curves.{arc}
 use Rattle.plane.specs.Rule.Plans.{Plan, curve}
@@ -7,7 +8,7 @@ use Rattle.plane.specs.Tubes.Bays.{Bay}
 use Rattle.plane.specs.declared.kinds.Curve.{Curve}
 use Rattle.plane.specs.declared.kinds.CurveKind.{CurveKind}
 use Rattle.plane.specs.declared.kinds.CurveKind.TheVariants as kind
-use Rattle.tubes.specs.Settled.{edges_at}
+use Rattle.tubes.specs.Settled.{HaveTubes, edges_at}
 use Rattle.tubes.specs.TubedEdges.{HasTube, bays_at, drawn_bays}
 use Rattle.tubes.proofs.ChainEdges.{bays_are}
 use Rattle.tubes.proofs.LevelEdges.{edge_count}
@@ -51,6 +52,27 @@ first_more bays z j (c ∷ cs) (suc i) l =
     later : (j i : ℕ) → suc j + i ≡ j + suc i
     later j i = omega arith
 
+-- the first edge behind all curves is the number of all edges
+first_behind : (bays : ℕ → List Bay) (j : ℕ) (cs : List Curve) → runs.first_edge bays j cs (length cs) ≡ length (runs.edge_list bays j cs)
+first_behind bays j [] = refl
+first_behind bays j (c ∷ cs) =
+    let r = first_behind bays (suc j) cs in
+    let s = length-append (runs.edges_of j c.kind c (bays j)) (runs.edge_list bays (suc j) cs) in
+    omega (arith, r, s)
+
+-- a curve has at most 129 edges up to level 5
+pub few_of_curve : (level k : ℕ) → level ≤ 5 → k ≡ 2 ^ (level + 1) → (2 * k + 1) ≤ 129
+few_of_curve level k l e = let p = most level l in omega (arith, p, e)
+  where
+    most : (level : ℕ) → level ≤ 5 → 2 ^ (level + 1) ≤ 64
+    most zero l = omega arith
+    most (suc zero) l = omega arith
+    most (suc (suc zero)) l = omega arith
+    most (suc (suc (suc zero))) l = omega arith
+    most (suc (suc (suc (suc zero)))) l = omega arith
+    most (suc (suc (suc (suc (suc zero))))) l = omega arith
+    most (suc (suc (suc (suc (suc (suc n)))))) l = absurd (omega (arith, l))
+
 module _ (d : Plan) (level : ℕ) where
   abbrev first : ℕ → ℕ
   first i = runs.first_edge (drawn_bays d level) 0 d.curves i
@@ -76,3 +98,10 @@ module _ (d : Plan) (level : ℕ) where
       let c = size i 0 (curve d i).kind (curve d i) (drawn_bays d level i) in
       let e = edge_count d level in
       omega (arith, a, b, c, e)
+
+  pub first_last : (i : ℕ) → i ≡ length d.curves → first i ≡ length (edges_at d level)
+  first_last i e = ap first e ∙ first_behind (drawn_bays d level) 0 d.curves ∙ sym (edge_count d level)
+
+  -- a curve of the list has its tube, if it is a half arc
+  pub known : (i : ℕ) → i < length d.curves → (c : Curve) → c ≡ curve d i → HaveTubes d level → c.kind ≡ kind.HalfArc → HasTube (arc c) level
+  known i l c e t = subst (λ (x : Curve). x.kind ≡ kind.HalfArc → HasTube (arc x) level) (sym e) (λ k. t i (record { there = l; kind = k }))

@@ -1,6 +1,7 @@
 pub mod PlaneLaws
 pub mod Runs
 pub mod Proving
+pub mod ProvedCounts
 pub mod OneFault
 pub mod ListParts
 pub mod Marking

@@ -6,7 +6,7 @@ use Rattle.plane.specs.Faces.Labels.{Labels, Match, first_label, last_label}
 use Rattle.plane.specs.declared.kinds.Point.{Point}
 use Rattle.plane.specs.Lists.{Has}
 use Rattle.plane.specs.Runs.Gaps.{edge_at, edge_before, first_or, last_or, over_label, under_label}
-use Rattle.straight_predicates.proofs.Orders.{by_lt}
+use Rattle.certificate_checker.proofs.Entries.{by_lt}
 use Rattle.certificate.specs.declared.notes.HalfNote.{HalfNote}
 use Rattle.straight_predicates.specs.EdgeLists.{AreBelow}
 use Rattle.certificate_checker.specs.Rules.{LabelsAt, SlopesAt, TurnLeft}

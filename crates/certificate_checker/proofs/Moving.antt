@@ -1,6 +1,5 @@
 -- One event of the replay.
-use Rattle.std.proofs.Common.{◌≡◌, ℕ, suc, ◌+◌, ◌-◌, ◌<◌, ◌≤◌, ◌^◌, inl, inr, Bool, Option, Some, None, List, [], ◌∷◌, ◌++◌, length, take, drop, get_or, arith, ap, sym, ◌∙◌, subst}
-use Rattle.std.proofs.lemmas.List.{length-append, length-drop, length-take-le}
+use Rattle.std.proofs.Common.{◌≡◌, ℕ, suc, ◌+◌, ◌<◌, ◌≤◌, ◌^◌, inl, inr, Bool, Option, Some, None, List, [], ◌∷◌, ◌++◌, length, take, drop, get_or, arith, ap, sym, ◌∙◌, subst}
 use Rattle.std.proofs.Math.Seq.{take-suc}
 use Rattle.plane.specs.Faces.Halves.{Half, over, under}
 use Rattle.plane.specs.Lists.{Has}
@@ -9,7 +8,7 @@ use Rattle.plane.specs.Runs.Moves.{no_move, live_from, step_of, steps_from}
 use Rattle.plane.specs.Runs.Steps.{after}
 use Rattle.plane.specs.Runs.Sweeps.{IsEventList}
 use Rattle.plane.specs.Runs.Timetables.{IsTimetable, move_at}
-use Rattle.straight_predicates.proofs.Orders.{by_lt}
+use Rattle.certificate_checker.proofs.Entries.{by_lt}
 use Rattle.straight_predicates.specs.EdgeLists.{AreBelow}
 use Rattle.half_edges.specs.HalfEdges.{HalfEdges}
 use Rattle.event_mesh.proofs.MovedEvents.{good_event, points_of_moves}
@@ -22,7 +21,7 @@ use Rattle.certificate_checker.specs.Progress.{AreMarkedTo, opened_at}
 use Rattle.certificate_checker.specs.Rules.{HasCounts, PassesEvent}
 use Rattle.certificate_checker.specs.Subjects.{Subject, edge, event, live_list, moves, position_at}
 use Rattle.certificate_checker.proofs.ListParts.{drop_twice, first_after, last_before}
-use Rattle.certificate_checker.proofs.PlaneLaws.{good_known, good_room, has_at, live_more}
+use Rattle.certificate_checker.proofs.PlaneLaws.{good_known, has_at, live_more}
 use Rattle.certificate_checker.proofs.Runs.{good_to, move_is, moves_size}
 
 module _ (s : Subject) (t : IsTimetable (length s.edges) (edge s) s.table) (n : HasCounts s) where

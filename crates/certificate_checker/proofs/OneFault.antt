@@ -1,13 +1,13 @@
 -- The first broken rule: it is broken, and there is one.
-use Rattle.std.proofs.Common.{◌≡◌, ℕ, ◌<◌, ◌≤◌, List, length, arith, ap, sym, ◌∙◌, subst}
+use Rattle.std.proofs.Common.{◌≡◌, ◌⊎◌, inl, inr, ℕ, ◌<◌, ◌≤◌, List, length, arith, ap, sym, ◌∙◌, subst}
 use Rattle.plane.specs.Faces.Halves.{half_of}
 use Rattle.plane.specs.Rule.Plans.{Plan}
 use Rattle.plane.specs.Runs.Timetables.{Timed}
-use Rattle.straight_predicates.proofs.Orders.{by_lt}
+use Rattle.certificate_checker.proofs.Entries.{by_lt}
 use Rattle.tubes.specs.Settled.{edge_at, edges_at}
 use Rattle.certificate_checker.specs.Subjects.{Claims, Subject, owned_of}
-use Rattle.certificate_checker.specs.Rules.{CornerAt, HasLabels, IsLinked, IsPointPlaced, PassesEvent}
-use Rattle.certificate_checker.specs.Verdicts.{AllRules, EventBroken, FirstBroken, IsBroken, IsTableOf, PassesTo, Proves, block, between, slopes, labels, counts, corner, event, labelled, placed, linked, unlisted, first, subject_of}
+use Rattle.certificate_checker.specs.Rules.{CornerAt, HasCounts, HasEdges, HasLabels, IsLinked, IsPointPlaced, PassesEvent}
+use Rattle.certificate_checker.specs.Verdicts.{AllRules, EventBroken, FirstBroken, HasSizes, IsBroken, IsTableOf, PassesTo, Proves, block, between, slopes, labels, counts, corner, event, labelled, placed, linked, sizes, first, subject_of}
 use Rattle.certificate_checker.proofs.PlaneLaws.{one_timetable}
 
 one_table : (d : Plan) (level : ℕ) (ts us : List Timed) → IsTableOf d level ts → IsTableOf d level us → ts ≡ us
@@ -95,14 +95,33 @@ unruled s rule place r (placed e l a f) = f (r.placed place l)
 unruled s rule place r (linked e l a f) = f (r.linked place l)
 
 -- ---- one drawing
+-- rule 2 is broken, or it holds
+counted : (s : Subject) (rule place : ℕ) → FirstBroken s rule place → ((rule ≡ 2) × (place ≡ 0)) ⊎ HasCounts s
+counted s rule place (counts e z f) = inl (e, z)
+counted s rule place (corner e l a f) = inr a.counts
+counted s rule place (event l a b) = inr a.counts
+counted s rule place (labelled g e l q a f) = inr a.passes.counts
+counted s rule place (placed e l a f) = inr a.labels.passes.counts
+counted s rule place (linked e l a f) = inr a.placed.labels.passes.counts
+
+sizes_of : (d : Plan) (c : Claims) (table : List Timed) → HasCounts (subject_of d c table) → HasSizes d c
+sizes_of d c table h = record { notes = h.notes; places = h.places }
+
+miscounts : (d : Plan) (c : Claims) (rule place : ℕ) (table : List Timed) → (HasEdges d c.level → HasSizes d c → ⊥) → FirstBroken (subject_of d c table) rule place → (rule ≡ 2) × (place ≡ 0)
+miscounts d c rule place table f b = by_counts (counted (subject_of d c table) rule place b)
+  where
+    by_counts : ((rule ≡ 2) × (place ≡ 0)) ⊎ HasCounts (subject_of d c table) → (rule ≡ 2) × (place ≡ 0)
+    by_counts (inl x) = x
+    by_counts (inr h) = absurd (f h.edges (sizes_of d c table h))
+
 pub one_broken : (d : Plan) (c : Claims) (m p n q : ℕ) → IsBroken d c m p → IsBroken d c n q → (m ≡ n) × (p ≡ q)
-one_broken d c m p n q (unlisted e z f) (unlisted g y h) = (e ∙ sym g, z ∙ sym y)
-one_broken d c m p n q (unlisted e z f) (first on table t b) = absurd (f on)
-one_broken d c m p n q (first on table t b) (unlisted g y h) = absurd (h on)
+one_broken d c m p n q (sizes e z f) (sizes g y h) = (e ∙ sym g, z ∙ sym y)
+one_broken d c m p n q (sizes e z f) (first on table t b) = let x = miscounts d c n q table f b in (e ∙ sym x.0, z ∙ sym x.1)
+one_broken d c m p n q (first on table t b) (sizes g y h) = let x = miscounts d c m p table h b in (x.0 ∙ sym g, x.1 ∙ sym y)
 one_broken d c m p n q (first on table t b) (first on' table' t' b') =
     same_fault (subject_of d c table') m p n q (subst (λ us. FirstBroken (subject_of d c us) m p) (one_table d c.level table table' t t') b) b'
 
 pub broken_unproved : (d : Plan) (c : Claims) (rule place : ℕ) → Proves d c → IsBroken d c rule place → ⊥
-broken_unproved d c rule place p (unlisted e z f) = f p.rules.counts.edges
+broken_unproved d c rule place p (sizes e z f) = f p.rules.counts.edges (sizes_of d c p.table p.rules.counts)
 broken_unproved d c rule place p (first on table t b) =
     unruled (subject_of d c table) rule place (subst (λ us. AllRules (subject_of d c us)) (one_table d c.level p.table table p.is_table t) p.rules) b

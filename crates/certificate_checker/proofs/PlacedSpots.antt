@@ -3,7 +3,7 @@ use Rattle.std.proofs.Common.{◌≡◌, ◌↔◌, ℕ, suc, ◌+◌, ◌<◌, 
 use Rattle.plane.specs.declared.kinds.Point.{Point}
 use Rattle.plane.specs.Faces.Halves.{Half}
 use Rattle.plane.specs.Forms.Vectors.{Before}
-use Rattle.straight_predicates.proofs.Orders.{by_lt}
+use Rattle.certificate_checker.proofs.Entries.{by_lt}
 use Rattle.certificate_checker.specs.declared.state.Spot.{Spot}
 use Rattle.certificate_checker.specs.InCells.{IsInStrip, IsNextEvent, IsSpotOf}
 use Rattle.certificate_checker.specs.Marked.{IsMarked}

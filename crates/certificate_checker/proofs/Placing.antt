@@ -1,7 +1,8 @@
 -- A point is placed exactly where the tests at its place of the live list say so.
 use Rattle.std.proofs.Common.{◌≡◌, ◌↔◌, ℕ, zero, suc, ◌-◌, ◌<◌, ◌≤◌, ◌⊎◌, ◌<ℤ◌, ◌≤ℤ◌, pos, inl, inr, Bool, false, cond, List, [], ◌∷◌, length, map, get_or, refl, arith, ap, sym, ◌∙◌, subst}
 use Rattle.std.proofs.lemmas.Int.{ints, by_lt_z}
-use Rattle.straight_predicates.proofs.Orders.{by_lt, int_equal}
+use Rattle.straight_predicates.proofs.Orders.{int_equal}
+use Rattle.certificate_checker.proofs.Entries.{by_lt}
 use Rattle.plane.specs.declared.kinds.Point.{Point}
 use Rattle.plane.specs.Faces.Halves.{AtBefore, Beside, Half, over, under}
 use Rattle.plane.specs.Faces.Replays.{no_step}

@@ -17,17 +17,21 @@ pub record IsFirst (P : ℕ → Type 0) (number n : ℕ) (b : Broken) : Type 0 w
   pub before : (i : ℕ) → i < b.place → P i
   pub broken : P b.place → ⊥
 
--- the mesh and the marks tell what lies beside each half-edge
-pub record HasEnded (s : Subject) (mesh : HalfEdges) (border across point : List Bool) : Type 0 where
+-- the mesh and the marks say what lies beside each half-edge
+pub record HasEnded (s : Subject) (mesh : HalfEdges)
+    (border across point : List Bool) : Type 0 where
   pub counts : HasCounts s
   pub size : size mesh ≡ 2 * length s.edges
-  pub next : (h g : Half) → edge_of h < length s.edges → (next_of mesh (number h) ≡ number g) ↔ Next (replay_of s) h g
+  pub next : (h g : Half) → edge_of h < length s.edges
+      → (next_of mesh (number h) ≡ number g) ↔ Next (replay_of s) h g
   pub borders : length border ≡ length s.claims.notes
   pub acrosses : length across ≡ length s.claims.notes
   pub points : length point ≡ length s.claims.notes
   pub at_border : (h : Half) → IsMarked border h ↔ Touches (replay_of s) h
-  pub is_across : (h : Half) (n : ℕ) → (note_at s h).link ≡ link.Across n → IsMarked across h → Across (replay_of s) h (half_of n)
-  pub across_is : (h : Half) (n : ℕ) → (note_at s h).link ≡ link.Across n → Across (replay_of s) h (half_of n) → (h ≡ half_of n) ⊎ IsMarked across h
+  pub is_across : (h : Half) (n : ℕ) → (note_at s h).link ≡ link.Across n → IsMarked across h
+      → Across (replay_of s) h (half_of n)
+  pub across_is : (h : Half) (n : ℕ) → (note_at s h).link ≡ link.Across n
+      → Across (replay_of s) h (half_of n) → (h ≡ half_of n) ⊎ IsMarked across h
   pub placed : (j : ℕ) → j < length s.points → IsPointPlaced s j
   pub at_point : (h : Half) → IsMarked point h ↔ ((j : ℕ) × (j < length s.points) × OfPoint s j h)
 
@@ -38,4 +42,5 @@ IsAtOwnTube s h = (j : ℕ) × (j < length s.points) × (mark (labels s) h ≡ s
 -- the marks and the note make the half-edge a root
 pub record IsMarkedRoot (s : Subject) (border point : List Bool) (h : Half) : Type 0 where
   pub rank : rank s h ≡ 0
-  pub marks : FacesTube s h ⊎ (IsMarked point h ⊎ (IsAtOwnTube s h ⊎ ((mark (labels s) h ≡ 0) × IsMarked border h)))
+  pub marks : FacesTube s h
+      ⊎ (IsMarked point h ⊎ (IsAtOwnTube s h ⊎ ((mark (labels s) h ≡ 0) × IsMarked border h)))

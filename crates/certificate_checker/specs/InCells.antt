@@ -1,5 +1,6 @@
 -- Points in the cells of the live list.
-use Rattle.std.specs.Prelude.{◌≡◌, ℕ, suc, ◌-◌, ◌<◌, pos, ◌<ℤ◌, Option, Some, None, List, length, get_or}
+use Rattle.std.specs.Prelude.{◌≡◌, ℕ, suc, ◌-◌, ◌<◌, pos, ◌<ℤ◌, Option, Some, None, List, length}
+use Rattle.std.specs.Prelude.{get_or}
 use Rattle.plane.specs.declared.kinds.Edge.{Edge}
 use Rattle.certificate.specs.declared.notes.HalfNote.{HalfNote}
 use Rattle.plane.specs.declared.kinds.Point.{Point}
@@ -21,7 +22,8 @@ pub record AreBothLabels (notes : List HalfNote) (d e label : ℕ) : Type 0 wher
   pub lower : (note_in notes (over d)).label ≡ label
   pub upper : (note_in notes (under e)).label ≡ label
 
--- Point j lies strictly between the edges of the live list on both sides of place i, and the labels between them are its own.
+-- Point j lies strictly between the edges of the live list on both sides of place i, and the labels
+-- between them are its own.
 pub record IsBetweenEdges (s : Subject) (live : List ℕ) (j i : ℕ) : Type 0 where
   pub some : 0 < i
   pub within : i < length live

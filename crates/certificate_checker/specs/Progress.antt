@@ -22,13 +22,15 @@ abbrev pub OfOpened : Subject → (Gap → Half → Type 0) → ℕ → Half →
 OfOpened s P k h = (j : ℕ) × (j < k) × OfSome P (opened_at s j) h
 
 -- exactly the half-edges of which P holds with such a gap are marked
-pub record AreMarkedTo (s : Subject) (P : Gap → Half → Type 0) (k : ℕ) (marks : List Bool) : Type 0 where
+pub record AreMarkedTo (s : Subject) (P : Gap → Half → Type 0) (k : ℕ)
+    (marks : List Bool) : Type 0 where
   pub size : length marks ≡ length s.claims.notes
   pub each : (h : Half) → IsMarked marks h ↔ OfOpened s P k h
 
--- The first k events pass; the live list is the one after them; the mesh is turned at them, and there is room for the half-edges of
--- each event.
-pub record IsMovedTo (s : Subject) (k : ℕ) (now : List ℕ) (most : ℕ) (mesh : HalfEdges) : Type 0 where
+-- The first k events pass; the live list is the one after them; the mesh is turned at them, and
+-- there is room for the half-edges of each event.
+pub record IsMovedTo (s : Subject) (k : ℕ) (now : List ℕ) (most : ℕ)
+    (mesh : HalfEdges) : Type 0 where
   pub passes : (j : ℕ) → j < k → PassesEvent s j
   pub live : now ≡ live_list s k
   pub fan : (j : ℕ) → j < length s.table → width (event s j) ≤ most
@@ -38,4 +40,5 @@ pub record HasReplayed (s : Subject) (k : ℕ) (state : State) : Type 0 where
   pub moved : IsMovedTo s k state.live (length state.fan.items) state.mesh
   pub border : AreMarkedTo s IsAtBorder k state.marks.border.items
   pub across : AreMarkedTo s (NamesAcross s.claims.notes) k state.marks.across.items
-  pub points : ArePlacedTo s k state.placing.next state.placing.bad state.placing.spots.items state.marks.point.items
+  pub points : ArePlacedTo s k state.placing.next state.placing.bad state.placing.spots.items
+      state.marks.point.items

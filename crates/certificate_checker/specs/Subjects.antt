@@ -1,5 +1,7 @@
--- What is judged: a drawing with its edges, what a certificate claims of them, and the replay that it tells.
-use Rattle.std.specs.Prelude.{ℕ, suc, ◌+◌, Bool, true, false, pos, cond, List, [], ◌∷◌, length, take, get_or}
+-- What is judged: a drawing with its edges, what a certificate claims of them, and the replay that
+-- it says.
+use Rattle.std.specs.Prelude.{ℕ, suc, ◌+◌, Bool, true, false, pos, cond, List, [], ◌∷◌, length}
+use Rattle.std.specs.Prelude.{take, get_or}
 use Rattle.plane.specs.declared.kinds.Edge.{Edge}
 use Rattle.plane.specs.declared.kinds.Placed.{Placed}
 use Rattle.plane.specs.declared.kinds.Point.{Point}
@@ -21,8 +23,8 @@ use Rattle.certificate.specs.declared.notes.Link.TheVariants as link
 use Rattle.certificate.specs.declared.notes.PointPlace.{PointPlace}
 use Rattle.certificate.specs.declared.notes.PointPlace.TheVariants as place
 
--- a certificate without its names: its level, the position of each event, the note of each half-edge by its number, the place of each
--- point
+-- a certificate without its names: its level, the position of each event, the note of each
+-- half-edge by its number, the place of each point
 pub record Claims : Type 0 where
   pub level : ℕ
   pub positions : List ℕ
@@ -30,9 +32,16 @@ pub record Claims : Type 0 where
   pub places : List PointPlace
 
 abbrev pub claims : Certificate → Claims
-claims c = record { level = c.level; positions = c.positions.items; notes = c.notes.items; places = c.places.items }
+claims c =
+    record {
+      level = c.level;
+      positions = c.positions.items;
+      notes = c.notes.items;
+      places = c.places.items;
+    }
 
--- a drawing, its edges and points by number, the timetable of the edges, and what is claimed of them
+-- a drawing, its edges and points by number, the timetable of the edges, and what is claimed of
+-- them
 pub record Subject : Type 0 where
   pub drawing : Plan
   pub edges : List Edge
@@ -41,7 +50,8 @@ pub record Subject : Type 0 where
   pub claims : Claims
 
 abbrev pub subject : Plan → List Edge → List Placed → List Timed → Certificate → Subject
-subject d edges points table c = record { drawing = d; edges = edges; points = points; table = table; claims = claims c }
+subject d edges points table c =
+    record { drawing = d; edges = edges; points = points; table = table; claims = claims c }
 
 -- ---- by number; beyond the last one nothing is meant
 abbrev pub edge : Subject → ℕ → Edge
@@ -73,7 +83,11 @@ rank s h = (note_at s h).rank
 
 -- the claimed label on each side of each edge
 abbrev pub labels_in : List HalfNote → Labels
-labels_in notes = record { below = λ e. (note_in notes (under e)).label; above = λ e. (note_in notes (over e)).label }
+labels_in notes =
+    record {
+      below = λ e. (note_in notes (under e)).label;
+      above = λ e. (note_in notes (over e)).label;
+    }
 
 abbrev pub labels : Subject → Labels
 labels s = labels_in s.claims.notes
@@ -109,7 +123,7 @@ first_of s false i = runs.first_edge (bays_of s) 0 s.drawing.curves i + length (
 abbrev pub side_label : Subject → Bool → ℕ → ℕ
 side_label s inside i = outside_label s (first_of s inside i)
 
--- ---- the replay that the claimed positions tell
+-- ---- the replay that the claimed positions say
 abbrev pub moves : Subject → List Move
 moves s = moves_at s.table s.claims.positions
 

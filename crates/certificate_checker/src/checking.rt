@@ -3,7 +3,9 @@ ghost use Rattle.std.specs.Prelude.{◌≡◌, ◌↔◌, ℕ, ◌<◌, ◌≤�
 ghost use Rattle.std.specs.Prelude.{false, length, replicate};
 ghost use Rattle.plane.specs.Rule.Partition.{IsPartition};
 ghost use Rattle.plane.specs.Rule.Plans.{plan};
+ghost use Rattle.plane.specs.Runs.Timetables.{IsTimetable};
 ghost use Rattle.straight_predicates.specs.EdgeEvents.{AreEventsOf};
+ghost use Rattle.straight_predicates.specs.EdgeLists.{edge_of};
 ghost use Rattle.straight_predicates.specs.Tables.{table_of};
 ghost use Rattle.tubes.specs.Settled.{IsSettledAt};
 ghost use Rattle.tubes.specs.TubedEdges.{AreUsable, IsTubedList};
@@ -14,12 +16,12 @@ ghost use Rattle.certificate_checker.specs.Progress.{HasReplayed};
 ghost use Rattle.certificate_checker.specs.Stops.{IsStop};
 ghost use Rattle.certificate_checker.specs.Rules.{HasCounts, HasEdges, HasLabels};
 ghost use Rattle.certificate_checker.specs.Subjects.{claims, subject};
-ghost use Rattle.certificate_checker.specs.Verdicts.{AllRules, FirstBroken, IsVerdict};
+ghost use Rattle.certificate_checker.specs.Verdicts.{AllRules, FirstBroken, HasSizes, IsVerdict};
 ghost use Rattle.certificate_checker.specs.declared.verdict.Verdict.TheVariants.{Proved};
 
 use super::case::Case;
 use super::edge_labels::judge_labels;
-use super::firsts::first_edges;
+use super::firsts::{edge_total, first_edges};
 use super::holding::held_points;
 use super::links::judge_links;
 use super::points::in_order;
@@ -36,7 +38,7 @@ use straight_predicates::{EdgeEvents, Row, Timetable};
 use tubes::{EdgeList, edge_list, facings, foreign_corner};
 
 /// Whether the certificate proves the drawing to be a partition, or else the first broken rule and
-/// its place. The only error is want of memory, which is also the answer to a drawing that has
+/// its place. The only error is out of memory, which is also the answer to a drawing that has
 /// 2^31 edges or more. Costs stand at the head of the crate.
 pub fn check(alloc: Global, drawing: &Drawing, certificate: &Certificate) -> Result<Verdict, Memory>
     ensures verdict { IfOk result (IsVerdict (plan drawing.now) (claims certificate.now)) }
@@ -57,10 +59,25 @@ fn judge_drawing(
     if certificate.level > 5 {
         return Ok(Verdict::NotProved { rule: 2, place: 0 });
     }
+    if !has_sizes(drawing, certificate) {
+        return Ok(Verdict::NotProved { rule: 2, place: 0 });
+    }
     match edge_list(alloc, drawing, certificate.level)? {
         None => Ok(Verdict::NotProved { rule: 2, place: 0 }),
         Some(list) => judge_list(alloc, drawing, &list, certificate),
     }
+}
+
+/// Whether there are two notes for each edge of the drawing at the level, and a place for each
+/// point. The edges are counted, and none is made: a short certificate that claims a high level
+/// costs little.
+fn has_sizes(drawing: &Drawing, certificate: &Certificate) -> bool
+    requires low { certificate.now.level ≤ 5 }
+    ensures { HasEdges (plan drawing.now) certificate.now.level
+        → (IsTrue result ↔ HasSizes (plan drawing.now) (claims certificate.now)) }
+{
+    certificate.places.len() == drawing.points.len()
+        && certificate.notes.len() == 2 * edge_total(drawing, certificate.level)
 }
 
 fn judge_list(
@@ -78,13 +95,32 @@ fn judge_list(
         return Err(Memory);
     }
     let table = Timetable::new(alloc, &list.edges)?;
-    if !has_counts(drawing, &list.edges, &table, certificate) {
+    judge_table(alloc, drawing, list, &table, certificate)
+}
+
+/// The rules from the second on, by the timetable of the edges.
+fn judge_table(
+    alloc: Global,
+    drawing: &Drawing,
+    list: &EdgeList,
+    table: &Timetable,
+    certificate: &Certificate,
+) -> Result<Verdict, Memory>
+    requires low { certificate.now.level ≤ 5 }
+    requires few { length list.now.edges.items < 2 ^ 31 }
+    requires list { IsTubedList (plan drawing.now) certificate.now.level list.now }
+    requires usable { AreUsable (plan drawing.now) list.now.edges.items }
+    requires table { IsTimetable (length list.now.edges.items) (edge_of list.now.edges.items)
+        (table_of table.now) }
+    ensures { IfOk result (IsVerdict (plan drawing.now) (claims certificate.now)) }
+{
+    if !has_counts(drawing, &list.edges, table, certificate) {
         return Ok(Verdict::NotProved { rule: 2, place: 0 });
     }
     let of = table.edge_events(alloc, &list.edges)?;
     match foreign_corner(alloc, drawing, list, &of.low, &of.high, table.events())? {
         Some(place) => Ok(Verdict::NotProved { rule: 3, place }),
-        None => judge_events(alloc, drawing, list, &table, &of, certificate),
+        None => judge_events(alloc, drawing, list, table, &of, certificate),
     }
 }
 
@@ -144,13 +180,32 @@ fn judge_case(alloc: Global, case: &Case, of: &EdgeEvents) -> Result<Verdict, Me
     ensures { IfOk result (IsVerdict (judged case.now).drawing (judged case.now).claims) }
 {
     let mut state = begin(alloc, case, of)?;
-    match judge(case, &mut state) {
+    verdict_of(case, judge(case, &mut state))
+}
+
+/// The verdict by how the check of the case ends.
+fn verdict_of(case: &Case, end: Result<(), Stop>) -> Result<Verdict, Memory>
+    requires fit { IsFit case.now }
+    requires proved { OnOk end (AllRules (judged case.now)) }
+    requires stop { IfErr end (IsStop (judged case.now)) }
+    ensures { IfOk result (IsVerdict (judged case.now).drawing (judged case.now).claims) }
+{
+    let _ = case;
+    match end {
         Ok(()) => Ok(Verdict::Proved),
-        Err(Stop::Broken(broken)) => Ok(Verdict::NotProved {
-            rule: broken.rule,
-            place: broken.place,
-        }),
-        Err(Stop::Memory) => Err(Memory),
+        Err(stop) => broken_by(case, stop),
+    }
+}
+
+fn broken_by(case: &Case, stop: Stop) -> Result<Verdict, Memory>
+    requires fit { IsFit case.now }
+    requires stop { IsStop (judged case.now) stop }
+    ensures { IfOk result (IsVerdict (judged case.now).drawing (judged case.now).claims) }
+{
+    let _ = case;
+    match stop {
+        Stop::Broken(Broken { rule, place }) => Ok(Verdict::NotProved { rule, place }),
+        Stop::Memory => Err(Memory),
     }
 }
 
@@ -161,24 +216,18 @@ fn begin(alloc: Global, case: &Case, of: &EdgeEvents) -> Result<State, Memory>
         of.now.high.items }
     ensures { IfOk result (HasReplayed (judged case.now) 0) }
 {
-    let size = case.certificate.notes.len();
+    let fan = half_edges(alloc, case.table.widest())?;
+    let placing = in_order(alloc, case.points)?;
+    let marks = no_marks(alloc, case.certificate.notes.len())?;
     let mesh = mesh_of(alloc, case.table.events(), &of.low, &of.high)?;
     let live = Row::new(alloc);
-    let fan = half_edges(alloc, case.table.widest())?;
-    let border = no_marks(alloc, size)?;
-    let across = no_marks(alloc, size)?;
-    let point = no_marks(alloc, size)?;
-    let placing = in_order(alloc, case.points)?;
+    let ending = Vec::new(alloc);
     Ok(State {
         live,
-        ending: Vec::new(alloc),
+        ending,
         mesh,
         fan,
-        marks: Marks {
-            border,
-            across,
-            point,
-        },
+        marks,
         placing,
     })
 }
@@ -191,8 +240,21 @@ fn half_edges(alloc: Global, size: usize) -> Result<Vec<HalfEdgeId>, Memory>
     Ok(fan)
 }
 
-/// So many half-edges, none of which is marked.
-fn no_marks(alloc: Global, size: usize) -> Result<Vec<bool>, Memory>
+/// The marks of so many half-edges, none of which is marked.
+fn no_marks(alloc: Global, size: usize) -> Result<Marks, Memory>
+    ensures border { IfOk result (λ marks. marks.border.items ≡ replicate size false) }
+    ensures across { IfOk result (λ marks. marks.across.items ≡ replicate size false) }
+    ensures point { IfOk result (λ marks. marks.point.items ≡ replicate size false) }
+{
+    Ok(Marks {
+        border: unmarked(alloc, size)?,
+        across: unmarked(alloc, size)?,
+        point: unmarked(alloc, size)?,
+    })
+}
+
+/// One mark for each half-edge, which none has.
+fn unmarked(alloc: Global, size: usize) -> Result<Vec<bool>, Memory>
     ensures { IfOk result (λ marks. marks.items ≡ replicate size false) }
 {
     let marks = vec![in alloc; false; size]?;

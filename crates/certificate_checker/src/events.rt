@@ -93,7 +93,7 @@ fn is_between(edges: &[Edge], live: &Row<u32>, at: Point, position: usize, endin
     requires block { position + ending ≤ length live.now }
     ensures { IsTrue result ↔ IsBetween (edge_of edges.now) live.now at position ending }
 {
-    // The place behind the block is no greater than the length, which fits its type.
+    // The place after the block is no greater than the length, which fits its type.
     let _length = live.len();
     is_over(edges, live, position, at) && is_under(edges, live, position + ending, at)
 }

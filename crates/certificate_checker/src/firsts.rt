@@ -29,12 +29,26 @@ pub fn first_edges(alloc: Global, drawing: &Drawing, level: u8) -> Result<Vec<u3
     Ok(firsts)
 }
 
-/// How many edges stand for the curve.
+/// How many edges the drawing has at the level where all its half arcs have tubes. None is made.
+pub fn edge_total(drawing: &Drawing, level: u8) -> usize
+    requires level { level ≤ 5 }
+    ensures total { HaveTubes (plan drawing.now) level
+        → result ≡ length (edges_at (plan drawing.now) level) }
+    ensures few { result < 2 ^ 38 }
+{
+    let mut total = 0;
+    for i in 0..drawing.curves.len() {
+        total += edge_count(&drawing.curves[i], level) as usize;
+    }
+    total
+}
+
+/// How many edges stand for the curve where it has a tube, if it is a half arc.
 fn edge_count(curve: &Curve, level: u8) -> u32
     requires level { level ≤ 5 }
-    requires tube { curve.now.kind ≡ kind.HalfArc → HasTube (arc curve.now) level }
-    ensures { result ≡ length (edges_of 0 curve.now.kind curve.now
-        (bays_at (arc curve.now) level)) }
+    ensures count { (curve.now.kind ≡ kind.HalfArc → HasTube (arc curve.now) level)
+        → result ≡ length (edges_of 0 curve.now.kind curve.now (bays_at (arc curve.now) level)) }
+    ensures few { result ≤ 129 }
 {
     match curve.kind {
         CurveKind::Straight => 1,

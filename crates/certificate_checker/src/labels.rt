@@ -9,7 +9,7 @@ use certificate::HalfNote;
 use straight_predicates::{Row, edge_at, edge_before};
 
 /// Whether the label over each of the new neighbours is that under the next one: from the edge
-/// before the block over the starting edges to the one behind it, with 0 at the border.
+/// before the block over the starting edges to the one after it, with 0 at the border.
 pub fn labels_match(
     notes: &[HalfNote],
     live: &Row<u32>,
@@ -25,7 +25,7 @@ pub fn labels_match(
         (over_label (labels_in notes.now) (edge_before live.now position)) starting.now
         (under_label (labels_in notes.now) (edge_at live.now (position + ending))) }
 {
-    // The place behind the block is no greater than the length, which fits its type.
+    // The place after the block is no greater than the length, which fits its type.
     let _length = live.len();
     let lower = edge_before(live, position);
     let upper = edge_at(live, position + ending);

@@ -1,5 +1,5 @@
 // Laws of certificates: what one proves, and that its first broken rule is one.
-ghost use Rattle.std.specs.Prelude.{◌≡◌, ℕ};
+ghost use Rattle.std.specs.Prelude.{◌≡◌, ℕ, ◌^◌, ◌<◌, ◌≤◌, length};
 ghost use Rattle.plane.specs.Rule.Partition.{IsPartition};
 ghost use Rattle.plane.specs.Rule.Plans.{Plan};
 ghost use Rattle.tubes.specs.Settled.{IsSettledAt};
@@ -17,7 +17,7 @@ pub fn proves_settled()
     ensures { (d : Plan) (c : Claims) → Proves d c → IsSettledAt d c.level }
 {}
 
-/// Claims that tell a complete run with tubes, and labels, places and links that certify it, prove
+/// Claims that give a complete run with tubes, and labels, places and links that certify it, prove
 /// the drawing.
 pub fn certified_claims_prove()
     ensures { (d : Plan) (c : Claims) → Certifies d c → Proves d c }
@@ -35,3 +35,18 @@ pub fn one_fault()
     ensures place { (d : Plan) (c : Claims) (m p n q : ℕ)
         → IsBroken d c m p → IsBroken d c n q → p ≡ q }
 {}
+
+/// Claims that prove a drawing have a level of at most 5 and a place for each point. Of at most
+/// 16,000,000 curves they have fewer than 2^32 notes and positions, so that each count can stand
+/// in a text of certificates.
+pub fn proved_counts()
+    ensures level { (d : Plan) (c : Claims) → Proves d c → c.level ≤ 5 }
+    ensures positions { (d : Plan) (c : Claims) → Proves d c → length d.curves ≤ 16000000
+        → length c.positions < 2 ^ 32 }
+    ensures notes { (d : Plan) (c : Claims) → Proves d c → length d.curves ≤ 16000000
+        → length c.notes < 2 ^ 32 }
+    ensures places { (d : Plan) (c : Claims) → Proves d c
+        → length c.places ≡ length d.points }
+{
+    tubes::laws::few_edges();
+}

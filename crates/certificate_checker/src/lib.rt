@@ -14,29 +14,31 @@
 //!   number of points; 9 the cell of each point, or the tube that holds it and its side of the
 //!   circle; 10 the link of each half-edge. They are judged in this order, 4 to 7 event by event.
 //!   The place of rule 8 is the curve of the first edge that has not the labels it needs.
-//! - **How.** The edges of the drawing at the certificate's level tell its events; the certificate
-//!   tells where each stands in the live list. The replay keeps the list, turns the mesh of events,
+//! - **How.** The edges of the drawing at the certificate's level give its events; the certificate
+//!   says where each stands in the live list. The replay keeps the list, turns the mesh of events,
 //!   marks each half-edge that was beside a border, across a cell from the one that its note names,
 //!   or beside a placed point, and looks at each point when the events before it are done. That the
 //!   list is in order is never tested and never assumed: it follows when all events have passed.
 //!   Whether a tube holds a point that is placed there is asked before the replay, of a tube that
 //!   is made for it.
 //! - **The laws** (`laws`): what is proved is a partition, and settled at its level; claims that
-//!   tell a run with tubes and what certifies it prove; what is broken is not proved; there is one
+//!   give a run with tubes and what certifies it prove; what is broken is not proved; there is one
 //!   first broken rule.
 //! - **Not here.** The names in a certificate are not read. This crate stands on no sweep, face or
 //!   search.
 //! - **Degenerate cases.** No curve, no point, upright and equal straights, many in one point,
 //!   points at corners, on lines and on half arcs, half arcs without a tube, a level above 5, links
 //!   to half-edges and places in curves that are not there, and counts that do not fit. From 2^31
-//!   edges on half-edges have no numbers of 32 bits: then the answer is want of memory. Drawings of
+//!   edges on half-edges have no numbers of 32 bits: then the answer is out of memory. Drawings of
 //!   at most 16,000,000 curves have fewer (`tubes::laws::few_edges`).
 //!
-//! Cost: O((m + p) log (m + p)) for m edges and p points, and what the live list moves: at each
-//! event one block of it, 8,192 edges at most, and a step over each block before the place
-//! (`straight_predicates::Row`). A half arc has 2^(level + 2) + 1 edges. For each point
-//! that is placed in a tube that tube is made and freed again. About 130 bytes an edge, 4 a
-//! curve and 25 a point are taken at the start; the replay takes up to 8 a live edge.
+//! Cost: a certificate whose edges or points are not as many as the drawing's is answered by
+//! counting the curves, before any edge or tube is made. Any other takes O((m + p) log (m + p))
+//! for m edges and p points, and what the live list moves: at each event one block of it, 8,192
+//! edges at most, and a step over each block before the place (`straight_predicates::Row`). A half
+//! arc has 2^(level + 2) + 1 edges. For each point that is placed in a tube that tube is made and
+//! freed again. About 130 bytes an edge, 4 a curve and 25 a point are taken at the start; the
+//! replay takes up to 8 a live edge.
 #![tactic(auto)]
 
 mod case;

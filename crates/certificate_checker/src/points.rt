@@ -33,7 +33,7 @@ fn key(spot: &Spot) -> (i64, i64)
     (spot.at.x, spot.at.y)
 }
 
-/// The points by x, then y, none of which was passed. The only error is want of memory.
+/// The points by x, then y, none of which was passed. The only error is out of memory.
 pub fn in_order(alloc: Global, points: &[Placed]) -> Result<Placing, Memory>
     requires few { length points.now < 2 ^ 30 }
     ensures spots { IfOk result (λ p. AreSpots points.now p.spots.items) }

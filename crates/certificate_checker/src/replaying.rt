@@ -126,7 +126,7 @@ fn mark_event(case: &Case, event: u32, live: &Row<u32>, border: &mut [bool], acr
     let ending = case.table.ending(event).len();
     let starting = case.table.starting(event);
 
-    // The place behind the block is no greater than the length, which fits its type.
+    // The place after the block is no greater than the length, which fits its type.
     let _length = live.len();
     let lower = edge_before(live, position);
     let upper = edge_at(live, position + ending);

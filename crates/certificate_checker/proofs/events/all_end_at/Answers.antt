@@ -1,4 +1,4 @@
-use Rattle.std.proofs.Common.{◌≡◌, ℕ, IsTrue, false, rules, arith}
+use Rattle.std.proofs.Common.{◌≡◌, ℕ, IsTrue, false, rules}
 use Rattle.straight_predicates.specs.EdgeLists.{edge_of}
 use Rattle.certificate_checker.proofs.ListParts.{granted, refused, unfit}
 use Rattle.certificate_checker.proofs.PartEnds.{in_part, part_all, part_more}

@@ -1,4 +1,4 @@
-use Rattle.std.proofs.Common.{IsTrue, rules, arith, ap, length, ◌∙◌, ◌+◌, ◌-◌, ◌*◌, ◌<◌}
+use Rattle.std.proofs.Common.{IsTrue, rules, arith, ap, length, ◌∙◌, ◌-◌}
 use Rattle.certificate_checker.proofs.ListParts.{one_note}
 use Rattle.certificate_checker.proofs.points.is_in_cell.Goals as goal
 

@@ -1,0 +1,5 @@
+use Rattle.certificate_checker.proofs.Judging.{case_proves}
+use Rattle.certificate_checker.proofs.checking.verdict_of.Goals as goal
+
+pub returns-in-Ok : goal.returns-in-Ok
+returns-in-Ok c = case_proves c.args.case.now c.requires.fit (rw c.in-Ok.is at c.requires.proved)
