@@ -1,20 +1,20 @@
 -- The half arcs of a drawing by number, the boxes of points and half arcs, and their marks, as the lists grow.
-use Rattle.std.proofs.Common.{◌≡◌, ◌↔◌, ◌⊎◌, inl, inr, ℕ, ◌+◌, ◌-◌, ◌<◌, ◌≤◌, Bool, true, false, IsTrue, List, [], ◌∷◌, ◌++◌, length, get_or, arith, refl, ap, sym, ◌∙◌, subst, All}
+use Rattle.std.proofs.Common.{◌≡◌, ◌↔◌, ℕ, ◌+◌, ◌<◌, ◌≤◌, Bool, true, false, IsTrue, List, [], ◌∷◌, ◌++◌, length, get_or, arith, refl, ap, sym, ◌∙◌, subst}
 use Rattle.std.proofs.lemmas.List.{length-append, get_or_append_left}
 use Rattle.std.proofs.Math.Seq.{get_or-append_seam}
 use Rattle.std.proofs.lemmas.Int.{ints}
-use Rattle.plane.specs.Forms.Boxes.{Box, HoldsCurve, InBox}
+use Rattle.plane.specs.Forms.Boxes.{HoldsCurve, InBox}
 use Rattle.plane.specs.Rule.Places.{point}
 use Rattle.plane.specs.Rule.Plans.{Plan, curve, object}
 use Rattle.plane.specs.declared.kinds.Curve.{Curve}
 use Rattle.plane.specs.declared.kinds.CurveKind.TheVariants as kind
 use Rattle.plane.specs.declared.kinds.Placed.{Placed}
 use Rattle.plane.specs.declared.kinds.Point.{Point}
-use Rattle.straight_predicates.proofs.Orders.{by_lt}
-use Rattle.near_pairs.specs.Boxes.{box_of, mark_of, no_reach, reach_of}
+use Rattle.near_pairs.specs.Boxes.{box_of, no_reach}
 use Rattle.near_pairs.specs.declared.reaches.Reach.{Reach}
 use Rattle.tubes.specs.DrawnEdges.{nth_curve}
 use Rattle.area_search.specs.CurvePoints.{AreArcBoxes, AreArcsTo, AreMarkedFrom, ArePointBoxes, placed_at}
+use Rattle.area_search.proofs.Small.{by_lt}
 
 abbrev arc_of : List ℕ → ℕ → ℕ
 arc_of arcs m = get_or arcs m 0

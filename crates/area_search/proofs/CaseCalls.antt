@@ -7,7 +7,6 @@ use Rattle.faces.specs.Ranking.{AreNotes, AreRooted, no_note}
 use Rattle.certificate.specs.declared.notes.HalfNote.{HalfNote}
 use Rattle.line_sweep.specs.declared.kinds.Cell.{Cell}
 use Rattle.line_sweep.specs.Kinds.{gap_of, gaps_of}
-use Rattle.line_sweep.proofs.CellGaps.{gap_has}
 use Rattle.plane.specs.CurveRuns.FacedTubes.{faced}
 use Rattle.plane.specs.Faces.Halves.{number}
 use Rattle.plane.specs.Lists.{Has}
@@ -32,6 +31,7 @@ use Rattle.area_search.proofs.ListPlaces.{at_has, before_has}
 use Rattle.area_search.proofs.PlaneLaws.{run_known}
 use Rattle.area_search.proofs.TubedLaws.{owner_is as owned_is}
 use Rattle.area_search.proofs.TubeSides.{owner_count, owner_is}
+use Rattle.area_search.proofs.CellSideLemmas.{nth_cell}
 
 -- ---- the cells of a sweep
 small_side : (n : ℕ) (gs : List Gap) → AreKnown n gs → n < 2 ^ 32 → (g : Gap) → Has g gs → (o : Option ℕ) → (g.lower ≡ o) ⊎ (g.upper ≡ o) → IsSmall o
@@ -40,7 +40,7 @@ small_side n gs known few g h (Some e) q = let k = known g e h q in omega (arith
 
 pub small_cells : (n : ℕ) (cells : List Cell) → AreKnown n (gaps_of cells) → n < 2 ^ 32 → (k : ℕ) (c : Cell) → k < length cells → IsSmallCell (slice_index_or cells k c)
 small_cells n cells known few k c l =
-    let h = gap_has cells k c l in
+    let h = nth_cell cells k c l in
     let g = gap_of (slice_index_or cells k c) in
     (small_side n (gaps_of cells) known few g h (slice_index_or cells k c).lower (inl refl), small_side n (gaps_of cells) known few g h (slice_index_or cells k c).upper (inr refl))
 

@@ -19,7 +19,7 @@ use Rattle.area_search.specs.Cases.{IsCase}
 use Rattle.area_search.specs.declared.case_sides.Beside.{Beside}
 use Rattle.area_search.specs.CaseSides.{IsBeside, IsBesideKind, IsFaceOn, edges_of_kind, first_at}
 use Rattle.area_search.specs.Sides.{IsOnSide}
-use Rattle.area_search.proofs.PlaneLaws.{arc_length, group_fits, inner_owner, no_curve, outer_owner, run_edges, straight_edge}
+use Rattle.area_search.proofs.PlaneLaws.{arc_length, group_fits, no_curve, run_edges, straight_edge}
 use Rattle.area_search.proofs.CaseEdges.{bay_count as tube_bays, edges_size, list_size}
 
 pub small_power : (l : ℕ) → l ≤ 5 → (2 * 2 ^ l) % 2 ^ 32 ≡ 2 ^ (l + 1)
@@ -30,10 +30,6 @@ small_power (suc (suc (suc zero))) h = refl
 small_power (suc (suc (suc (suc zero)))) h = refl
 small_power (suc (suc (suc (suc (suc zero))))) h = refl
 small_power (suc (suc (suc (suc (suc (suc l)))))) h = absurd (omega (arith, h))
-
-pub power_some : (l : ℕ) → 0 < 2 ^ l
-power_some zero = omega arith
-power_some (suc l) = (let k = power_some l in omega (arith, k))
 
 pub no_first : (bays : ℕ → List Bay) (j : ℕ) (cs : List Curve) → first_edge bays j cs 0 ≡ 0
 no_first bays j [] = refl
@@ -50,6 +46,23 @@ first_next bays j (c ∷ cs) zero n l e =
 first_next bays j (c ∷ cs) (suc i) n l e =
     let r = first_next bays (suc j) cs i n (omega (arith, l)) (omega (arith, e)) in
     omega (arith, r)
+
+-- The first edges of the two chains of half arc i's tube are there, of the curve, and of their chains.
+pub record AreFirstOfArc (d : Plan) (level i : ℕ) : Type 0 where
+  pub inner_there : first_at d level i < length (edges_at d level)
+  pub inner_curve : (owned_at d level (first_at d level i)).curve ≡ i
+  pub inner_part : (owned_at d level (first_at d level i)).part ≡ inner
+  pub outer_there : (first_at d level i + length (drawn_bays d level i)) < length (edges_at d level)
+  pub outer_curve : (owned_at d level (first_at d level i + length (drawn_bays d level i))).curve ≡ i
+  pub outer_part : (owned_at d level (first_at d level i + length (drawn_bays d level i))).part ≡ outer
+
+-- from what the law of the tubes' chains says
+pub arc_first : (d : Plan) (level i : ℕ)
+    → (first_at d level i < length (edges_at d level)) × ((owned_at d level (first_at d level i)).curve ≡ i) × ((owned_at d level (first_at d level i)).part ≡ inner)
+    → ((first_at d level i + length (drawn_bays d level i)) < length (edges_at d level)) × ((owned_at d level (first_at d level i + length (drawn_bays d level i))).curve ≡ i)
+    × ((owned_at d level (first_at d level i + length (drawn_bays d level i))).part ≡ outer)
+    → AreFirstOfArc d level i
+arc_first d level i (l, c, p) (m, e, q) = record { inner_there = l; inner_curve = c; inner_part = p; outer_there = m; outer_curve = e; outer_part = q }
 
 module _ (d : Plan) (level : ℕ) (edges : List Edge) (owners : List Owner) (facings : List Facing) (vs : List Move) (is : IsCase d level edges owners facings vs) where
   abbrev bays : ℕ → List Bay
@@ -104,32 +117,6 @@ module _ (d : Plan) (level : ℕ) (edges : List Edge) (owners : List Owner) (fac
         part = subst (λ (e : ℕ). (owned_at d level e).part ≡ whole) q x.4;
       }
 
-  -- ---- half arcs
-  pub record AreFirstOfArc (i : ℕ) : Type 0 where
-    pub inner_there : first_at d level i < m
-    pub inner_curve : (owned_at d level (first_at d level i)).curve ≡ i
-    pub inner_part : (owned_at d level (first_at d level i)).part ≡ inner
-    pub outer_there : (first_at d level i + length (bays i)) < m
-    pub outer_curve : (owned_at d level (first_at d level i + length (bays i))).curve ≡ i
-    pub outer_part : (owned_at d level (first_at d level i + length (bays i))).part ≡ outer
-
-  pub arc_first : (i : ℕ) → IsHalfArc d i → AreFirstOfArc i
-  arc_first i h =
-      let f = edges_fit i h.there in
-      let k : edges_of_kind (curve d i).kind level ≡ 2 * 2 ^ (level + 1) + 1 = ap (λ (t : CurveKind). edges_of_kind t level) h.kind in
-      let n = bay_size i h in
-      let p = power_some (level + 1) in
-      let a = inner_owner d bays m E (steps_from [] vs) is.settled.run i h.there h.kind (first_at d level i) (omega arith, omega (arith, n, p)) in
-      let b = outer_owner d bays m E (steps_from [] vs) is.settled.run i h.there h.kind (first_at d level i + length (bays i)) (omega arith, omega arith) in
-      record {
-        inner_there = omega (arith, f, k, p);
-        inner_curve = a.0;
-        inner_part = a.1;
-        outer_there = omega (arith, f, k, n, p);
-        outer_curve = b.0;
-        outer_part = b.1;
-      }
-
   -- ---- a curve of the list, and the number of its first edge
   module _ (c : Curve) (i first : ℕ) (l : i < length d.curves) (q : c ≡ curve d i) (f : first ≡ first_at d level i) where
     straight_is : c.kind ≡ kind.Straight → IsStraight d i
@@ -146,20 +133,20 @@ module _ (d : Plan) (level : ℕ) (edges : List Edge) (owners : List Owner) (fac
         subst (λ (xs : List Edge). IsEdgeOf (edge_of xs first) c) (sym (g ∙ is.edges_are))
         (subst (λ (n : ℕ). IsEdgeOf (E n) c) (sym f) (subst (λ (x : Curve). IsEdgeOf (E (first_at d level i)) x) (sym q) (straight_first i (straight_is e)).edge))
 
-    pub inner_there : c.kind ≡ kind.HalfArc → first < length edges
-    inner_there e = let a = (arc_first i (arc_is e)).inner_there in let b = edges_size d level edges owners facings vs is in omega (arith, a, b, f)
+    pub inner_there : (IsHalfArc d i → AreFirstOfArc d level i) → c.kind ≡ kind.HalfArc → first < length edges
+    inner_there t e = let a = (t (arc_is e)).inner_there in let b = edges_size d level edges owners facings vs is in omega (arith, a, b, f)
 
-    pub inner_is : c.kind ≡ kind.HalfArc → IsOfTube (owned_at d level first).part
-    inner_is e = subst (λ (n : ℕ). IsOfTube (owned_at d level n).part) (sym f) (subst IsOfTube (sym (arc_first i (arc_is e)).inner_part) tt)
+    pub inner_is : (IsHalfArc d i → AreFirstOfArc d level i) → c.kind ≡ kind.HalfArc → IsOfTube (owned_at d level first).part
+    inner_is t e = subst (λ (n : ℕ). IsOfTube (owned_at d level n).part) (sym f) (subst IsOfTube (sym (t (arc_is e)).inner_part) tt)
 
     pub outer_at : (k : ℕ) → k ≡ 2 ^ (level + 1) → c.kind ≡ kind.HalfArc → first + k ≡ first_at d level i + length (bays i)
     outer_at k h e = let a = bay_size i (arc_is e) in omega (arith, a, h, f)
 
-    pub outer_there : (k : ℕ) → k ≡ 2 ^ (level + 1) → c.kind ≡ kind.HalfArc → (first + k) < length edges
-    outer_there k h e = let a = (arc_first i (arc_is e)).outer_there in let b = edges_size d level edges owners facings vs is in let n = outer_at k h e in omega (arith, a, b, n)
+    pub outer_there : (IsHalfArc d i → AreFirstOfArc d level i) → (k : ℕ) → k ≡ 2 ^ (level + 1) → c.kind ≡ kind.HalfArc → (first + k) < length edges
+    outer_there t k h e = let a = (t (arc_is e)).outer_there in let b = edges_size d level edges owners facings vs is in let n = outer_at k h e in omega (arith, a, b, n)
 
-    pub outer_is : (k : ℕ) → k ≡ 2 ^ (level + 1) → c.kind ≡ kind.HalfArc → IsOfTube (owned_at d level (first + k)).part
-    outer_is k h e = subst (λ (n : ℕ). IsOfTube (owned_at d level n).part) (sym (outer_at k h e)) (subst IsOfTube (sym (arc_first i (arc_is e)).outer_part) tt)
+    pub outer_is : (IsHalfArc d i → AreFirstOfArc d level i) → (k : ℕ) → k ≡ 2 ^ (level + 1) → c.kind ≡ kind.HalfArc → IsOfTube (owned_at d level (first + k)).part
+    outer_is t k h e = subst (λ (n : ℕ). IsOfTube (owned_at d level n).part) (sym (outer_at k h e)) (subst IsOfTube (sym (t (arc_is e)).outer_part) tt)
 
     pub next_is : (n : ℕ) → n ≡ edges_of_kind c.kind level → first + n ≡ first_at d level (i + 1)
     next_is n h =

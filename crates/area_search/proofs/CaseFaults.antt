@@ -35,7 +35,7 @@ use Rattle.area_search.specs.PointFaces.{IsFirstOutside, IsOver}
 use Rattle.area_search.specs.Sides.{IsOnSide, IsUnowned, back, forth, half_over}
 use Rattle.area_search.proofs.PlaneLaws.{above_empty, below_empty, edge_twin, edge_within, faces_to, inside_empty, never, not_faced, number_below, outside_empty, owner_is, run_faces, run_weight}
 use Rattle.area_search.proofs.RunFaces.{face_in}
-use Rattle.area_search.proofs.CaseCurves.{arc_first, straight_first, straight_only}
+use Rattle.area_search.proofs.CaseCurves.{AreFirstOfArc, straight_first, straight_only}
 use Rattle.area_search.proofs.CaseFaces.{alone, fs, fs_size, nth_spot_face, own_face}
 use Rattle.area_search.proofs.CaseSpots.{cell_in}
 use Rattle.area_search.proofs.TurnedCrossings.{crosses_forth, crosses_turned}
@@ -52,7 +52,7 @@ inward_other true = refl
 inward_other false = refl
 
 module _ (d : Plan) (level : ℕ) (edges : List Edge) (owners : List Owner) (facings : List Facing) (vs : List Move) (is : IsCase d level edges owners facings vs)
-    (spots : List Spot) (placed : ArePlacedOff d level vs spots) (mesh : HalfEdges) (n : ℕ) (f : HasRunFaces d level vs mesh n) where
+    (spots : List Spot) (placed : ArePlacedOff d level vs spots) (mesh : HalfEdges) (n : ℕ) (f : HasRunFaces d level vs mesh n) (chains : (i : ℕ) → IsHalfArc d i → AreFirstOfArc d level i) where
   abbrev m : ℕ
   m = length (edges_at d level)
 
@@ -217,18 +217,18 @@ module _ (d : Plan) (level : ℕ) (edges : List Edge) (owners : List Owner) (fac
     twin_there x l = subst (λ (e : ℕ). e < m) (sym (edge_twin (half_within d (drawn_bays d level) E x) ∙ edge_within d (drawn_bays d level) E x)) l
 
     pub inner_known : inner_face i < n
-    inner_known = known (twin (half_within d (drawn_bays d level) E (first_at d level i))) (twin_there (first_at d level i) (arc_first d level edges owners facings vs is i h).inner_there)
+    inner_known = known (twin (half_within d (drawn_bays d level) E (first_at d level i))) (twin_there (first_at d level i) (chains i h).inner_there)
 
     pub outer_known : outer_face i < n
     outer_known =
-        known (twin (half_within d (drawn_bays d level) E (first_at d level i + length (drawn_bays d level i)))) (twin_there (first_at d level i + length (drawn_bays d level i)) (arc_first d level edges owners facings vs is i h).outer_there)
+        known (twin (half_within d (drawn_bays d level) E (first_at d level i + length (drawn_bays d level i)))) (twin_there (first_at d level i + length (drawn_bays d level i)) (chains i h).outer_there)
 
     pub inner_same : (e : ℕ) → e < m → (owned_at d level e).curve ≡ i → (owned_at d level e).part ≡ inner → face (twin (half_within d (drawn_bays d level) E e)) ≡ inner_face i
-    inner_same e l o p = (let a = arc_first d level edges owners facings vs is i h in tube_faces.inner_chain e (first_at d level i) l a.inner_there p a.inner_part (o ∙ sym a.inner_curve))
+    inner_same e l o p = (let a = chains i h in tube_faces.inner_chain e (first_at d level i) l a.inner_there p a.inner_part (o ∙ sym a.inner_curve))
 
     pub outer_same : (e : ℕ) → e < m → (owned_at d level e).curve ≡ i → (owned_at d level e).part ≡ outer → face (twin (half_within d (drawn_bays d level) E e)) ≡ outer_face i
     outer_same e l o p =
-        (let a = arc_first d level edges owners facings vs is i h in tube_faces.outer_chain e (first_at d level i + length (drawn_bays d level i)) l a.outer_there p a.outer_part (o ∙ sym a.outer_curve))
+        (let a = chains i h in tube_faces.outer_chain e (first_at d level i + length (drawn_bays d level i)) l a.outer_there p a.outer_part (o ∙ sym a.outer_curve))
 
   -- ---- the faces of the points
   over_known : (o : Option ℕ) → IsOver m o → face_over mesh.face o < n

@@ -1,9 +1,9 @@
 -- The two sides of each cell, and the run of a level's edges whose cells pair.
-use Rattle.std.proofs.Common.{◌≡◌, ◌↔◌, ◌⊎◌, inl, inr, Bool, true, false, IsTrue, ℕ, zero, suc, ◌^◌, ◌<◌, ◌≤◌, Some, List, [], ◌∷◌, length, map, get_or, refl, sym, ap, subst, ◌∙◌, arith, pos}
+use Rattle.std.proofs.Common.{◌≡◌, ◌↔◌, ◌⊎◌, inl, inr, Bool, true, false, IsTrue, ℕ, zero, suc, ◌*◌, ◌^◌, ◌<◌, ◌≤◌, Some, List, [], ◌∷◌, length, map, get_or, refl, sym, ap, subst, ◌∙◌, arith, pos}
 use Rattle.line_sweep.specs.Kinds.{gap_of, gaps_of}
 use Rattle.line_sweep.specs.declared.kinds.Cell.{Cell}
 use Rattle.plane.specs.CurveRuns.FacedTubes.{AreCellsPaired, faced}
-use Rattle.plane.specs.CurveRuns.Levels.{IsSettledDrawing}
+use Rattle.plane.specs.CurveRuns.Levels.{AreWide, IsSettledDrawing}
 use Rattle.plane.specs.CurveRuns.TubedRuns as runs
 use Rattle.plane.specs.Faces.Halves.{Half, over, under, edge_of as half_edge}
 use Rattle.plane.specs.Faces.Replays.{replay}
@@ -13,15 +13,12 @@ use Rattle.plane.specs.Runs.Gaps.{AtBorder, Gap, GapBetween, closed_gaps}
 use Rattle.plane.specs.Runs.Moves.{Fit, Move, steps_from}
 use Rattle.plane.specs.Runs.Steps.{Run}
 use Rattle.plane.specs.declared.kinds.Edge.{Edge}
-use Rattle.plane.specs.declared.kinds.Point.{Point}
 use Rattle.straight_predicates.specs.EdgeLists.{edge_of}
-use Rattle.tubes.specs.Settled.{AreFacings, IsOwnCorner, edge_at, edges_at}
+use Rattle.tubes.specs.Settled.{AreFacings, IsSettledAt, edge_at, edges_at, owned_at}
 use Rattle.tubes.specs.TubedEdges.{IsTubedList, drawn_bays, owner_as}
 use Rattle.tubes.specs.declared.kinds.EdgeList.{EdgeList}
 use Rattle.tubes.specs.declared.kinds.Facing.{Facing}
 use Rattle.tubes.specs.declared.kinds.Owner.{Owner}
-use Rattle.tubes.proofs.LevelEdges.{few_edges, owner_within}
-use Rattle.tubes.proofs.SettledLevels.{level_settled, tubed_run, wide}
 use Rattle.area_search.specs.Answers.{IsLeastLevel}
 use Rattle.area_search.specs.CaseNotes.{tag_at}
 use Rattle.area_search.specs.CaseRoots.{owner_at}
@@ -31,12 +28,12 @@ use Rattle.area_search.proofs.PlaneLaws.{across_gap, closed_edges, paired_settle
 use Rattle.area_search.proofs.TubeSides.{owner_count, owner_is, tag_is}
 
 -- ---- cells by number
-module _ (facings : List Facing) (owners : List Owner) where
-  pub nth_cell : (cells : List Cell) (k : ℕ) (x : Cell) → k < length cells → Has (gap_of (get_or cells k x)) (gaps_of cells)
-  nth_cell [] k x l = absurd (omega (arith, l))
-  nth_cell (c ∷ cells) zero x l = inl refl
-  nth_cell (c ∷ cells) (suc k) x l = inr (nth_cell cells k x (omega (arith, l)))
+pub nth_cell : (cells : List Cell) (k : ℕ) (x : Cell) → k < length cells → Has (gap_of (get_or cells k x)) (gaps_of cells)
+nth_cell [] k x l = absurd (omega (arith, l))
+nth_cell (c ∷ cells) zero x l = inl refl
+nth_cell (c ∷ cells) (suc k) x l = inr (nth_cell cells k x (omega (arith, l)))
 
+module _ (facings : List Facing) (owners : List Owner) where
   pub all_cells : (cells : List Cell) → ((k : ℕ) (x : Cell) → k < length cells → IsPaired facings owners (gap_of (get_or cells k x))) → ArePaired facings owners (gaps_of cells)
   all_cells [] h g m = absurd m
   all_cells (c ∷ cells) h g (inl e) = subst (IsPaired facings owners) (sym e) (h 0 c (omega arith))
@@ -86,20 +83,19 @@ module _ (d : Plan) (level : ℕ) (facings : List Facing) (told : AreFacings d l
       by_gap g h (inr (inr b)) = sym (between h g b)
 
 -- ---- level 0
+-- The tubes are wide, the run is one with tubes, and a settled run settles the level: as the law of settled levels says.
 module _ (d : Plan) (list : EdgeList) (t : IsTubedList d 0 list) (facings : List Facing) (told : AreFacings d 0 facings) (vs : List Move) (fit : Fit [] vs)
-    (run : Run (length list.edges.items) (edge_of list.edges.items) (steps_from [] vs)) (own : (p : Point) → IsOwnCorner d 0 p) (paired : ArePaired facings list.owners.items (closed_gaps vs)) where
-  own_run : Run (length (edges_at d 0)) (edge_at d 0) (steps_from [] vs)
-  own_run = subst (λ (es : List Edge). Run (length es) (edge_of es) (steps_from [] vs)) t.edges run
-
+    (wide : AreWide d (drawn_bays d 0)) (tubed : runs.IsTubedRun d (drawn_bays d 0) (length list.edges.items) (edge_of list.edges.items) (steps_from [] vs))
+    (level_settled : IsSettledDrawing d (drawn_bays d 0) (length (edges_at d 0)) (edge_at d 0) (steps_from [] vs) → IsSettledAt d 0) (paired : ArePaired facings list.owners.items (closed_gaps vs)) where
   own_tubes : runs.IsTubedRun d (drawn_bays d 0) (length (edges_at d 0)) (edge_at d 0) (steps_from [] vs)
-  own_tubes = subst (λ (es : List Edge). runs.IsTubedRun d (drawn_bays d 0) (length es) (edge_of es) (steps_from [] vs)) t.edges (tubed_run d 0 list (steps_from [] vs) t own run)
+  own_tubes = subst (λ (es : List Edge). runs.IsTubedRun d (drawn_bays d 0) (length es) (edge_of es) (steps_from [] vs)) t.edges tubed
 
   settled : IsSettledDrawing d (drawn_bays d 0) (length (edges_at d 0)) (edge_at d 0) (steps_from [] vs)
   settled = record {
     run = own_tubes;
-    wide = wide d 0 t.tubes;
-    settled = paired_settle d (drawn_bays d 0) (length (edges_at d 0)) (edge_at d 0) (steps_from [] vs) own_tubes (wide d 0 t.tubes) (pos 0)
-        (cells_paired d 0 facings told list.owners.items t.owners vs fit own_run paired);
+    wide = wide;
+    settled = paired_settle d (drawn_bays d 0) (length (edges_at d 0)) (edge_at d 0) (steps_from [] vs) own_tubes wide (pos 0)
+        (cells_paired d 0 facings told list.owners.items t.owners vs fit own_tubes.run paired);
   }
 
   pub is_case : IsCase d 0 list.edges.items list.owners.items facings vs
@@ -116,20 +112,21 @@ module _ (d : Plan) (list : EdgeList) (t : IsTubedList d 0 list) (facings : List
   pub is_least : IsLeastLevel d 0
   is_least = record {
     low = omega arith;
-    settled = level_settled d 0 (steps_from [] vs) t.tubes settled;
+    settled = level_settled settled;
     least = λ l h s. absurd (omega (arith, h));
   }
 
 -- ---- the owners of edges have curves of the drawing
-pub curves_below : (d : Plan) (list : EdgeList) (facings : List Facing) → AreFacings d 0 facings → IsTubedList d 0 list → length d.curves < 2 ^ 30 → (e : ℕ) → e < length list.owners.items → (owner_at list.owners.items e).curve < 2 ^ 30
-curves_below d list facings told t few e l =
+pub curves_below : (d : Plan) (list : EdgeList) (facings : List Facing) → AreFacings d 0 facings → IsTubedList d 0 list → length d.curves < 2 ^ 30
+    → ((e : ℕ) → e < length (edges_at d 0) → (owned_at d 0 e).curve < length d.curves) → (e : ℕ) → e < length list.owners.items → (owner_at list.owners.items e).curve < 2 ^ 30
+curves_below d list facings told t few within e l =
     let k : e < length (edges_at d 0) = (let q = owner_count d 0 facings told list.owners.items t.owners in omega (arith, l, q)) in
     let o = ap (λ (x : Owner). x.curve) (owner_is d 0 facings told list.owners.items t.owners e k) in
-    let c = owner_within d 0 e k in
+    let c = within e k in
     omega (arith, o, c, few)
 
-pub few_of : (d : Plan) (list : EdgeList) → IsTubedList d 0 list → length d.curves ≤ 16000000 → length list.edges.items < 2147483648
-few_of d list t few = let f = few_edges d 0 (omega arith) t.tubes in let q = ap length t.edges in omega (arith, f, q, few)
+pub few_of : (d : Plan) (list : EdgeList) → IsTubedList d 0 list → length (edges_at d 0) ≤ (129 * length d.curves) → length d.curves ≤ 16000000 → length list.edges.items < 2147483648
+few_of d list t f few = let q = ap length t.edges in omega (arith, f, q, few)
 
 -- ---- answers of tests
 pub refused : {P : Type 0} → (P → ⊥) → IsTrue false ↔ P

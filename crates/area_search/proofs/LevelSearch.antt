@@ -1,18 +1,38 @@
 -- The least level that settles a drawing, and its edges there as a case.
-use Rattle.std.proofs.Common.{◌≡◌, ◌↔◌, ◌⊎◌, inl, inr, ℕ, ◌+◌, ◌*◌, ◌<◌, ◌≤◌, ◌^◌, Bool, true, false, not, IsTrue, Option, Some, None, List, [], length, arith, refl, ap, sym, ◌∙◌, subst}
+use Rattle.std.proofs.Common.{◌≡◌, ◌↔◌, ◌⊎◌, inl, inr, ℕ, ◌+◌, ◌*◌, ◌<◌, ◌≤◌, ◌^◌, Bool, true, false, not, IsTrue, Option, Some, None, List, length, arith, refl, ap, ◌∙◌, subst}
 use Rattle.std.specs.Option.{is_some}
 use Rattle.std.specs.Prelude.{IfSome}
 use Rattle.plane.specs.Forms.Meets.{Bad, Disjoint, Touch}
-use Rattle.plane.specs.Rule.Plans.{Plan}
+use Rattle.plane.specs.Rule.BadPairs.{IsBadPair}
+use Rattle.plane.specs.Rule.Plans.{Plan, curve}
+use Rattle.plane.specs.declared.kinds.Curve.{Curve}
+use Rattle.plane.specs.declared.kinds.CurveKind.{CurveKind}
+use Rattle.plane.specs.declared.kinds.CurveKind.TheVariants as kind
 use Rattle.plane.specs.declared.kinds.Edge.{Edge}
+use Rattle.meetings.specs.CurvePairs.{AreBothStraight, IsArcPair}
 use Rattle.line_sweep.specs.Kinds.{AreBad}
-use Rattle.straight_predicates.proofs.Orders.{by_lt}
-use Rattle.straight_predicates.specs.EdgeLists.{edge_of}
 use Rattle.level_breaks.specs.declared.pairs.LevelBreak.{LevelBreak}
 use Rattle.tubes.specs.Settled.{Breaks, IsFirstBreak, IsSettledAt, edge_at, edges_at}
 use Rattle.tubes.specs.declared.kinds.EdgeList.{EdgeList}
 use Rattle.area_search.specs.Answers.{AreClear, IsAnswer, IsLeastLevel, undecided}
 use Rattle.area_search.specs.declared.kinds.AreaAnswer.TheVariants.{Undecided}
+use Rattle.area_search.proofs.Small.{by_lt}
+
+-- ---- pairs of straights, and pairs with a half arc
+by_kind : {P : Type 0} (c : Curve) → (c.kind ≡ kind.Straight → P) → (c.kind ≡ kind.HalfArc → P) → P
+by_kind {P} c f g = by c.kind f g
+  where
+    by : (k : CurveKind) → (k ≡ kind.Straight → P) → (k ≡ kind.HalfArc → P) → P
+    by kind.Straight f g = f refl
+    by kind.HalfArc f g = g refl
+
+pub none_of_both : (d : Plan) → ((i j : ℕ) → AreBothStraight (curve d i) (curve d j) → IsBadPair d i j → ⊥) → ((i j : ℕ) → IsArcPair d i j → ⊥) → (i j : ℕ) → IsBadPair d i j → ⊥
+none_of_both d f g i j p =
+    by_kind (curve d i)
+    (λ (s : (curve d i).kind ≡ kind.Straight). by_kind (curve d j)
+    (λ (t : (curve d j).kind ≡ kind.Straight). f i j (s, t) p)
+    (λ (t : (curve d j).kind ≡ kind.HalfArc). g i j (record { pair = p; half_arc = inr t })))
+    (λ (s : (curve d i).kind ≡ kind.HalfArc). g i j (record { pair = p; half_arc = inl s }))
 
 -- ---- one level
 module _ (d : Plan) (level : ℕ) (unbroken : (i j : ℕ) → IsSettledAt d level → Breaks d level i j → ⊥) where

@@ -23,7 +23,7 @@ use Rattle.point_location.specs.Replaying.{IsApplied}
 use Rattle.straight_predicates.specs.EdgeEvents.{IsNoted}
 use Rattle.area_search.specs.declared.meshing.Noted.{Noted}
 use Rattle.area_search.specs.Meshing.{HasNoted, IsWidest, NotesStep, ended_at, width}
-use Rattle.area_search.proofs.PlaneLaws.{before_trans, begin, can_turn, events_apart, fits_at, half_number, move_is, moves_size, never, number_below, part_is, room, run_events, run_good, sorted_once, step_is, steps_length}
+use Rattle.area_search.proofs.PlaneLaws.{before_trans, events_apart, fits_at, half_number, move_is, moves_size, never, number_below, part_is, room, run_events, run_good, sorted_once, step_is, steps_length}
 
 -- the event of that number is a move
 pub event_of : (events : List Event) (k : ℕ) (v : Event) → k < length events → v ≡ get_or events k v → (k < length (moves_of events)) × (get_or (moves_of events) k no_move ≡ move_of v)
@@ -181,8 +181,10 @@ module _ (m : ℕ) (E : ℕ → Edge) (vs : List Move) (run : Run m E (steps_fro
               never (E e).high (subst (λ p. Before p (E e).high) (sym (at_low e b).point ∙ ap (λ (i : ℕ). (nth_step steps i).at) q ∙ (at_high e b).point) (run.edges e b));
         }
 
-    pub none_turned : (mesh : HalfEdges) → IsMeshOf (length vs) noted.low.items noted.high.items (length noted.low.items) mesh → IsTurned m E (steps_from [] vs) mesh 0
-    none_turned mesh is =
+    pub none_turned : ((E : ℕ → Edge) (steps : List Step) (events : ℕ) (low high : List ℕ) (mesh : HalfEdges) → IsMeshOf events low high (length low) mesh
+        → ((e : ℕ) → e < length low → IsEventAt steps (slice_index low e) (E e).low) → ((e : ℕ) → e < length low → IsEventAt steps (slice_index high e) (E e).high) → IsTurned (length low) E steps mesh 0)
+        → (mesh : HalfEdges) → IsMeshOf (length vs) noted.low.items noted.high.items (length noted.low.items) mesh → IsTurned m E (steps_from [] vs) mesh 0
+    none_turned begin mesh is =
         let a = has.low_count in
         subst (λ (n : ℕ). IsTurned n E (steps_from [] vs) mesh 0) a
         (begin E steps (length vs) noted.low.items noted.high.items mesh is (λ e l. at_low e (omega (arith, l, a))) (λ e l. at_high e (omega (arith, l, a))))
@@ -270,10 +272,12 @@ module _ (m : ℕ) (E : ℕ → Edge) (events : List Event) (run : Run m E (step
         (subst (λ (ls : List ℕ). AreEnds (length (moves_of events)) ls high) (sym b)
         (subst (λ (hs : List ℕ). AreEnds (length (moves_of events)) noted.low.items hs) (sym c) (noted_ends m E (moves_of events) run noted all_noted)))
 
-    pub listed_mesh : (n : ℕ) (low high : List ℕ) (mesh : HalfEdges) → n ≡ length events → low ≡ noted.low.items → high ≡ noted.high.items → IsMeshOf n low high (length low) mesh
+    pub listed_mesh : ((E : ℕ → Edge) (steps : List Step) (events : ℕ) (low high : List ℕ) (mesh : HalfEdges) → IsMeshOf events low high (length low) mesh
+        → ((e : ℕ) → e < length low → IsEventAt steps (slice_index low e) (E e).low) → ((e : ℕ) → e < length low → IsEventAt steps (slice_index high e) (E e).high) → IsTurned (length low) E steps mesh 0)
+        → (n : ℕ) (low high : List ℕ) (mesh : HalfEdges) → n ≡ length events → low ≡ noted.low.items → high ≡ noted.high.items → IsMeshOf n low high (length low) mesh
         → IsTurned m E (steps_from [] (moves_of events)) mesh 0
-    listed_mesh n low high mesh a b c is =
-        none_turned m E (moves_of events) run noted all_noted mesh
+    listed_mesh begin n low high mesh a b c is =
+        none_turned m E (moves_of events) run noted all_noted begin mesh
         (subst (λ (hs : List ℕ). IsMeshOf (length (moves_of events)) noted.low.items hs (length noted.low.items) mesh) c
         (subst (λ (ls : List ℕ). IsMeshOf (length (moves_of events)) ls high (length ls) mesh) b
         (subst (λ (k : ℕ). IsMeshOf k low high (length low) mesh) (a ∙ sym (moves_size events)) is)))
@@ -301,9 +305,11 @@ module _ (m : ℕ) (E : ℕ → Edge) (events : List Event) (run : Run m E (step
             event_is m E (moves_of events) run fit k at.0 (move_of v) at.1 noted.ended.items from within rest starting (take ((from + v.ending) - from) (drop from ended)) a
             (part_is ended from v.ending ∙ ap (λ (es : List ℕ). take v.ending (drop from es)) b)
 
-        pub can_turn_event : (mesh : HalfEdges) → IsTurned m E (steps_from [] (moves_of events)) mesh k → CanTurn mesh starting (take ((from + v.ending) - from) (drop from ended))
-        can_turn_event mesh t =
-            can_turn m E (steps_from [] (moves_of events)) (run_events m E (steps_from [] (moves_of events)) run) mesh k t starting (take ((from + v.ending) - from) (drop from ended)) is_event (omega (arith, few))
+        pub can_turn_event : ((n : ℕ) (F : ℕ → Edge) (steps : List Step) (mesh : HalfEdges) (j : ℕ) (starting ending : List ℕ)
+            → n ≤ 2 ^ 31 → IsEventList n F (points_of steps) → IsTurned n F steps mesh j → IsEvent n F steps j starting ending → CanTurn mesh starting ending)
+            → (mesh : HalfEdges) → IsTurned m E (steps_from [] (moves_of events)) mesh k → CanTurn mesh starting (take ((from + v.ending) - from) (drop from ended))
+        can_turn_event can mesh t =
+            can m E (steps_from [] (moves_of events)) mesh k starting (take ((from + v.ending) - from) (drop from ended)) (omega (arith, few)) (run_events m E (steps_from [] (moves_of events)) run) t is_event
 
         pub has_room : (room : ℕ) → IsWidest (moves_of events) (length events) room → length starting + length (take ((from + v.ending) - from) (drop from ended)) ≤ room
         has_room room w =

@@ -13,7 +13,6 @@ pub use Rattle.plane.proofs.MoveLemmas.MadeSteps.{list_is}
 pub use Rattle.plane.proofs.MoveLemmas.MadeSteps.{never, step_is}
 pub use Rattle.plane.proofs.Worked.SquareTimetable.{run_events}
 pub use Rattle.event_mesh.proofs.Apart.{events_apart}
-pub use Rattle.event_mesh.proofs.TurnedEvents.{begin, can_turn}
 pub use Rattle.straight_predicates.proofs.NotedEvents.{one_noted}
 pub use Rattle.point_location.proofs.Replays.{applied_next, block_fits, move_is, moves_size, part_is}
 pub use Rattle.plane.proofs.MoveLemmas.OneTimetable.{before_trans}
@@ -26,7 +25,6 @@ pub use Rattle.plane.proofs.Settling.RunFaces.{run_faces}
 pub use Rattle.plane.proofs.Settling.BlankLabels.{paired_settle, settled_apart}
 pub use Rattle.plane.proofs.Settling.RunLevels.{run_edges}
 pub use Rattle.plane.proofs.Covers.NotApart.{bad_not_apart}
-pub use Rattle.plane.proofs.TubedRuns.ArcEdges.{inner_owner, outer_owner}
 pub use Rattle.plane.proofs.TubedRuns.EdgeNumbers.{arc_length, group_fits}
 pub use Rattle.plane.proofs.TubedRuns.OwnedEdges.{no_curve, owner_is, straight_edge}
 pub use Rattle.plane.proofs.TubedRuns.FacedTubes.{edge_within, edge_twin, not_faced}

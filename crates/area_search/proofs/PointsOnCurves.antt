@@ -1,5 +1,5 @@
 -- The least point on a straight, on a half arc, and on a curve of any kind.
-use Rattle.std.proofs.Common.{◌≡◌, ◌↔◌, ◌⊎◌, inl, inr, ℕ, ◌+◌, ◌-◌, ◌<◌, ◌≤◌, Bool, true, false, IsTrue, Option, Some, None, List, [], ◌∷◌, length, get_or, map, pos, slice_index, slice_index_or, arith, refl, ap, sym, ◌∙◌, subst, All}
+use Rattle.std.proofs.Common.{◌≡◌, ◌⊎◌, inl, inr, ℕ, ◌+◌, ◌-◌, ◌<◌, ◌≤◌, Bool, Option, Some, None, List, [], length, get_or, map, pos, slice_index, slice_index_or, arith, refl, ap, sym, ◌∙◌, subst, All}
 use Rattle.std.proofs.lemmas.Int.{ints}
 use Rattle.std.proofs.lemmas.List.{length-map}
 use Rattle.plane.specs.Forms.Boxes.{Box, HoldsCurve, InBox}
@@ -20,10 +20,9 @@ use Rattle.plane.specs.declared.kinds.Point.{Point}
 use Rattle.point_location.specs.Places.{ArePlaces, IsCell, IsPlaceOf, no_place}
 use Rattle.point_location.specs.declared.places.Place.{Place}
 use Rattle.point_location.specs.declared.places.Place.TheVariants as place
-use Rattle.straight_predicates.proofs.Orders.{by_lt}
 use Rattle.straight_predicates.proofs.WindowEdges.{inside_close}
 use Rattle.straight_predicates.specs.EdgeLists.{IsCloseToAll, edge_of, no_point}
-use Rattle.near_pairs.specs.Boxes.{AreNear, ShareAPlace, box_of, mark_of, reach_of}
+use Rattle.near_pairs.specs.Boxes.{AreNear, box_of, reach_of}
 use Rattle.near_pairs.specs.LeastPairs.{IsLeastPair, IsLess}
 use Rattle.near_pairs.specs.declared.pairs.NearPair.{NearPair}
 use Rattle.near_pairs.specs.declared.reaches.Reach.{Reach}
@@ -31,13 +30,13 @@ use Rattle.meetings.specs.CurvePairs.{IsJudgedOn}
 use Rattle.meetings.specs.PlacedCurves.{IsPlacedWith}
 use Rattle.meetings.specs.StraightEdges.{AreStraightsTo}
 use Rattle.meetings.proofs.StraightLists.{all_close, inside}
-use Rattle.area_search.specs.Answers.{IsLeastOn}
 use Rattle.area_search.specs.CurvePoints.{AreArcBoxes, AreArcsTo, AreMarkedFrom, IsFirstOn, IsFirstOnCurve, IsInCell, IsLeastOf, IsLesserOn, IsNotAfter, IsPointOnArc, LiesOnArc, LiesOnStraight}
 use Rattle.area_search.specs.Faults.{LiesOn}
 use Rattle.area_search.specs.declared.points.OnCurve.{OnCurve}
 use Rattle.area_search.proofs.PlaneLaws.{located_off, on_edge_is}
 use Rattle.area_search.proofs.CaseEdges.{get_same}
 use Rattle.area_search.proofs.ListPlaces.{nth_point}
+use Rattle.area_search.proofs.Small.{by_lt}
 
 a_place : (p : Point) → IsPlace (point p)
 a_place p = omega (arith, ints)

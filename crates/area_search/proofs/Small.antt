@@ -1,5 +1,5 @@
 -- Small words on numbers.
-use Rattle.std.proofs.Common.{◌≡◌, ℕ, zero, suc, ◌+◌, ◌<◌, List, [], ◌∷◌, ◌++◌, length, get_or, length-append, ap, refl, sym, subst, ◌∙◌, arith}
+use Rattle.std.proofs.Common.{◌≡◌, ℕ, zero, suc, ◌+◌, ◌<◌, ◌≤◌, List, [], ◌∷◌, ◌++◌, length, get_or, length-append, ap, refl, sym, subst, ◌∙◌, arith}
 
 -- below k + 1: below k, or k
 pub less_or : (j k : ℕ) (P : Type 0) → j < k + 1 → (j < k → P) → (j ≡ k → P) → P
@@ -7,6 +7,13 @@ less_or zero zero P l f g = g refl
 less_or zero (suc k) P l f g = f (omega arith)
 less_or (suc j) zero P l f g = absurd (omega (arith, l))
 less_or (suc j) (suc k) P l f g = less_or j k P (omega (arith, l)) (λ m. f (omega (arith, m))) (λ e. g (ap suc e))
+
+-- x below y, or not
+pub by_lt : {P : Type 0} (x y : ℕ) → (x < y → P) → (y ≤ x → P) → P
+by_lt zero zero f g = g (omega arith)
+by_lt zero (suc y) f g = f (omega arith)
+by_lt (suc x) zero f g = g (omega arith)
+by_lt (suc x) (suc y) f g = by_lt x y (λ l. f (omega (arith, l))) (λ l. g (omega (arith, l)))
 
 -- functions that agree everywhere are equal
 pub funext : {A B : Type 0} (f g : A → B) → ((x : A) → f x ≡ g x) → f ≡ g

@@ -6,7 +6,8 @@ use Rattle.certificate.specs.declared.notes.Certificate.{Certificate}
 use Rattle.certificate_checker.specs.Subjects.{claims}
 use Rattle.certificate_checker.specs.Verdicts.{Proves}
 use Rattle.area_search.specs.declared.kinds.AreaFinding.{AreaFinding}
-use Rattle.area_search.specs.declared.kinds.AreaFinding.TheVariants.{Meeting, On, Outside, Two, Empty}
+use Rattle.area_search.specs.declared.kinds.AreaFinding.TheVariants.{Meeting, On, Outside, Two}
+use Rattle.area_search.specs.declared.kinds.AreaFinding.TheVariants.{Empty}
 use Rattle.area_search.specs.declared.kinds.AreaAnswer.{AreaAnswer}
 use Rattle.area_search.specs.declared.kinds.AreaAnswer.TheVariants.{Proved, Fault, Undecided}
 use Rattle.tubes.specs.Settled.{IsFirstBreak, IsSettledAt}
@@ -82,17 +83,21 @@ pub data IsAnswer (d : Plan) : AreaAnswer → Type 0 where
   -- else the least point on a curve, and its least curve
   on : (j i : ℕ) → HasNoBadPair d → IsLeastOn d j i → IsAnswer d (Fault (On j i))
   -- else, where no level settles the drawing, the least pair that breaks the last level
-  undecided : (i j : ℕ) → AreClear d → IsUnsettled d → IsFirstBreak d 5 i j → IsAnswer d (Undecided i j)
+  undecided : (i j : ℕ) → AreClear d → IsUnsettled d → IsFirstBreak d 5 i j
+      → IsAnswer d (Undecided i j)
   -- else the least point outside
   outside : (j : ℕ) → AreClear d → IsSettled d → IsLeastOutside d j → IsAnswer d (Fault (Outside j))
   -- else the least two points that are joined
   two : (i j : ℕ) → AreInside d → IsSettled d → AreLeastTwo d i j → IsAnswer d (Fault (Two i j))
   -- else the least empty side
-  empty : (i : ℕ) (left : Bool) → AreAlone d → IsSettled d → IsLeastEmpty d i left → IsAnswer d (Fault (Empty i left))
+  empty : (i : ℕ) (left : Bool) → AreAlone d → IsSettled d → IsLeastEmpty d i left
+      → IsAnswer d (Fault (Empty i left))
   -- else a certificate that proves the drawing, at the least level that settles it
-  proved : (c : Certificate) → Proves d (claims c) → IsLeastLevel d c.level → IsNameless c → IsAnswer d (Proved c)
+  proved : (c : Certificate) → Proves d (claims c) → IsLeastLevel d c.level → IsNameless c
+      → IsAnswer d (Proved c)
 
--- Two answers agree where they are equal but for the pair of a meeting, and for what a certificate says at its level.
+-- Two answers agree where they are equal but for the pair of a meeting, and for what a certificate
+-- says at its level.
 pub data Agree : AreaAnswer → AreaAnswer → Type 0 where
   meetings : (i j k l : ℕ) → Agree (Fault (Meeting i j)) (Fault (Meeting k l))
   faults : (f : AreaFinding) → Agree (Fault f) (Fault f)

@@ -20,9 +20,11 @@ pub record IsClearHalf (d : Plan) (level : ℕ) (h : Half) : Type 0 where
   pub there : edge_of h < length (edges_at d level)
   pub clear : faced d (drawn_bays d level) (edge_at d level) h ≡ 0
 
--- The owner of each face is one more than its point, and 0 where it has none. No point lies in face 0 and no two lie in one face;
+-- The owner of each face is one more than its point, and 0 where it has none. No point lies in face
+-- 0 and no two lie in one face;
 -- and each half-edge that faces no tube from within bounds face 0 or one that has a point.
-pub record HaveOwners (d : Plan) (level : ℕ) (faces : List ℕ) (spots : List Spot) (count : ℕ) (owners : List ℕ) : Type 0 where
+pub record HaveOwners (d : Plan) (level : ℕ) (faces : List ℕ) (spots : List Spot) (count : ℕ)
+    (owners : List ℕ) : Type 0 where
   pub size : length owners ≡ count
   pub owners_are : AreOwners (spot_faces d level faces spots) (length spots) owners
   pub outside : IsFirstOutside (spot_faces d level faces spots) None
@@ -32,4 +34,5 @@ pub record HaveOwners (d : Plan) (level : ℕ) (faces : List ℕ) (spots : List 
 -- The first fault of the faces, or their owners.
 abbrev pub IsCaseJudged : Plan → ℕ → List ℕ → List Spot → ℕ → Judged → Type 0
 IsCaseJudged d level faces spots count (judged.Faulty f) = IsAnswer d (Fault f)
-IsCaseJudged d level faces spots count (judged.Owned owners) = HaveOwners d level faces spots count owners.items
+IsCaseJudged d level faces spots count (judged.Owned owners) =
+    HaveOwners d level faces spots count owners.items

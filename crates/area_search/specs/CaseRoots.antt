@@ -1,5 +1,7 @@
--- The half-edges from which the links of a case begin: those that face a tube, those at the border, and those beside the points.
-use Rattle.std.specs.Prelude.{◌≡◌, ◌↔◌, ℕ, zero, suc, ◌<◌, Bool, true, false, List, [], ◌∷◌, ◌++◌, length, slice_index_or, ⊤}
+-- The half-edges from which the links of a case begin: those that face a tube, those at the border,
+-- and those beside the points.
+use Rattle.std.specs.Prelude.{◌≡◌, ◌↔◌, ℕ, zero, suc, ◌<◌, Bool, true, false, List, [], ◌∷◌, ◌++◌}
+use Rattle.std.specs.Prelude.{length, slice_index_or, ⊤}
 use Rattle.std.specs.List.{flat_map}
 use Rattle.faces.specs.Joined.{over_of, under_of}
 use Rattle.plane.specs.Runs.Gaps.{Gap}
@@ -28,9 +30,10 @@ facing_in facings e = slice_index_or facings e facing.Neither
 abbrev pub HoldsOne : List Spot → ℕ → Bool → ℕ → Type 0
 HoldsOne spots k inside c = (j : ℕ) × (j < k) × (spot_at spots j ≡ spot.InTube c inside)
 
--- The entry of each curve tells whether one of the first k points lies so.
+-- The entry of each curve says whether one of the first k points lies so.
 abbrev pub AreMarked : List Spot → ℕ → Bool → List Bool → Type 0
-AreMarked spots k inside marks = (c : ℕ) → c < length marks → (slice_index_or marks c false ≡ true) ↔ HoldsOne spots k inside c
+AreMarked spots k inside marks =
+    (c : ℕ) → c < length marks → (slice_index_or marks c false ≡ true) ↔ HoldsOne spots k inside c
 
 pub record AreChains (spots : List Spot) (k curves : ℕ) (chains : Chains) : Type 0 where
   pub inner_size : length chains.inner.items ≡ curves
@@ -62,7 +65,9 @@ tube_sides facing.Below marked e = under_of e ∷ if_marked marked (over_of e)
 tube_sides facing.Above marked e = over_of e ∷ if_marked marked (under_of e)
 
 abbrev pub tube_roots : List Facing → List Owner → Chains → ℕ → List ℕ
-tube_roots facings owners chains e = tube_sides (facing_in facings e) (is_marked chains (owner_at owners e).curve (owner_at owners e).part) e
+tube_roots facings owners chains e =
+    tube_sides (facing_in facings e)
+    (is_marked chains (owner_at owners e).curve (owner_at owners e).part) e
 
 -- those of the first n edges
 abbrev pub roots_to : (ℕ → List ℕ) → ℕ → List ℕ
@@ -82,10 +87,13 @@ IsSmallSpot (spot.InTube c inside) = ⊤
 
 -- at edges of tubes, at the border, and beside the points in cells
 abbrev pub case_roots : List Facing → List Owner → Chains → List Gap → List Spot → List ℕ
-case_roots facings owners chains cells spots = roots_to (tube_roots facings owners chains) (length facings) ++ (flat_map cell_roots cells ++ flat_map spot_roots spots)
+case_roots facings owners chains cells spots =
+    roots_to (tube_roots facings owners chains) (length facings)
+    ++ (flat_map cell_roots cells ++ flat_map spot_roots spots)
 
--- The roots are those of chains that are told rightly.
-pub record AreCaseRoots (facings : List Facing) (owners : List Owner) (curves : ℕ) (cells : List Gap) (spots : List Spot) (roots : List ℕ) : Type 0 where
+-- The roots are those of chains that are claimed rightly.
+pub record AreCaseRoots (facings : List Facing) (owners : List Owner) (curves : ℕ)
+    (cells : List Gap) (spots : List Spot) (roots : List ℕ) : Type 0 where
   pub chains : Chains
   pub are_chains : AreChains spots (length spots) curves chains
   pub roots_are : roots ≡ case_roots facings owners chains cells spots

@@ -1,5 +1,6 @@
 -- The faces beside the curves of a case, and their sides without a point.
-use Rattle.std.specs.Prelude.{◌≡◌, ℕ, ◌+◌, ◌*◌, ◌^◌, ◌<◌, Bool, true, false, Option, Some, None, List, length, slice_index, slice_index_or, ⊤}
+use Rattle.std.specs.Prelude.{◌≡◌, ℕ, ◌+◌, ◌*◌, ◌^◌, ◌<◌, Bool, true, false, Option, Some, None}
+use Rattle.std.specs.Prelude.{List, length, slice_index, slice_index_or, ⊤}
 use Rattle.plane.specs.CurveRuns.Levels.{beside_inner, beside_outer}
 use Rattle.plane.specs.CurveRuns.TubedRuns.{first_edge, third_is_left}
 use Rattle.plane.specs.Faces.Halves.{number}
@@ -26,14 +27,21 @@ first_at d level i = first_edge (drawn_bays d level) 0 d.curves i
 
 -- The face is that on the named side of straight i.
 abbrev pub IsFaceOn : Plan → ℕ → List ℕ → ℕ → Bool → ℕ → Type 0
-IsFaceOn d level faces i left n = (h : ℕ) × IsOnSide (edge_at d level (first_at d level i)) (curve d i) (first_at d level i) left h × (n ≡ slice_index faces h)
+IsFaceOn d level faces i left n =
+    (h : ℕ)
+    × IsOnSide (edge_at d level (first_at d level i)) (curve d i) (first_at d level i) left h
+    × (n ≡ slice_index faces h)
 
--- On the left and on the right of a straight, as seen from `from` to `to`; beside the inner and beside the outer chain of a half
--- arc's tube.
+-- On the left and on the right of a straight, as seen from `from` to `to`; beside the inner and
+-- beside the outer chain of a half arc's tube.
 abbrev pub IsBesideKind : CurveKind → Plan → ℕ → List ℕ → ℕ → Beside → Type 0
-IsBesideKind kind.Straight d level faces i b = IsFaceOn d level faces i true b.first × IsFaceOn d level faces i false b.second
-IsBesideKind kind.HalfArc d level faces i b = (b.first ≡ beside_inner d (drawn_bays d level) (edge_at d level) (λ h. slice_index faces (number h)) i)
-    × (b.second ≡ beside_outer d (drawn_bays d level) (edge_at d level) (λ h. slice_index faces (number h)) i)
+IsBesideKind kind.Straight d level faces i b =
+    IsFaceOn d level faces i true b.first × IsFaceOn d level faces i false b.second
+IsBesideKind kind.HalfArc d level faces i b =
+    (b.first
+    ≡ beside_inner d (drawn_bays d level) (edge_at d level) (λ h. slice_index faces (number h)) i)
+    × (b.second
+    ≡ beside_outer d (drawn_bays d level) (edge_at d level) (λ h. slice_index faces (number h)) i)
 
 abbrev pub IsBeside : Plan → ℕ → List ℕ → ℕ → Beside → Type 0
 IsBeside d level faces i b = IsBesideKind (curve d i).kind d level faces i b
@@ -45,7 +53,8 @@ abbrev pub beside_at : List Beside → ℕ → Beside
 beside_at besides i = slice_index_or besides i no_beside
 
 -- Each of the first n curves has its faces.
-pub record AreBeside (d : Plan) (level : ℕ) (faces : List ℕ) (n : ℕ) (besides : List Beside) : Type 0 where
+pub record AreBeside (d : Plan) (level : ℕ) (faces : List ℕ) (n : ℕ)
+    (besides : List Beside) : Type 0 where
   pub size : length besides ≡ n
   pub each : (i : ℕ) → i < n → IsBeside d level faces i (beside_at besides i)
 
@@ -66,12 +75,12 @@ pub record IsBesideIn (count : ℕ) (b : Beside) : Type 0 where
   pub first : b.first < count
   pub second : b.second < count
 
--- The turn at the three points of the curve can be told.
+-- The turn at the three points of the curve can be computed.
 pub record IsTurnable (c : Curve) : Type 0 where
   pub to : AreClose c.from c.to
   pub third : AreClose c.from c.third
 
--- the left one of two sides, else the right one, where they are told to be free
+-- the left one of two sides, else the right one, where they are said to be free
 abbrev pub free_of : Bool → Bool → Option Bool
 free_of true right = Some true
 free_of false true = Some false
@@ -87,7 +96,8 @@ abbrev pub face_on : Bool → Beside → ℕ
 face_on true b = b.first
 face_on false b = b.second
 
--- Whether the first face of a curve is on the named side: that of a straight on the left, that of a half arc on the inside.
+-- Whether the first face of a curve is on the named side: that of a straight on the left, that of a
+-- half arc on the inside.
 abbrev pub is_first_kind : CurveKind → Curve → Bool → Bool
 is_first_kind kind.Straight c left = left
 is_first_kind kind.HalfArc c left = is_inward (third_is_left c) left
@@ -101,13 +111,16 @@ BoundsFree c b owners left = IsFreeFace owners (face_on (is_first c left) b)
 -- of the two sides of a curve the left one, else the right one, or none
 abbrev pub IsFreeSide : Curve → Beside → List ℕ → Option Bool → Type 0
 IsFreeSide c b owners None = (side : Bool) → BoundsFree c b owners side → ⊥
-IsFreeSide c b owners (Some left) = BoundsFree c b owners left × (left ≡ false → BoundsFree c b owners true → ⊥)
+IsFreeSide c b owners (Some left) =
+    BoundsFree c b owners left × (left ≡ false → BoundsFree c b owners true → ⊥)
 
 abbrev pub BoundsFreeAt : List Curve → List Beside → List ℕ → ℕ → Bool → Type 0
-BoundsFreeAt curves besides owners i left = BoundsFree (nth_curve curves i) (beside_at besides i) owners left
+BoundsFreeAt curves besides owners i left =
+    BoundsFree (nth_curve curves i) (beside_at besides i) owners left
 
 -- The least curve with such a side, and its left side before its right one.
-pub record IsLeastFree (curves : List Curve) (besides : List Beside) (owners : List ℕ) (i : ℕ) (left : Bool) : Type 0 where
+pub record IsLeastFree (curves : List Curve) (besides : List Beside) (owners : List ℕ) (i : ℕ)
+    (left : Bool) : Type 0 where
   pub there : i < length curves
   pub free : BoundsFreeAt curves besides owners i left
   pub no_curve : (k : ℕ) (side : Bool) → k < i → BoundsFreeAt curves besides owners k side → ⊥
@@ -115,7 +128,8 @@ pub record IsLeastFree (curves : List Curve) (besides : List Beside) (owners : L
 
 -- of the first n curves
 abbrev pub HasNoFree : List Curve → List Beside → List ℕ → ℕ → Type 0
-HasNoFree curves besides owners n = (k : ℕ) (side : Bool) → k < n → BoundsFreeAt curves besides owners k side → ⊥
+HasNoFree curves besides owners n =
+    (k : ℕ) (side : Bool) → k < n → BoundsFreeAt curves besides owners k side → ⊥
 
 abbrev pub AreFreeSides : List Curve → List Beside → List ℕ → Option Side → Type 0
 AreFreeSides curves besides owners None = HasNoFree curves besides owners (length curves)

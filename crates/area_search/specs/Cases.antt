@@ -1,5 +1,7 @@
--- A drawing that a level settles, the complete run of its edges at that level, where its points lie, and its faces.
-use Rattle.std.specs.Prelude.{◌≡◌, ℕ, ◌*◌, ◌<◌, ◌≤◌, true, false, pos, ◌<ℤ◌, Option, Some, None, List, [], length, map, slice_index, slice_index_or, ⊤}
+-- A drawing that a level settles, the complete run of its edges at that level, where its points
+-- lie, and its faces.
+use Rattle.std.specs.Prelude.{◌≡◌, ℕ, ◌*◌, ◌<◌, ◌≤◌, true, false, pos, ◌<ℤ◌, Option, Some, None}
+use Rattle.std.specs.Prelude.{List, [], length, map, slice_index, slice_index_or, ⊤}
 use Rattle.event_mesh.specs.Turned.{IsTurned}
 use Rattle.faces.specs.Joined.{AreKnown}
 use Rattle.half_edges.specs.HalfEdges.{HalfEdges, size}
@@ -31,22 +33,29 @@ use Rattle.area_search.specs.declared.case.Spot.{Spot}
 use Rattle.area_search.specs.declared.case.Spot.TheVariants as spot
 use Rattle.area_search.specs.Writing.{positions_of}
 
--- The level settles the drawing, the lists are those of its edges at the level, and the moves are a complete run over them.
-pub record IsCase (d : Plan) (level : ℕ) (edges : List Edge) (owners : List Owner) (facings : List Facing) (vs : List Move) : Type 0 where
+-- The level settles the drawing, the lists are those of its edges at the level, and the moves are a
+-- complete run over them.
+pub record IsCase (d : Plan) (level : ℕ) (edges : List Edge) (owners : List Owner)
+    (facings : List Facing) (vs : List Move) : Type 0 where
   pub low : level ≤ 5
   pub tubes : HaveTubes d level
   pub edges_are : edges ≡ edges_at d level
   pub owners_are : owners ≡ map owner_as (runs.edge_list (drawn_bays d level) 0 d.curves)
   pub facings_are : AreFacings d level facings
-  pub settled : IsSettledDrawing d (drawn_bays d level) (length (edges_at d level)) (edge_at d level) (steps_from [] vs)
+  pub settled : IsSettledDrawing d (drawn_bays d level) (length (edges_at d level))
+      (edge_at d level) (steps_from [] vs)
   pub fit : Fit [] vs
 
 -- the same in code
 abbrev pub IsCaseOf : Case → List Move → Type 0
-IsCaseOf c vs = IsCase (plan c.drawing.now) c.level c.list.now.edges.items c.list.now.owners.items c.facings.now vs
+IsCaseOf c vs =
+    IsCase (plan c.drawing.now) c.level c.list.now.edges.items c.list.now.owners.items c.facings.now
+    vs
 
 abbrev pub IsSweptCase : SweptCase → Type 0
-IsSweptCase c = IsCase (plan c.drawing.now) c.level c.list.now.edges.items c.list.now.owners.items c.facings.now (moves_of c.swept.now.events.items)
+IsSweptCase c =
+    IsCase (plan c.drawing.now) c.level c.list.now.edges.items c.list.now.owners.items c.facings.now
+    (moves_of c.swept.now.events.items)
 
 -- of some moves
 abbrev pub HasRun : Case → Type 0
@@ -64,13 +73,16 @@ abbrev pub IsClearOver : Plan → ℕ → Option ℕ → Type 0
 IsClearOver d level None = ⊤
 IsClearOver d level (Some e) = faced d (drawn_bays d level) (edge_at d level) (over e) ≡ 0
 
--- On a curve, and on none of a lesser number; or on no curve, in a tube and on a side of its circle; or on no curve, in no tube and
--- in a cell of the run.
+-- On a curve, and on none of a lesser number; or on no curve, in a tube and on a side of its
+-- circle; or on no curve, in no tube and in a cell of the run.
 abbrev pub IsSpot : Plan → ℕ → List Move → Point → Spot → Type 0
 IsSpot d level vs v (spot.On c) = IsFirstOn d c (point v)
-IsSpot d level vs v (spot.InTube c true) = LiesInTube d (drawn_bays d level) c v × (power (arc (curve d c)) (point v) <ℤ pos 0)
-IsSpot d level vs v (spot.InTube c false) = LiesInTube d (drawn_bays d level) c v × (pos 0 <ℤ power (arc (curve d c)) (point v))
-IsSpot d level vs v (spot.Cell position lower upper) = IsCell (edges_at d level) vs v position lower upper × IsClearOver d level lower
+IsSpot d level vs v (spot.InTube c true) =
+    LiesInTube d (drawn_bays d level) c v × (power (arc (curve d c)) (point v) <ℤ pos 0)
+IsSpot d level vs v (spot.InTube c false) =
+    LiesInTube d (drawn_bays d level) c v × (pos 0 <ℤ power (arc (curve d c)) (point v))
+IsSpot d level vs v (spot.Cell position lower upper) =
+    IsCell (edges_at d level) vs v position lower upper × IsClearOver d level lower
 
 pub record AreSpots (d : Plan) (level : ℕ) (vs : List Move) (spots : List Spot) : Type 0 where
   pub size : length spots ≡ length d.points
@@ -93,45 +105,55 @@ pub record ArePlacedOff (d : Plan) (level : ℕ) (vs : List Move) (spots : List 
 
 -- ---- faces
 -- The half-edges have the face numbers of the run, which are below count.
-pub record HasRunFaces (d : Plan) (level : ℕ) (vs : List Move) (mesh : HalfEdges) (count : ℕ) : Type 0 where
+pub record HasRunFaces (d : Plan) (level : ℕ) (vs : List Move) (mesh : HalfEdges)
+    (count : ℕ) : Type 0 where
   pub size_is : size mesh ≡ 2 * length (edges_at d level)
   pub entries : length mesh.face ≡ size mesh
-  pub faces : IsFaces (replay (pos 0) (length (edges_at d level)) (edge_at d level) (steps_from [] vs)) (λ h. slice_index mesh.face (number h))
+  pub faces : IsFaces
+      (replay (pos 0) (length (edges_at d level)) (edge_at d level) (steps_from [] vs))
+      (λ h. slice_index mesh.face (number h))
   pub below : (h : ℕ) → h < size mesh → slice_index mesh.face h < count
   pub some : 0 < count
 
 -- The mesh is that of the run, all events turned, and the cells are those of the run.
-pub record IsRunMesh (d : Plan) (level : ℕ) (vs : List Move) (cells : List Gap) (mesh : HalfEdges) : Type 0 where
-  pub turned : IsTurned (length (edges_at d level)) (edge_at d level) (steps_from [] vs) mesh (length (steps_from [] vs))
+pub record IsRunMesh (d : Plan) (level : ℕ) (vs : List Move) (cells : List Gap)
+    (mesh : HalfEdges) : Type 0 where
+  pub turned : IsTurned (length (edges_at d level)) (edge_at d level) (steps_from [] vs) mesh
+      (length (steps_from [] vs))
   pub mesh_is : IsMesh mesh
   pub cells_are : cells ≡ closed_gaps vs
   pub known : AreKnown (size mesh) (closed_gaps vs)
 
--- The face of a point by its spot: that over the edge under its cell, 0 where there is none; in a tube that beside the chain on its
--- side of the circle.
+-- The face of a point by its spot: that over the edge under its cell, 0 where there is none; in a
+-- tube that beside the chain on its side of the circle.
 abbrev pub face_over : List ℕ → Option ℕ → ℕ
 face_over faces None = 0
 face_over faces (Some e) = slice_index faces (number (over e))
 
 abbrev pub spot_face : Plan → ℕ → List ℕ → Spot → ℕ
 spot_face d level faces (spot.On c) = 0
-spot_face d level faces (spot.InTube c true) = beside_inner d (drawn_bays d level) (edge_at d level) (λ h. slice_index faces (number h)) c
-spot_face d level faces (spot.InTube c false) = beside_outer d (drawn_bays d level) (edge_at d level) (λ h. slice_index faces (number h)) c
+spot_face d level faces (spot.InTube c true) =
+    beside_inner d (drawn_bays d level) (edge_at d level) (λ h. slice_index faces (number h)) c
+spot_face d level faces (spot.InTube c false) =
+    beside_outer d (drawn_bays d level) (edge_at d level) (λ h. slice_index faces (number h)) c
 spot_face d level faces (spot.Cell position lower upper) = face_over faces lower
 
 abbrev pub spot_faces : Plan → ℕ → List ℕ → List Spot → List ℕ
 spot_faces d level faces spots = map (spot_face d level faces) spots
 
 -- ---- what is kept of a run
--- A run of the case has its points at these spots, none of them on a curve, and its faces in this mesh.
+-- A run of the case has its points at these spots, none of them on a curve, and its faces in this
+-- mesh.
 pub record IsFaced (c : Case) (spots : List Spot) (mesh : HalfEdges) (count : ℕ) : Type 0 where
   pub vs : List Move
   pub case : IsCaseOf c vs
   pub placed : ArePlacedOff (plan c.drawing.now) c.level vs spots
   pub faces : HasRunFaces (plan c.drawing.now) c.level vs mesh count
 
--- The mesh, the cells and the positions are those of that run, and its events are those of the edges' timetable.
-pub record IsOutlined (c : Case) (spots : List Spot) (mesh : HalfEdges) (count : ℕ) (cells : List Gap) (positions : List ℕ) : Type 0 where
+-- The mesh, the cells and the positions are those of that run, and its events are those of the
+-- edges' timetable.
+pub record IsOutlined (c : Case) (spots : List Spot) (mesh : HalfEdges) (count : ℕ)
+    (cells : List Gap) (positions : List ℕ) : Type 0 where
   pub faced : IsFaced c spots mesh count
   pub outline : IsRunMesh (plan c.drawing.now) c.level faced.vs cells mesh
   pub timed : HasTimetable c.list.now.edges.items faced.vs

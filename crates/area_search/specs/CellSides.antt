@@ -7,7 +7,8 @@ use Rattle.tubes.specs.declared.kinds.Facing.{Facing}
 use Rattle.tubes.specs.declared.kinds.Owner.{Owner}
 use Rattle.area_search.specs.CaseNotes.{tag_at}
 
--- One more than the curve whose tube the side over an edge faces from within; 0 where it faces none, and at the border.
+-- One more than the curve whose tube the side over an edge faces from within; 0 where it faces
+-- none, and at the border.
 abbrev pub tag_over : List Facing → List Owner → Option ℕ → ℕ
 tag_over facings owners None = 0
 tag_over facings owners (Some e) = tag_at facings owners (over e)

@@ -1,5 +1,7 @@
--- Objects' points on curves: the least of a kind, and the lists in which those on half arcs are looked for.
-use Rattle.std.specs.Prelude.{◌≡◌, ◌⊎◌, ℕ, ◌+◌, ◌-◌, ◌<◌, ◌≤◌, Bool, true, Option, Some, None, List, length, slice_index, slice_index_or, ⊤}
+-- Objects' points on curves: the least of a kind, and the lists in which those on half arcs are
+-- looked for.
+use Rattle.std.specs.Prelude.{◌≡◌, ◌⊎◌, ℕ, ◌+◌, ◌-◌, ◌<◌, ◌≤◌, Bool, true, Option, Some, None, List}
+use Rattle.std.specs.Prelude.{length, slice_index, slice_index_or, ⊤}
 use Rattle.plane.specs.Forms.Boxes.{HoldsCurve, InBox}
 use Rattle.plane.specs.Rule.Places.{point}
 use Rattle.plane.specs.Rule.Plans.{Plan, curve, object}
@@ -64,18 +66,23 @@ AreInCells places k = (j : ℕ) → j < k → IsInCell (slice_index_or places j 
 -- the first point on an edge, with its edge; all points are on none
 abbrev pub IsFirstOn : List Place → Option OnCurve → Type 0
 IsFirstOn places None = AreInCells places (length places)
-IsFirstOn places (Some p) = AreInCells places p.point × (p.point < length places) × (slice_index_or places p.point no_place ≡ place.OnEdge p.curve)
+IsFirstOn places (Some p) =
+    AreInCells places p.point × (p.point < length places)
+    × (slice_index_or places p.point no_place ≡ place.OnEdge p.curve)
 
 -- ---- points on half arcs
 -- The half arcs among the first k curves, in their order.
 pub record AreArcsTo (curves : List Curve) (k : ℕ) (arcs : List ℕ) : Type 0 where
   pub few : length arcs ≤ k
   pub known : (m : ℕ) → m < length arcs → slice_index arcs m < k
-  pub half_arc : (m : ℕ) → m < length arcs → (nth_curve curves (slice_index arcs m)).kind ≡ kind.HalfArc
+  pub half_arc : (m : ℕ) → m < length arcs
+      → (nth_curve curves (slice_index arcs m)).kind ≡ kind.HalfArc
   pub rising : IsRising arcs
-  pub whole : (i : ℕ) → i < k → (nth_curve curves i).kind ≡ kind.HalfArc → (m : ℕ) × (m < length arcs) × (slice_index arcs m ≡ i)
+  pub whole : (i : ℕ) → i < k → (nth_curve curves i).kind ≡ kind.HalfArc
+      → (m : ℕ) × (m < length arcs) × (slice_index arcs m ≡ i)
 
--- The number i is that of a point, and j, less the number of points, that of a half arc in the list, on which it is judged to lie.
+-- The number i is that of a point, and j, less the number of points, that of a half arc in the
+-- list, on which it is judged to lie.
 pub record IsPointOnArc (d : Plan) (arcs : List ℕ) (i j : ℕ) : Type 0 where
   pub point_there : i < length d.points
   pub after : length d.points ≤ j
@@ -94,8 +101,10 @@ pub record ArePointBoxes (points : List Placed) (k : ℕ) (boxes : List Reach) :
 -- The boxes of all points, and then those of the first k half arcs of the list.
 pub record AreArcBoxes (d : Plan) (arcs : List ℕ) (k : ℕ) (boxes : List Reach) : Type 0 where
   pub size : length boxes ≡ length d.points + k
-  pub points : (j : ℕ) → j < length d.points → InBox (box_of (reach_of boxes j)) (point (object d j))
-  pub holds : (m : ℕ) → m < k → HoldsCurve (box_of (reach_of boxes (length d.points + m))) (curve d (slice_index arcs m))
+  pub points : (j : ℕ) → j < length d.points
+      → InBox (box_of (reach_of boxes j)) (point (object d j))
+  pub holds : (m : ℕ) → m < k
+      → HoldsCurve (box_of (reach_of boxes (length d.points + m))) (curve d (slice_index arcs m))
 
 -- Of so many numbers those from the first on are marked.
 pub record AreMarkedFrom (first count : ℕ) (marks : List Bool) : Type 0 where

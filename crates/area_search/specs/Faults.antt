@@ -15,7 +15,8 @@ pub record LiesOn (d : Plan) (point_number curve_number : ℕ) : Type 0 where
   pub point_there : point_number < length d.points
   pub curve_there : curve_number < length d.curves
   pub on : IsOn (curve d curve_number) (point (object d point_number))
-  pub has_side : (curve d curve_number).kind ≡ kind.HalfArc → HasSide (arc (curve d curve_number)) (point (object d point_number))
+  pub has_side : (curve d curve_number).kind ≡ kind.HalfArc
+      → HasSide (arc (curve d curve_number)) (point (object d point_number))
 
 -- The object's point is outer.
 pub record LiesOutside (d : Plan) (j : ℕ) : Type 0 where
@@ -34,15 +35,18 @@ abbrev pub end_on : Bool → Vector → Vector → Vector
 end_on true p q = p
 end_on false p q = q
 
--- Whether the inside of a half arc's circle is the named side, left or not as seen from `from` to `to`: it is the left one exactly
--- where the third point is on the left.
+-- Whether the inside of a half arc's circle is the named side, left or not as seen from `from` to
+-- `to`: it is the left one exactly where the third point is on the left.
 abbrev pub is_inward : Bool → Bool → Bool
 is_inward true left = left
 is_inward false true = false
 is_inward false false = true
 
--- Some segment crosses the curve, and its end on the named side, left or not as seen from `from` to `to`, is neither outer nor joined
--- to an object's point. A straight is crossed from left to right, a half arc from inside its circle to outside.
+-- Some segment crosses the curve, and its end on the named side, left or not as seen from `from` to
+-- `to`, is neither outer nor joined to an object's point. A straight is crossed from left to right,
+-- a half arc from inside its circle to outside.
 pub data IsEmptySide (d : Plan) (i : ℕ) (left : Bool) : Type 0 where
-  straight : (p q : Vector) → IsStraight d i → Crosses d i p q → IsLost d (end_on left p q) → IsEmptySide d i left
-  half_arc : (p q : Vector) → IsHalfArc d i → CrossesHalfArc d i p q → IsLost d (end_on (is_inward (third_is_left (curve d i)) left) p q) → IsEmptySide d i left
+  straight : (p q : Vector) → IsStraight d i → Crosses d i p q → IsLost d (end_on left p q)
+      → IsEmptySide d i left
+  half_arc : (p q : Vector) → IsHalfArc d i → CrossesHalfArc d i p q
+      → IsLost d (end_on (is_inward (third_is_left (curve d i)) left) p q) → IsEmptySide d i left

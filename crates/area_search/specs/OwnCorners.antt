@@ -35,14 +35,18 @@ pub record IsOtherAt (list : EdgeList) (e other : ℕ) (p : Point) : Type 0 wher
   pub same : (owner_at list.owners.items other).curve ≡ (owner_at list.owners.items e).curve
   pub ends : IsEnd (edge_of list.edges.items other) p
 
--- The end of the edge is an end of its curve; or another edge of the curve ends there too, and no third edge.
+-- The end of the edge is an end of its curve; or another edge of the curve ends there too, and no
+-- third edge.
 abbrev pub IsOwnEnd : Plan → EdgeList → List Move → ℕ → Point → Type 0
-IsOwnEnd d list vs e p = IsEndOf (curve d (owner_at list.owners.items e).curve) p ⊎ (((other : ℕ) × IsOtherAt list e other p) × HasTwoAt vs p)
+IsOwnEnd d list vs e p =
+    IsEndOf (curve d (owner_at list.owners.items e).curve) p
+    ⊎ (((other : ℕ) × IsOtherAt list e other p) × HasTwoAt vs p)
 
 -- Both ends of an edge of a tube are so.
 abbrev pub HasOwnCorners : Plan → EdgeList → List Move → ℕ → Type 0
 HasOwnCorners d list vs e = IsOfTube (owner_at list.owners.items e).part
-    → IsOwnEnd d list vs e (edge_of list.edges.items e).low × IsOwnEnd d list vs e (edge_of list.edges.items e).high
+    → IsOwnEnd d list vs e (edge_of list.edges.items e).low
+    × IsOwnEnd d list vs e (edge_of list.edges.items e).high
 
 -- Those of the first n edges are so.
 abbrev pub AreOwn : Plan → EdgeList → List Move → ℕ → Type 0

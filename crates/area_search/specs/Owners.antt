@@ -12,9 +12,13 @@ pub record IsFirstOf (faces : List ℕ) (k f i : ℕ) : Type 0 where
 abbrev pub IsFree : List ℕ → ℕ → ℕ → Type 0
 IsFree faces k f = (j : ℕ) → j < k → slice_index faces j ≡ f → ⊥
 
--- The entry of each face is one more than the first point in it, of the first k points; 0 where it has none.
+-- The entry of each face is one more than the first point in it, of the first k points; 0 where it
+-- has none.
 abbrev pub AreOwners : List ℕ → ℕ → List ℕ → Type 0
-AreOwners faces k owners = (f : ℕ) → f < length owners → ((slice_index owners f ≡ 0) × IsFree faces k f) ⊎ ((i : ℕ) × (slice_index owners f ≡ suc i) × IsFirstOf faces k f i)
+AreOwners faces k owners =
+    (f : ℕ) → f < length owners
+    → ((slice_index owners f ≡ 0) × IsFree faces k f)
+    ⊎ ((i : ℕ) × (slice_index owners f ≡ suc i) × IsFirstOf faces k f i)
 
 -- Points i and j, i the lesser one, lie in one face; j is one of the first k.
 pub record Share (faces : List ℕ) (k i j : ℕ) : Type 0 where

@@ -9,4 +9,5 @@ IsOver m (Some e) = e < m
 -- the first point in face 0
 abbrev pub IsFirstOutside : List ℕ → Option ℕ → Type 0
 IsFirstOutside faces None = (j : ℕ) → j < length faces → slice_index faces j ≡ 0 → ⊥
-IsFirstOutside faces (Some p) = (p < length faces) × (slice_index faces p ≡ 0) × ((j : ℕ) → j < p → slice_index faces j ≡ 0 → ⊥)
+IsFirstOutside faces (Some p) =
+    (p < length faces) × (slice_index faces p ≡ 0) × ((j : ℕ) → j < p → slice_index faces j ≡ 0 → ⊥)

@@ -8,7 +8,8 @@ abbrev pub half_over : Bool → ℕ → ℕ
 half_over true i = 2 * i + 1
 half_over false i = 2 * i
 
--- The half-edge on the named side of curve i: over the edge on the left, where the edge's low end is `from`; else the other way round.
+-- The half-edge on the named side of curve i: over the edge on the left, where the edge's low end
+-- is `from`; else the other way round.
 pub data IsOnSide (e : Edge) (c : Curve) (i : ℕ) (left : Bool) (h : ℕ) : Type 0 where
   forth : e.low ≡ c.from → h ≡ half_over left i → IsOnSide e c i left h
   back : e.low ≡ c.to → h ≡ half_over (not left) i → IsOnSide e c i left h

@@ -10,12 +10,16 @@ use Rattle.area_search.specs.declared.case.Spot.TheVariants as spot
 use Rattle.area_search.specs.declared.points.OnCurve.{OnCurve}
 use Rattle.area_search.specs.Cases.{AreOffCurves, IsClearOver, spot_at}
 
--- the half arc whose tube the half-edge over the edge faces from within; the half-edge, if there is one, faces none
+-- the half arc whose tube the half-edge over the edge faces from within; the half-edge, if there is
+-- one, faces none
 abbrev pub IsTubeOver : Plan → ℕ → Option ℕ → Option ℕ → Type 0
 IsTubeOver d level lower None = IsClearOver d level lower
-IsTubeOver d level lower (Some c) = (e : ℕ) × (lower ≡ Some e) × (faced d (drawn_bays d level) (edge_at d level) (over e) ≡ suc c)
+IsTubeOver d level lower (Some c) =
+    (e : ℕ) × (lower ≡ Some e) × (faced d (drawn_bays d level) (edge_at d level) (over e) ≡ suc c)
 
 -- the first point on a curve, with its curve; all points are on none
 abbrev pub IsFirstSpotOn : List Spot → Option OnCurve → Type 0
 IsFirstSpotOn spots None = AreOffCurves spots (length spots)
-IsFirstSpotOn spots (Some p) = AreOffCurves spots p.point × (p.point < length spots) × (spot_at spots p.point ≡ spot.On p.curve)
+IsFirstSpotOn spots (Some p) =
+    AreOffCurves spots p.point × (p.point < length spots)
+    × (spot_at spots p.point ≡ spot.On p.curve)

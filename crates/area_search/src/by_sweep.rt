@@ -22,7 +22,7 @@ use std::alloc::Global;
 use tubes::{EdgeList, edge_list, facings};
 
 /// The answer to a drawing that level 0 settles, where the sweep of its edges shows that; else
-/// None, which says nothing of the drawing. The only error is want of memory.
+/// None, which says nothing of the drawing. The only error is out of memory.
 pub(crate) fn answer_by_sweep(
     alloc: Global,
     drawing: &Drawing,
@@ -30,6 +30,7 @@ pub(crate) fn answer_by_sweep(
     requires curves { length (plan drawing.now).curves ≤ 16000000 }
     ensures { IfOk result (λ r. IfSome r (IsAnswer (plan drawing.now))) }
 {
+    tubes::laws::few_edges();
     match edge_list(alloc, drawing, 0)? {
         Some(list) => answer_list(alloc, drawing, &list),
         None => Ok(None),
@@ -72,6 +73,8 @@ fn answer_swept(
         ≡ closed_gaps (moves_of swept.events.items) }
     ensures { IfOk result (λ r. IfSome r (IsAnswer (plan drawing.now))) }
 {
+    tubes::laws::settled_levels();
+    tubes::laws::chains_have_edges();
     if !are_corners_own(drawing, list, &swept.events) {
         return Ok(None);
     }

@@ -37,6 +37,7 @@ pub(crate) fn judge_case(
     ensures { IfOk result (IsCaseJudged (plan case.now.drawing.now) case.now.level mesh.now.face
         spots.now count) }
 {
+    tubes::laws::chains_have_edges();
     let besides = faces_beside(alloc, case, mesh)?;
     let faces = faces_of_spots(alloc, case, mesh, &besides, spots)?;
     if let Some(point) = first_outside(&faces) {

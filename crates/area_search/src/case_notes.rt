@@ -13,7 +13,7 @@ use ports::Memory;
 use std::alloc::Global;
 use tubes::{Facing, Owner};
 
-/// The notes with labels in the place of the numbers of faces: behind those of the points the
+/// The notes with labels in the place of the numbers of faces: after those of the points the
 /// tube's where a half-edge faces one from within, else the owner of the face. It takes time linear
 /// in the edges, and no memory.
 pub(crate) fn named_notes(

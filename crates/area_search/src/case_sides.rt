@@ -82,6 +82,7 @@ fn faces_of_curve(case: &Case, mesh: &Mesh, curve: &Curve, number: u32, first: u
     requires first { first ≡ first_at (plan case.now.drawing.now) case.now.level number }
     ensures { IsBeside (plan case.now.drawing.now) case.now.level mesh.now.face number result }
 {
+    tubes::laws::chains_have_edges();
     match curve.kind {
         CurveKind::Straight => faces_of_straight(&case.list.edges, mesh, curve, first),
         CurveKind::HalfArc => {

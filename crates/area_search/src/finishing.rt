@@ -26,9 +26,9 @@ use std::alloc::Global;
 use tubes::{EdgeList, facings};
 
 /// The answer to a drawing by a complete run of its edges at the least level that settles it: its
-/// first fault, or a certificate with empty names. The only error is want of memory. It takes what
+/// first fault, or a certificate with empty names. The only error is out of memory. It takes what
 /// placing the points, the mesh, its faces and the links of a certificate take, one after another;
-/// before its faces are told, the events of the run are let go.
+/// before its faces are labelled, the events of the run are let go.
 pub(crate) fn finish(
     alloc: Global,
     drawing: &Drawing,

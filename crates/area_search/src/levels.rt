@@ -20,7 +20,7 @@ use tubes::{EdgeList, edge_list};
 
 /// The answer to a drawing by the order of the answers: a pair of curves that is bad, a point on a
 /// curve, and then the answer at the least level that settles it, or the first pair that breaks the
-/// last one. The only error is want of memory. Of each part the memory is let go before the next.
+/// last one. The only error is out of memory. Of each part the memory is let go before the next.
 pub(crate) fn search_levels(alloc: Global, drawing: &Drawing) -> Result<AreaAnswer, Memory>
     requires { length drawing.now.curves.items ≤ 16000000 }
     ensures { IfOk result (IsAnswer (plan drawing.now)) }

@@ -16,7 +16,7 @@
 //!   the drawing (`by_sweep`). Else bad pairs are looked for, then points on curves (`on_curves`),
 //!   then the least level without a pair that breaks it (`levels`). Of a drawing that a level
 //!   settles, with a complete run of its edges at that level (`finishing`): one replay of the run
-//!   for the places of the points, which tell for each whether it lies on a curve, in the tube of a
+//!   for the places of the points, which say for each whether it lies on a curve, in the tube of a
 //!   half arc or in a cell (`spots`); one for the mesh of its half-edges, after which the events of
 //!   the run are let go but for their positions; the faces of the mesh by what its cells join, and
 //!   those beside each curve (`case_sides`); and links from each half-edge to the border, a tube or

@@ -28,7 +28,7 @@ struct Noted {
 }
 
 /// The mesh of the run that the events of a sweep over these edges make, with all events turned.
-/// The only error is want of memory. It takes time linear in the edges and in what the live list
+/// The only error is out of memory. It takes time linear in the edges and in what the live list
 /// moves, as the sweep does, and at most 48 bytes an edge, of which 32 stay.
 pub(crate) fn mesh_of_run(alloc: Global, edges: &[Edge], swept: &Swept) -> Result<Mesh, Memory>
     requires few { length edges.now < 2 ^ 31 }
@@ -39,6 +39,7 @@ pub(crate) fn mesh_of_run(alloc: Global, edges: &[Edge], swept: &Swept) -> Resul
         (steps_from [] (moves_of swept.now.events.items)) mesh (length (steps_from []
         (moves_of swept.now.events.items)))) }
 {
+    event_mesh::laws::turned_events();
     let noted = note_events(alloc, edges, &swept.events)?;
     let events = swept.events.len() as u32;
     let mut mesh = mesh_of(alloc, events, &noted.low, &noted.high)?;

@@ -19,7 +19,7 @@ use ports::Memory;
 use std::alloc::Global;
 
 /// The least object's point that lies on a curve, and the least curve on which it lies; None
-/// exactly where no point does. The only error is want of memory. It takes what the places of the
+/// exactly where no point does. The only error is out of memory. It takes what the places of the
 /// points among the straights take; then half arcs times the points that begin within their boxes
 /// along x, or the other way round, and 65 bytes for each point and for each half arc.
 pub(crate) fn first_on_curve(

@@ -8,7 +8,7 @@ use ports::Memory;
 use std::alloc::Global;
 use std::test::Fail;
 
-const WINDOW: Window2 = Window2 {
+pub const WINDOW: Window2 = Window2 {
     low: Point { x: 0, y: 0 },
     high: Point {
         x: 1_000_000,
@@ -21,14 +21,20 @@ const ROUND: Line = Arc([510_000, 500_000, 500_000, 510_000, 490_000, 500_000]);
 
 const FLAT: Line = Straight([490_000, 500_000, 510_000, 500_000]);
 
-const DISC: &[Line] = &[ROUND, FLAT];
+pub const DISC: &[Line] = &[ROUND, FLAT];
 
 // One line more: to an inner corner of the first tube, to an outer corner, and to the end of both.
-const INNER: &[Line] = &[ROUND, FLAT, Straight([500_000, 500_000, 507_071, 507_071])];
+pub const INNER: &[Line] = &[ROUND, FLAT, Straight([500_000, 500_000, 507_071, 507_071])];
 
-const OUTER: &[Line] = &[ROUND, FLAT, Straight([520_000, 510_000, 510_301, 504_266])];
+pub const OUTER: &[Line] = &[ROUND, FLAT, Straight([520_000, 510_000, 510_301, 504_266])];
 
-const END: &[Line] = &[ROUND, FLAT, Straight([520_000, 510_000, 510_000, 500_000])];
+pub const END: &[Line] = &[ROUND, FLAT, Straight([520_000, 510_000, 510_000, 500_000])];
+
+// A half disc that is too small for tubes.
+pub const NARROW: &[Line] = &[
+    Arc([500_013, 500_000, 500_000, 500_013, 499_987, 500_000]),
+    Straight([499_987, 500_000, 500_013, 500_000]),
+];
 
 // A point off the tubes; two in the first tube, inside the circle and outside; and one on the
 // circle.
@@ -163,6 +169,16 @@ const CHANGES: [Change; 25] = [
     (DISC, INSIDE, &TUBE, (14, 14), b"E 1 R 1 2 R 0\n", (10, 0)),
 ];
 
+// Counts that do not fit, and half arcs without a tube.
+const COUNTS: [Change; 4] = [
+    // the greatest level and no part, and an event too few
+    (DISC, MIDDLE, &CELL, (4, 25), b"SIZES 5 0 0 0\n", (2, 0)),
+    (DISC, MIDDLE, &CELL, (4, 5), b"SIZES 0 11 8 1\n", (2, 0)),
+    // no tube, with as many parts as there would be, and without any
+    (NARROW, MIDDLE, &CELL, (3, 3), b"AREA A B C\n", (2, 0)),
+    (NARROW, MIDDLE, &CELL, (4, 25), b"SIZES 5 0 0 0\n", (2, 0)),
+];
+
 fn text(
     alloc: Global,
     of: &Text,
@@ -198,6 +214,10 @@ fn judge_change(alloc: Global, change: &Change) -> Result<Option<Broken>, Memory
 #[test]
 fn each_change_breaks_its_rule_at_its_place(rt: HostRuntime) -> Result<(), Fail> {
     for change in &CHANGES {
+        let answer = judge_change(rt.alloc(), change)?;
+        assert_eq!(rt; answer, Some(change.5), "from line {}", change.3.0);
+    }
+    for change in &COUNTS {
         let answer = judge_change(rt.alloc(), change)?;
         assert_eq!(rt; answer, Some(change.5), "from line {}", change.3.0);
     }

@@ -26,9 +26,13 @@ mod drawings;
 #[cfg(test)]
 mod edge_lists;
 #[cfg(test)]
+mod foreign_corners;
+#[cfg(test)]
 mod half_arc_tubes;
 #[cfg(test)]
 mod labels;
+#[cfg(test)]
+mod long_rows;
 #[cfg(test)]
 mod meetings_of_edges;
 #[cfg(test)]

@@ -8,6 +8,7 @@ use Rattle.area_search.specs.Owners.{AreOwners, AreShared, IsLeastShare}
 use Rattle.area_search.specs.PointFaces.{IsFirstOutside}
 use Rattle.area_search.specs.declared.case_sides.Beside.{Beside}
 use Rattle.area_search.specs.declared.owners.Shared.{Shared}
+use Rattle.area_search.proofs.CaseCurves.{arc_first}
 use Rattle.area_search.proofs.CaseEdges.{curves_turn}
 use Rattle.area_search.proofs.CaseFaces.{outside_answer, two_answer}
 use Rattle.area_search.proofs.CaseFaults.{all_owned, besides_known, empty_answer, point_known}
@@ -32,7 +33,7 @@ pub owners_of-requires-clause-known : goal.owners_of-requires-clause-known
 owners_of-requires-clause-known c =
     subst (λ (fs : List ℕ). (j : ℕ) → j < length fs → slice_index fs j < c.args.count) (sym (c.deref-3.ensures.value ∙ c.in_ok-faces.ensures))
     (point_known (plan c.args.case.now.drawing.now) c.args.case.now.level c.args.case.now.list.now.edges.items c.args.case.now.list.now.owners.items c.args.case.now.facings.now c.requires.faced.vs c.requires.faced.case
-    c.args.spots.now c.requires.faced.placed c.args.mesh.now c.args.count c.requires.faced.faces)
+    c.args.spots.now c.requires.faced.placed c.args.mesh.now c.args.count c.requires.faced.faces (λ i h. arc_first (plan c.args.case.now.drawing.now) c.args.case.now.level i (c.chains_have_edges.ensures.inner (plan c.args.case.now.drawing.now) c.args.case.now.level i c.requires.faced.case.tubes h) (c.chains_have_edges.ensures.outer (plan c.args.case.now.drawing.now) c.args.case.now.level i h)))
 
 pub returns-in-Some-shared : goal.returns-in-Some-shared
 returns-in-Some-shared c =
@@ -48,7 +49,7 @@ first_free-requires-clause-known c =
     subst (λ (n : ℕ). (i : ℕ) → i < length c.deref-5.result.now → IsBesideIn n (beside_at c.deref-5.result.now i)) (sym e)
     (subst (λ (bs : List Beside). (i : ℕ) → i < length bs → IsBesideIn c.args.count (beside_at bs i)) (sym c.deref-5.ensures.value)
     (λ i l. besides_known (plan c.args.case.now.drawing.now) c.args.case.now.level c.args.case.now.list.now.edges.items c.args.case.now.list.now.owners.items c.args.case.now.facings.now c.requires.faced.vs c.requires.faced.case
-    c.args.spots.now c.requires.faced.placed c.args.mesh.now c.args.count c.requires.faced.faces
+    c.args.spots.now c.requires.faced.placed c.args.mesh.now c.args.count c.requires.faced.faces (λ i h. arc_first (plan c.args.case.now.drawing.now) c.args.case.now.level i (c.chains_have_edges.ensures.inner (plan c.args.case.now.drawing.now) c.args.case.now.level i c.requires.faced.case.tubes h) (c.chains_have_edges.ensures.outer (plan c.args.case.now.drawing.now) c.args.case.now.level i h))
     c.in_ok-besides.besides.items c.in_ok-besides.ensures i (let s = c.in_ok-besides.ensures.size in omega (arith, l, s))))
 
 pub first_free-requires-clause-close : goal.first_free-requires-clause-close
@@ -59,7 +60,7 @@ returns-in-Some-first_free c =
     let o = c.in_ok-owners.ensures in
     let same = c.deref-3.ensures.value ∙ c.in_ok-faces.ensures in
     empty_answer (plan c.args.case.now.drawing.now) c.args.case.now.level c.args.case.now.list.now.edges.items c.args.case.now.list.now.owners.items c.args.case.now.facings.now c.requires.faced.vs c.requires.faced.case
-    c.args.spots.now c.requires.faced.placed c.args.mesh.now c.args.count c.requires.faced.faces
+    c.args.spots.now c.requires.faced.placed c.args.mesh.now c.args.count c.requires.faced.faces (λ i h. arc_first (plan c.args.case.now.drawing.now) c.args.case.now.level i (c.chains_have_edges.ensures.inner (plan c.args.case.now.drawing.now) c.args.case.now.level i c.requires.faced.case.tubes h) (c.chains_have_edges.ensures.outer (plan c.args.case.now.drawing.now) c.args.case.now.level i h))
     c.in_ok-besides.besides.items c.in_ok-besides.ensures
     c.in_ok-owners.owners.of_face.items (subst (λ (fs : List ℕ). AreOwners fs (length fs) c.in_ok-owners.owners.of_face.items) same o.owners) o.size c.in-Some-first_free.side (c.args.case.now.level, c.requires.least)
     (subst (λ (fs : List ℕ). IsFirstOutside fs None) (c.deref-2.ensures.value ∙ c.in_ok-faces.ensures) c.in_default.ensures)
@@ -81,7 +82,7 @@ returns c =
       shared = subst (λ (n : ℕ). AreShared (spot_faces (plan c.args.case.now.drawing.now) c.args.case.now.level c.args.mesh.now.face c.args.spots.now) n None) size
           (subst (λ (fs : List ℕ). AreShared fs (length c.deref-3.result.now) None) same (subst (λ (s : Option Shared). AreShared c.deref-3.result.now (length c.deref-3.result.now) s) c.in_default-shared.is o.shared));
       owned = all_owned (plan c.args.case.now.drawing.now) c.args.case.now.level c.args.case.now.list.now.edges.items c.args.case.now.list.now.owners.items c.args.case.now.facings.now c.requires.faced.vs c.requires.faced.case
-          c.args.spots.now c.requires.faced.placed c.args.mesh.now c.args.count c.requires.faced.faces
+          c.args.spots.now c.requires.faced.placed c.args.mesh.now c.args.count c.requires.faced.faces (λ i h. arc_first (plan c.args.case.now.drawing.now) c.args.case.now.level i (c.chains_have_edges.ensures.inner (plan c.args.case.now.drawing.now) c.args.case.now.level i c.requires.faced.case.tubes h) (c.chains_have_edges.ensures.outer (plan c.args.case.now.drawing.now) c.args.case.now.level i h))
           c.in_ok-besides.besides.items c.in_ok-besides.ensures
           c.in_ok-owners.owners.of_face.items (subst (λ (fs : List ℕ). AreOwners fs (length fs) c.in_ok-owners.owners.of_face.items) same o.owners) o.size
           (subst (λ (cs : List Curve). HasNoFree cs c.in_ok-besides.besides.items c.in_ok-owners.owners.of_face.items (length cs)) c.deref-4.ensures.value

@@ -1,4 +1,4 @@
-use Rattle.std.proofs.Common.{◌<◌, ◌≤◌, length, arith, ap, subst}
+use Rattle.std.proofs.Common.{length, arith, ap, subst}
 use Rattle.line_sweep.specs.Kinds.{IsRefused}
 use Rattle.plane.specs.Rule.Plans.{plan}
 use Rattle.area_search.proofs.LevelSearch.{few_edges, never_bad}

@@ -1,6 +1,6 @@
 use Rattle.area_search.specs.Answers.{meeting}
 use Rattle.plane.specs.Rule.Plans.{plan}
-use Rattle.meetings.proofs.StraightLists.{none_of_both}
+use Rattle.area_search.proofs.LevelSearch.{none_of_both}
 use Rattle.area_search.proofs.levels.fault_beside_straights.Goals as goal
 
 pub fault_of_points-requires-clause-pairs : goal.fault_of_points-requires-clause-pairs

@@ -1,6 +1,6 @@
-use Rattle.std.proofs.Common.{◌<◌, ◌≤◌, ℕ, arith, sym, ◌∙◌}
+use Rattle.std.proofs.Common.{arith}
 use Rattle.plane.specs.Rule.Plans.{plan}
-use Rattle.area_search.proofs.LevelSearch.{least_level, none_settles, not_settled_more}
+use Rattle.area_search.proofs.LevelSearch.{least_level, none_settles}
 use Rattle.area_search.proofs.levels.try_levels.Goals as goal
 
 pub answer_at-requires-clause-least : goal.answer_at-requires-clause-least

@@ -34,7 +34,7 @@ loop-event-init c =
       room = subst (λ (k : ℕ). IsWidest (moves_of c.args.swept.now.events.items) (length c.args.swept.now.events.items) k) (sym room)
           (subst (λ (es : List Event). IsWidest (moves_of es) (length es) c.widest.result) c.deref-4.ensures.value c.widest.ensures);
       turned = listed_mesh (length c.args.edges.now) (edge_of c.args.edges.now) c.args.swept.now.events.items c.requires.run c.deref.result.now c.deref.ensures.value c.in_ok-noted.noted c.in_ok-noted.ensures
-          c.len-events.result c.deref-2.result.now c.deref-3.result.now c.in_ok-mesh.mesh n c.deref-2.ensures.value c.deref-3.ensures.value c.in_ok-mesh.ensures;
+          c.turned_events.ensures.begin c.len-events.result c.deref-2.result.now c.deref-3.result.now c.in_ok-mesh.mesh n c.deref-2.ensures.value c.deref-3.ensures.value c.in_ok-mesh.ensures;
     }
 
 pub slice_bounds-turn_event-end : goal.slice_bounds-turn_event-end
@@ -50,7 +50,7 @@ turn_event-requires-clause-can c =
     can_turn_event (length c.args.edges.now) (edge_of c.args.edges.now) c.args.swept.now.events.items c.requires.run c.deref.result.now c.deref.ensures.value c.in_ok-noted.noted c.in_ok-noted.ensures
     c.requires.fit c.deref-event-items.result.now c.deref-event-items.ensures.value c.requires.few c.loop-event.event-index c.loop-event-test.true c.event-item.result c.event-item.is
     c.loop-event.from c.loop-event.invariant.within c.loop-event.invariant.rest
-    c.deref-in-loop-event.result.now c.deref-in-loop-event-2.result.now c.deref-in-loop-event.ensures.value c.deref-in-loop-event-2.ensures.value c.loop-event.mesh c.loop-event.invariant.turned
+    c.deref-in-loop-event.result.now c.deref-in-loop-event-2.result.now c.deref-in-loop-event.ensures.value c.deref-in-loop-event-2.ensures.value c.turned_events.ensures.can c.loop-event.mesh c.loop-event.invariant.turned
 
 pub turn_event-requires-clause-room : goal.turn_event-requires-clause-room
 turn_event-requires-clause-room c =

@@ -1,10 +1,9 @@
-use Rattle.std.proofs.Common.{◌<◌, List, [], map, length, refl, arith, ap, sym, subst, ◌∙◌, Option}
+use Rattle.std.proofs.Common.{List, [], map, length, refl, arith, ap, sym, subst, ◌∙◌}
 use Rattle.plane.specs.Rule.Plans.{plan}
 use Rattle.plane.specs.Runs.Moves.{steps_from}
 use Rattle.plane.specs.Runs.Steps.{Run}
 use Rattle.plane.specs.declared.kinds.Edge.{Edge}
 use Rattle.plane.specs.declared.kinds.Placed.{Placed}
-use Rattle.plane.specs.declared.kinds.Point.{Point}
 use Rattle.line_sweep.specs.Kinds.{moves_of}
 use Rattle.point_location.specs.Places.{ArePlaces}
 use Rattle.point_location.specs.declared.places.Place.{Place}
