@@ -21,10 +21,10 @@ use Rattle.delivery.specs.FiledTexts as filed_texts
 use Rattle.delivery.specs.FiledTexts.{AreVerified, IsRowsVerified, IsVerified}
 use Rattle.delivery.specs.Gathering as gathering
 use Rattle.delivery.specs.Gathering.{Gathered, Reads, ReadsAll, Compiles, Gathers}
-use Rattle.delivery.specs.Amounting.{Amounts}
+use Rattle.delivery.specs.Causes.{HasOutcome}
 use Rattle.delivery.specs.Judging.{lines_of, objects, AreJudged, IsRowsChecked, faulty, oversized, judged, IsChecked, at_fault, well_formed}
 use Rattle.delivery.specs.ModelTexts.{Refusal, IsRefused, HasLayout}
-use Rattle.delivery.specs.Outcomes.{Filing, Target, check_target, trial_target, Outcome, misbuilt, areas_told, verified, report_of}
+use Rattle.delivery.specs.Outcomes.{Filing, Target, check_target, trial_target, Outcome, misbuilt, areas_outcome, verified, report_of}
 use Rattle.delivery.specs.Reading.{IsWhole, IsLonger}
 use Rattle.delivery.proofs.AreaLemmas.{AreaLaws, same_lines, areas_agree}
 use Rattle.delivery.proofs.Causes.{by_write}
@@ -133,7 +133,7 @@ differ e = cc
 agree_both : (o p q : Outcome) → o ≡ q → p ≡ q → Agree o p
 agree_both o p q e f = agree_same o p (e ∙ sym f)
 
-unread_status : (c : Command) (g : Gathered) (o : Outcome) → IsUnread g → Amounts c g o → o.status ≡ ReadFault
+unread_status : (c : Command) (g : Gathered) (o : Outcome) → IsUnread g → HasOutcome c g o → o.status ≡ ReadFault
 unread_status c (gathering.unread f) o u e = ap (λ (x : Outcome). x.status) e
 unread_status c (gathering.too_long f) o u e = absurd u
 unread_status c (gathering.refused r) o u e = absurd u
@@ -142,8 +142,8 @@ unread_status c (gathering.texts l ts) o u e = absurd u
 module _ (laws : AreaLaws) where
   agree_areas : (target : Target) (l : Layout) (rows : List (List Row)) (o p : Outcome) → AreJudged target l rows o → AreJudged target l rows p → Agree o p
   agree_areas target l rows o p j k =
-      subst (λ (x : Outcome). Agree x p) (sym j.told)
-      (subst (Agree (areas_told l (objects rows) target j.answers j.certificates)) (sym k.told)
+      subst (λ (x : Outcome). Agree x p) (sym j.is)
+      (subst (Agree (areas_outcome l (objects rows) target j.answers j.certificates)) (sym k.is)
       (areas_agree laws l (objects rows) target k.drawings j.answers k.answers j.certificates k.certificates
       (subst (λ (ds : List Plan). AreAnswers l l.areas ds j.answers j.certificates) (same_drawings l rows l.areas j.drawings k.drawings j.drawn k.drawn) j.answered) k.answered))
 
@@ -171,11 +171,11 @@ module _ (laws : AreaLaws) where
   agree_verified : (l : Layout) (rows : List (List Row)) (filed : List ℕ) (o p : Outcome) → AreVerified l rows filed o → AreVerified l rows filed p → Agree o p
   agree_verified l rows filed o p j k =
       agree_same o p
-      (j.told ∙ ap (λ (ds : List Plan). verified l (objects rows) ds j.verification) (same_drawings l rows l.areas j.drawings k.drawings j.drawn k.drawn)
+      (j.is ∙ ap (λ (ds : List Plan). verified l (objects rows) ds j.verification) (same_drawings l rows l.areas j.drawings k.drawings j.drawn k.drawn)
       ∙ ap (verified l (objects rows) k.drawings)
       (laws.verifications l k.drawings filed j.verification k.verification
       (subst (λ (ds : List Plan). IsVerification l ds filed j.verification) (same_drawings l rows l.areas j.drawings k.drawings j.drawn k.drawn) j.judged) k.judged)
-      ∙ sym k.told)
+      ∙ sym k.is)
 
   agree_filed_rows : (l : Layout) (rows : List (List Row)) (filed : List ℕ) (o p : Outcome) → IsRowsVerified l rows filed o → IsRowsVerified l rows filed p → Agree o p
   agree_filed_rows l rows filed o p (filed_texts.faulty n e) (filed_texts.faulty m f) = agree_both o p _ e f
@@ -188,7 +188,7 @@ module _ (laws : AreaLaws) where
   agree_filed_rows l rows filed o p (filed_texts.verified k b i) (filed_texts.oversized m d f) = absurd (differ (sym d ∙ b))
   agree_filed_rows l rows filed o p (filed_texts.verified k b i) (filed_texts.verified m d j) = agree_verified l rows filed o p i j
 
-  agree_filed : (l : Layout) (text filed : List ℕ) (o p : Outcome) → IsVerified l text filed o → IsVerified l text filed p → Agree o p
+  pub agree_filed : (l : Layout) (text filed : List ℕ) (o p : Outcome) → IsVerified l text filed o → IsVerified l text filed p → Agree o p
   agree_filed l text filed o p (filed_texts.at_fault n c h e) (filed_texts.at_fault m d k f) =
       let q = one_fault (form_of l) (lines_of l text) n m c d h k in
       agree_same o p (e ∙ ap (λ (x : ℕ). misbuilt x c) q.0 ∙ ap (misbuilt m) q.1 ∙ sym f)
@@ -198,7 +198,7 @@ module _ (laws : AreaLaws) where
       let q = one_transfer (form_of l) (lines_of l text).lines t u h.1 k.1 in
       agree_filed_rows l u filed o p (subst (λ (x : List (List Row)). IsRowsVerified l x filed o) q e) f
 
-  agree_amount : (c : Command) (g : Gathered) (o p : Outcome) → Amounts c g o → Amounts c g p → Agree o p
+  agree_amount : (c : Command) (g : Gathered) (o p : Outcome) → HasOutcome c g o → HasOutcome c g p → Agree o p
   agree_amount c (gathering.unread f) o p h k = agree_both o p _ h k
   agree_amount c (gathering.too_long f) o p h k = agree_both o p _ h k
   agree_amount c (gathering.refused r) o p h k = agree_both o p _ h k
@@ -214,12 +214,12 @@ module _ (laws : AreaLaws) where
   agree_amount (trial n c) (gathering.texts l (text ∷ [])) o p h k = agree_text (trial_target n c) l text o p h k
   agree_amount (trial n c) (gathering.texts l (t ∷ u ∷ ts)) o p h k = absurd h
 
-  files_agree : (c : Command) (g h : Gathered) (o p : Outcome) → Same g h → Amounts c g o → Amounts c h p → AgreeUnlessUnread o p
+  files_agree : (c : Command) (g h : Gathered) (o p : Outcome) → Same g h → HasOutcome c g o → HasOutcome c h p → AgreeUnlessUnread o p
   files_agree c g h o p s a b = elim s as (λ z. AgreeUnlessUnread o p) [
     | inl u ↦ inl (unread_status c g o u a)
     | inr n ↦ elim n as (λ z. AgreeUnlessUnread o p) [
       | inl u ↦ inr (inl (unread_status c h p u b))
-      | inr e ↦ inr (inr (agree_amount c h o p (subst (λ (x : Gathered). Amounts c x o) e a) b))
+      | inr e ↦ inr (inr (agree_amount c h o p (subst (λ (x : Gathered). HasOutcome c x o) e a) b))
     ]
   ]
 
@@ -231,14 +231,14 @@ module _ (laws : AreaLaws) where
       let e = one_command words c d i j in
       files_agree d g h o p
       (same_gathered files far near d g h (subst (λ (z : Command). Gathers (Some files) far z g) e x) y)
-      (subst (λ (z : Command). Amounts z g o) e a) b
+      (subst (λ (z : Command). HasOutcome z g o) e a) b
 
 -- an answer that is that of an outcome unless a write failed is that of each outcome, as far as they agree
-pub exactly : (told : Option Files) (far near : List ℕ → Type 0) (words : List (List ℕ)) (p : Outcome) (s : Status) (before after : Option (List ℕ))
-    → ((files : Files) (x y : Outcome) → Decides (Some files) far words x → Decides (Some files) near words y → AgreeUnlessUnread x y) → Decides told near words p
+pub exactly : (held : Option Files) (far near : List ℕ → Type 0) (words : List (List ℕ)) (p : Outcome) (s : Status) (before after : Option (List ℕ))
+    → ((files : Files) (x y : Outcome) → Decides (Some files) far words x → Decides (Some files) near words y → AgreeUnlessUnread x y) → Decides held near words p
     → (s ≢ WriteFault → s ≡ p.status) → (s ≢ WriteFault → Adds before (report_of p) after)
-    → (files : Files) → told ≡ Some files → (o : Outcome) → Decides (Some files) far words o → IsAnswer o s before after
-exactly told far near words p s before after agree k e r files t o h read =
+    → (files : Files) → held ≡ Some files → (o : Outcome) → Decides (Some files) far words o → IsAnswer o s before after
+exactly held far near words p s before after agree k e r files t o h read =
     by_write (Answers o s before after ⊎ IsStopped s) s (λ w. inr (inr (inl w)))
     (λ n. elim (agree files o p h (subst (λ (x : Option Files). Decides x near words p) t k)) as (λ z. Answers o s before after ⊎ IsStopped s) [
       | inl u ↦ absurd (read u)

@@ -1,12 +1,16 @@
 -- The answer to one area, and to one area after the other.
-use Rattle.std.proofs.Common.{◌≡◌, ℕ, suc, List, [], ◌∷◌, ◌++◌, length, Some, None, refl, sym, ap, ◌∙◌, subst, arith, append-nil, append_assoc, ◌⊎◌, inl, inr}
-use Rattle.std.specs.List.{All}
+use Rattle.std.proofs.Common.{◌≡◌, ℕ, suc, ◌+◌, ◌<◌, ◌≤◌, ◌^◌, List, [], ◌∷◌, ◌++◌, length, Option, Some, None, refl, sym, ap, ◌∙◌, subst, arith, append-nil, append_assoc, ◌⊎◌, inl, inr}
+use Rattle.std.specs.List.{All, AllByRecursion}
+use Rattle.std.proofs.lemmas.List.{length-append}
 use Rattle.std.proofs.lemmas.List.Elements.{All-head, All-tail}
-use Rattle.certificate.specs.Spelling.{Plain, view}
+use Rattle.certificate.specs.Spelling.{Plain, Fits, HasNamesAndCounts, IsName, pairs, view}
+use Rattle.certificate.specs.declared.notes.HalfNote.{HalfNote}
 use Rattle.certificate.specs.declared.notes.Certificate.{Certificate}
-use Rattle.certificate_checker.specs.Subjects.{claims}
+use Rattle.certificate_checker.specs.Subjects.{Claims, claims}
 use Rattle.certificate_checker.specs.Verdicts.{Proves}
 use Rattle.table_layout.specs.Layouts.{AreaOf, Layout}
+use Rattle.table_layout.specs.Values.{area_view, areas_view}
+use Rattle.table_layout.specs.declared.layouts.AreaOf.{AreaOf as CodeArea}
 use Rattle.plane.specs.Rule.Plans.{Plan, plan}
 use Rattle.plane.specs.declared.drawing.Drawing.{Drawing}
 use Rattle.area_search.specs.Answers as search
@@ -14,11 +18,11 @@ use Rattle.area_search.specs.declared.kinds.AreaAnswer.{AreaAnswer as Found}
 use Rattle.area_search.specs.declared.kinds.AreaAnswer.TheVariants as found
 use Rattle.area_search.specs.declared.kinds.AreaFinding.{AreaFinding}
 use Rattle.delivery.specs.AnswerViews.{certificates_in, named}
-use Rattle.delivery.specs.AreaAnswers.{IsAnswer, faulty, undecided, proved, fault_told, undecided_told, proof_told, plans, AreAnswers}
+use Rattle.delivery.specs.AreaAnswers.{IsAnswer, faulty, undecided, proved, fault_answer, undecided_answer, proof_answer, plans, AreAnswers}
 use Rattle.delivery.specs.AreaCertificates.{claims_of}
-use Rattle.delivery.specs.AreaLimits.{HasFewCurves}
+use Rattle.delivery.specs.AreaLimits.{IsSmallPlan}
 use Rattle.delivery.proofs.CertificateLemmas.{proved_view}
-use Rattle.delivery.specs.AreaNames.{topic_name, table_name}
+use Rattle.delivery.specs.AreaNames.{HasTitle, topic_name, table_name}
 use Rattle.delivery.specs.declared.report.lines.AreaAnswer.{AreaAnswer}
 
 -- ---- one answer
@@ -28,7 +32,7 @@ proof_of d _ (search.proved c p l n) = (p, l)
 
 module _ (l : Layout) (a : AreaOf) (d : Plan) (b : Found) (h : search.IsAnswer d b) where
   pub answer_proved : (c e : Certificate) (topic table attribute : List ℕ) → b ≡ found.Proved c → view e ≡ named topic table attribute (view c)
-      → topic ≡ topic_name l a → table ≡ table_name l a → attribute ≡ a.name → (x : AreaAnswer) → x ≡ proof_told d c.level → IsAnswer l a d x (certificates_in (Some e))
+      → topic ≡ topic_name l a → table ≡ table_name l a → attribute ≡ a.name → (x : AreaAnswer) → x ≡ proof_answer d c.level → IsAnswer l a d x (certificates_in (Some e))
   answer_proved c e topic table attribute q v t m n x y =
       let p = proof_of d c (subst (search.IsAnswer d) q h) in
       let level : c.level ≡ (view e).level = sym (ap (λ (z : Plain). z.level) v) in
@@ -38,13 +42,39 @@ module _ (l : Layout) (a : AreaOf) (d : Plan) (b : Found) (h : search.IsAnswer d
         proves = subst (λ (z : Plain). Proves d (claims_of z)) (sym v) (proved_view d c p.0);
       })
       (subst (search.IsLeastLevel d) level p.1)
-      (y ∙ ap (proof_told d) level) refl
+      (y ∙ ap (proof_answer d) level) refl
 
-  pub answer_faulty : (f : AreaFinding) → b ≡ found.Fault f → (x : AreaAnswer) → x ≡ fault_told d f → IsAnswer l a d x (certificates_in None)
+  pub answer_faulty : (f : AreaFinding) → b ≡ found.Fault f → (x : AreaAnswer) → x ≡ fault_answer d f → IsAnswer l a d x (certificates_in None)
   answer_faulty f q x y = faulty f (subst (search.IsAnswer d) q h) y refl
 
-  pub answer_undecided : (i j : ℕ) → b ≡ found.Undecided i j → (x : AreaAnswer) → x ≡ undecided_told d i j → IsAnswer l a d x (certificates_in None)
+  pub answer_undecided : (i j : ℕ) → b ≡ found.Undecided i j → (x : AreaAnswer) → x ≡ undecided_answer d i j → IsAnswer l a d x (certificates_in None)
   answer_undecided i j q x y = undecided i j (subst (search.IsAnswer d) q h) y refl
+
+-- ---- a certificate that can be written
+pairs_fewer : (notes : List HalfNote) → length (pairs notes) ≤ length notes
+pairs_fewer [] = omega arith
+pairs_fewer (n ∷ []) = omega arith
+pairs_fewer (n ∷ m ∷ notes) = omega (arith, pairs_fewer notes)
+
+-- what the checker of certificates says of the counts of claims that prove a drawing
+pub record CountLaws : Type 0 where
+  pub positions : (d : Plan) (c : Claims) → Proves d c → length d.curves ≤ 16000000 → length c.positions < 2 ^ 32
+  pub notes : (d : Plan) (c : Claims) → Proves d c → length d.curves ≤ 16000000 → length c.notes < 2 ^ 32
+  pub places : (d : Plan) (c : Claims) → Proves d c → length c.places ≡ length d.points
+
+module _ (laws : CountLaws) (l : Layout) (a : AreaOf) (d : Plan) (c : Certificate) (h : search.IsAnswer d (found.Proved c)) (names : HasTitle l a) (small : IsSmallPlan d) where
+  pub can_be_written : (e : Certificate) (topic table attribute : List ℕ) → view e ≡ named topic table attribute (view c) → topic ≡ topic_name l a → table ≡ table_name l a → attribute ≡ a.name → HasNamesAndCounts (view e)
+  can_be_written e topic table attribute v t m n =
+      let p = (proof_of d c h).0 in
+      subst HasNamesAndCounts (sym v)
+      (record {
+        topic = subst IsName (sym t) names.topic;
+        table = subst IsName (sym m) names.table;
+        attribute = subst IsName (sym n) names.attribute;
+        position_count = laws.positions d (claims c) p small.curves;
+        edge_count = omega (arith, pairs_fewer c.notes.items, laws.notes d (claims c) p small.curves);
+        place_count = omega (arith, laws.places d (claims c) p, small.points);
+      })
 
 -- ---- one area after the other
 -- what is answered to some areas may be followed by what is answered to the rest
@@ -59,9 +89,9 @@ pub go_on : (l : Layout) (all rest : List AreaOf) (ds es : List Plan) (a : AreaO
 go_on l all rest ds es a d as_ fs xs cs x here more kept q r u w n g ys bs h =
     let all_rest : AreAnswers l rest es (x ∷ ys) (here ++ bs) =
     subst (λ (bs_ : List AreaOf). AreAnswers l bs_ es (x ∷ ys) (here ++ bs)) (sym q) (subst (λ (zs : List Plan). AreAnswers l (a ∷ as_) zs (x ∷ ys) (here ++ bs)) (sym r) (here, bs, n, h, refl)) in
-    let told : xs ++ x ∷ ys ≡ more ++ ys = sym (append_assoc xs (x ∷ []) ys) ∙ ap (λ (zs : List AreaAnswer). zs ++ ys) (sym u) in
+    let joined : xs ++ x ∷ ys ≡ more ++ ys = sym (append_assoc xs (x ∷ []) ys) ∙ ap (λ (zs : List AreaAnswer). zs ++ ys) (sym u) in
     let filed : cs ++ (here ++ bs) ≡ kept ++ bs = sym (append_assoc cs here bs) ∙ ap (λ (zs : List Plain). zs ++ bs) (sym w) in
-    subst (λ (zs : List AreaAnswer). AreAnswers l all ds zs (kept ++ bs)) told
+    subst (λ (zs : List AreaAnswer). AreAnswers l all ds zs (kept ++ bs)) joined
     (subst (AreAnswers l all ds (xs ++ x ∷ ys)) filed (g (x ∷ ys) (here ++ bs) all_rest))
 
 pub all_answered : (l : Layout) (all rest : List AreaOf) (ds es : List Plan) (xs : List AreaAnswer) (cs : List Plain) → rest ≡ [] → es ≡ [] → GoesOn l all ds rest es xs cs → AreAnswers l all ds xs cs
@@ -83,9 +113,36 @@ both_ended (a ∷ as_) [] h k = absurd (omega (arith, h))
 both_ended (a ∷ as_) (b ∷ bs) h (inl e) = absurd (cc)
 both_ended (a ∷ as_) (b ∷ bs) h (inr e) = absurd (cc)
 
--- ---- drawings with few curves, one after the other
-pub few_first : (all : List Drawing) (d : Drawing) (rest : List Drawing) → all ≡ d ∷ rest → All HasFewCurves (plans all) → HasFewCurves (plan d)
-few_first all d rest e h = All-head HasFewCurves (plan d) (plans rest) (subst (λ (ds : List Drawing). All HasFewCurves (plans ds)) e h)
+-- ---- names of areas, one after the other
+pub named_first : (l : Layout) (all : List CodeArea) (a : CodeArea) (rest : List CodeArea) → all ≡ a ∷ rest → All (HasTitle l) (areas_view all) → HasTitle l (area_view a)
+named_first l all a rest e h = All-head (HasTitle l) (area_view a) (areas_view rest) (subst (λ (as_ : List CodeArea). All (HasTitle l) (areas_view as_)) e h)
 
-pub few_rest : (all : List Drawing) (d : Drawing) (rest : List Drawing) → all ≡ d ∷ rest → All HasFewCurves (plans all) → All HasFewCurves (plans rest)
-few_rest all d rest e h = All-tail HasFewCurves (plan d) (plans rest) (subst (λ (ds : List Drawing). All HasFewCurves (plans ds)) e h)
+pub named_rest : (l : Layout) (all : List CodeArea) (a : CodeArea) (rest : List CodeArea) → all ≡ a ∷ rest → All (HasTitle l) (areas_view all) → All (HasTitle l) (areas_view rest)
+named_rest l all a rest e h = All-tail (HasTitle l) (area_view a) (areas_view rest) (subst (λ (as_ : List CodeArea). All (HasTitle l) (areas_view as_)) e h)
+
+-- ---- certificates that can be written, one after the other
+all_append : {X : Type 0} (P : X → Type 0) (xs ys : List X) → AllByRecursion P xs → AllByRecursion P ys → AllByRecursion P (xs ++ ys)
+all_append P [] ys h k = k
+all_append P (x ∷ xs) ys h k = (h.0, all_append P xs ys h.1 k)
+
+pub fit_more : (cs here more : List Plain) → more ≡ cs ++ here → AllByRecursion Fits cs → AllByRecursion Fits here → AllByRecursion Fits more
+fit_more cs here more e h k = subst (AllByRecursion Fits) (sym e) (all_append Fits cs here h k)
+
+one_at_most : (c : Option Certificate) → length (certificates_in c) ≤ 1
+one_at_most None = omega arith
+one_at_most (Some c) = omega arith
+
+-- there are no more certificates than areas that were answered
+pub count_more : (n : ℕ) (all : List CodeArea) (a : CodeArea) (rest : List CodeArea) (cs more : List Plain) (c : Option Certificate) → all ≡ a ∷ rest → more ≡ cs ++ certificates_in c
+    → length cs + length all ≤ n → length more + length rest ≤ n
+count_more n all a rest cs more c e m h =
+    let len : length all ≡ suc (length rest) = ap length e in
+    let kept : length more ≡ length (cs ++ certificates_in c) = ap length m in
+    omega (arith, len, kept, length-append cs (certificates_in c), one_at_most c, h)
+
+-- ---- drawings with few curves and points, one after the other
+pub few_first : (all : List Drawing) (d : Drawing) (rest : List Drawing) → all ≡ d ∷ rest → All IsSmallPlan (plans all) → IsSmallPlan (plan d)
+few_first all d rest e h = All-head IsSmallPlan (plan d) (plans rest) (subst (λ (ds : List Drawing). All IsSmallPlan (plans ds)) e h)
+
+pub few_rest : (all : List Drawing) (d : Drawing) (rest : List Drawing) → all ≡ d ∷ rest → All IsSmallPlan (plans all) → All IsSmallPlan (plans rest)
+few_rest all d rest e h = All-tail IsSmallPlan (plan d) (plans rest) (subst (λ (ds : List Drawing). All IsSmallPlan (plans ds)) e h)

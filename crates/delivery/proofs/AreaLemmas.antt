@@ -21,12 +21,12 @@ use Rattle.area_search.specs.declared.kinds.AreaAnswer.TheVariants as found
 use Rattle.area_search.specs.declared.kinds.AreaFinding.{AreaFinding}
 use Rattle.area_search.specs.declared.kinds.AreaFinding.TheVariants as fault
 use Rattle.delivery.specs.Answers.{Matches, same, meetings, AgreeLines, Agree}
-use Rattle.delivery.specs.AreaAnswers.{IsAnswer, faulty, undecided, proved, fault_told, undecided_told, proof_told, curve_line, IsDrawn, AreAnswers, is_fault, is_left, has_fault, has_left, IsFaultyPlan, IsUndecidedPlan, IsFaultlessPlan, HasFaultyArea, ArePartedAreas, AreLeftAreas, HaveStraightLines}
+use Rattle.delivery.specs.AreaAnswers.{IsAnswer, faulty, undecided, proved, fault_answer, undecided_answer, proof_answer, curve_line, IsDrawn, AreAnswers, is_fault, is_left, has_fault, has_left, IsFaultyPlan, IsUndecidedPlan, IsFaultlessPlan, HasFaultyArea, ArePartedAreas, AreLeftAreas, HaveStraightLines}
 use Rattle.delivery.specs.AreaNames.{topic_name, table_name}
 use Rattle.delivery.specs.Drawings.{IsDrawing, AreDrawings, area_curves}
 use Rattle.delivery.specs.Lines as lines
 use Rattle.delivery.specs.Lines.{Line}
-use Rattle.delivery.specs.Outcomes.{Target, Outcome, trial_line, size_lines, trial_lines, reported, accepted, with_verdict, area_line, area_lines, areas_told}
+use Rattle.delivery.specs.Outcomes.{Target, Outcome, trial_line, size_lines, trial_lines, reported, accepted, with_verdict, area_line, area_lines, areas_outcome}
 use Rattle.delivery.specs.TrialCounts.{HasEvents}
 use Rattle.delivery.specs.Verifying as verifying
 use Rattle.delivery.specs.Verifying.{Verification, IsVerification}
@@ -102,14 +102,14 @@ no_half_arc d i s h = kinds (curve d i) (s i h.there) h.kind
     kinds c a b = let e = sym a ∙ b in cc
 
 -- ---- what an answer says of its drawing
-pub fault_is_fault : (d : Plan) (f : AreaFinding) → is_fault (fault_told d f) ≡ true
+pub fault_is_fault : (d : Plan) (f : AreaFinding) → is_fault (fault_answer d f) ≡ true
 fault_is_fault d (fault.Meeting i j) = refl
 fault_is_fault d (fault.On j i) = refl
 fault_is_fault d (fault.Outside j) = refl
 fault_is_fault d (fault.Two i j) = refl
 fault_is_fault d (fault.Empty i left) = refl
 
-fault_not_left : (d : Plan) (f : AreaFinding) → is_left (fault_told d f) ≡ false
+fault_not_left : (d : Plan) (f : AreaFinding) → is_left (fault_answer d f) ≡ false
 fault_not_left d (fault.Meeting i j) = refl
 fault_not_left d (fault.On j i) = refl
 fault_not_left d (fault.Outside j) = refl
@@ -224,9 +224,9 @@ module _ (l : Layout) (rows : List (List Row)) where
       none : (d : Plan) → AreStraights d → IsUndecidedPlan d → ⊥
       none d s u = elim u.half_arc as (λ z. ⊥) [ inl n ↦ no_half_arc d u.first s n | inr n ↦ no_half_arc d u.second s n ]
 
--- what is told of answers, by whether one is a fault and whether one is left
-abbrev pub told_by : Layout → ℕ → Target → List AreaAnswer → List Plain → Bool → Bool → Outcome
-told_by l objects target xs cs b c =
+-- what is held of answers, by whether one is a fault and whether one is left
+abbrev pub outcome_by : Layout → ℕ → Target → List AreaAnswer → List Plain → Bool → Bool → Outcome
+outcome_by l objects target xs cs b c =
     if b then reported status.Rejected (with_verdict (area_lines l l.areas xs) verdict.Rejected)
     else if c then reported status.Undecided (with_verdict (area_lines l l.areas xs) verdict.Undecided)
     else accepted (area_lines l l.areas xs ++ trial_lines target.trial xs cs) objects target.name cs
@@ -240,11 +240,11 @@ data AreAlike (x y : AreaAnswer) : Type 0 where
   equal : x ≡ y → AreAlike x y
   both_meet : (i j k m : ℕ) → x ≡ Meeting i j → y ≡ Meeting k m → AreAlike x y
 
-told_alike : (d : Plan) (f g : AreaFinding) → search.Agree (found.Fault f) (found.Fault g) → AreAlike (fault_told d f) (fault_told d g)
-told_alike d _ _ (search.meetings i j k m) = both_meet (curve_line d i) (curve_line d j) (curve_line d k) (curve_line d m) refl refl
-told_alike d _ _ (search.faults f) = equal refl
+fault_alike : (d : Plan) (f g : AreaFinding) → search.Agree (found.Fault f) (found.Fault g) → AreAlike (fault_answer d f) (fault_answer d g)
+fault_alike d _ _ (search.meetings i j k m) = both_meet (curve_line d i) (curve_line d j) (curve_line d k) (curve_line d m) refl refl
+fault_alike d _ _ (search.faults f) = equal refl
 
-pairs_alike : (d : Plan) (i j k m : ℕ) → search.Agree (found.Undecided i j) (found.Undecided k m) → undecided_told d i j ≡ undecided_told d k m
+pairs_alike : (d : Plan) (i j k m : ℕ) → search.Agree (found.Undecided i j) (found.Undecided k m) → undecided_answer d i j ≡ undecided_answer d k m
 pairs_alike d _ _ _ _ (search.pairs i j) = refl
 
 abbrev is_pair : Found → Bool
@@ -282,7 +282,7 @@ alike_lines l a x y (both_meet i j k m e f) =
 
 module _ (laws : AreaLaws) (l : Layout) where
   alike : (a : AreaOf) (d : Plan) (x y : AreaAnswer) (cs es : List Plain) → IsAnswer l a d x cs → IsAnswer l a d y es → AreAlike x y
-  alike a d x y cs es (faulty f h e z) (faulty n k g w) = alike_as x y _ _ e g (told_alike d f n (laws.agree d (found.Fault f) (found.Fault n) h k))
+  alike a d x y cs es (faulty f h e z) (faulty n k g w) = alike_as x y _ _ e g (fault_alike d f n (laws.agree d (found.Fault f) (found.Fault n) h k))
   alike a d x y cs es (faulty f h e z) (undecided i j k g w) = absurd (let q = same_kinds _ _ (laws.agree d (found.Fault f) (found.Undecided i j) h k) in cc)
   alike a d x y cs es (faulty f h e z) (proved c k v g w) = absurd (laws.faults d f h (laws.proofs d _ k.proves))
   alike a d x y cs es (undecided i j h e z) (faulty f k g w) = absurd (let q = same_kinds _ _ (laws.agree d (found.Undecided i j) (found.Fault f) h k) in cc)
@@ -290,7 +290,7 @@ module _ (laws : AreaLaws) (l : Layout) where
   alike a d x y cs es (undecided i j h e z) (proved c k v g w) = absurd (not_proved i j (laws.partitions d (found.Undecided i j) (laws.proofs d _ k.proves) (c.level, v) h))
   alike a d x y cs es (proved c h v e z) (faulty f k g w) = absurd (laws.faults d f k (laws.proofs d _ h.proves))
   alike a d x y cs es (proved c h v e z) (undecided i j k g w) = absurd (not_proved i j (laws.partitions d (found.Undecided i j) (laws.proofs d _ h.proves) (c.level, v) k))
-  alike a d x y cs es (proved c h v e z) (proved b k u g w) = equal (e ∙ ap (proof_told d) (same_level d c.level b.level v u) ∙ sym g)
+  alike a d x y cs es (proved c h v e z) (proved b k u g w) = equal (e ∙ ap (proof_answer d) (same_level d c.level b.level v u) ∙ sym g)
 
   same_faults : (as_ : List AreaOf) (ds : List Plan) (xs ys : List AreaAnswer) (cs es : List Plain) → AreAnswers l as_ ds xs cs → AreAnswers l as_ ds ys es → has_fault xs ≡ has_fault ys
   same_faults [] [] [] [] cs es h k = refl
@@ -375,7 +375,7 @@ module _ (laws : AreaLaws) (l : Layout) where
       (alike_all l.areas ds xs ys cs es (t ++ (v ∷ [])) (u ++ (v ∷ [])) tails h k))
 
   module _ (objects : ℕ) (target : Target) where
-    agree_by : (ds : List Plan) (xs ys : List AreaAnswer) (cs es : List Plain) (b c : Bool) → has_fault xs ≡ b → has_left xs ≡ c → AreAnswers l l.areas ds xs cs → AreAnswers l l.areas ds ys es → Agree (told_by l objects target xs cs b c) (told_by l objects target ys es b c)
+    agree_by : (ds : List Plan) (xs ys : List AreaAnswer) (cs es : List Plain) (b c : Bool) → has_fault xs ≡ b → has_left xs ≡ c → AreAnswers l l.areas ds xs cs → AreAnswers l l.areas ds ys es → Agree (outcome_by l objects target xs cs b c) (outcome_by l objects target ys es b c)
     agree_by ds xs ys cs es true c f g h k = record { status = refl; lines = alike_all l.areas ds xs ys cs es (lines.verdict verdict.Rejected ∷ []) (lines.verdict verdict.Rejected ∷ []) (same refl, tt) h k; filings = tt }
     agree_by ds xs ys cs es false true f g h k = record { status = refl; lines = alike_all l.areas ds xs ys cs es (lines.verdict verdict.Undecided ∷ []) (lines.verdict verdict.Undecided ∷ []) (same refl, tt) h k; filings = tt }
     agree_by ds xs ys cs es false false f g h k = record {
@@ -385,8 +385,8 @@ module _ (laws : AreaLaws) (l : Layout) where
       filings = refl;
     }
 
-    pub areas_agree : (ds : List Plan) (xs ys : List AreaAnswer) (cs es : List Plain) → AreAnswers l l.areas ds xs cs → AreAnswers l l.areas ds ys es → Agree (areas_told l objects target xs cs) (areas_told l objects target ys es)
+    pub areas_agree : (ds : List Plan) (xs ys : List AreaAnswer) (cs es : List Plain) → AreAnswers l l.areas ds xs cs → AreAnswers l l.areas ds ys es → Agree (areas_outcome l objects target xs cs) (areas_outcome l objects target ys es)
     areas_agree ds xs ys cs es h k =
-        subst (λ (b : Bool). Agree (told_by l objects target xs cs (has_fault xs) (has_left xs)) (told_by l objects target ys es b (has_left ys))) (same_faults l.areas ds xs ys cs es h k)
-        (subst (λ (c : Bool). Agree (told_by l objects target xs cs (has_fault xs) (has_left xs)) (told_by l objects target ys es (has_fault xs) c)) (same_left l.areas ds xs ys cs es h k)
+        subst (λ (b : Bool). Agree (outcome_by l objects target xs cs (has_fault xs) (has_left xs)) (outcome_by l objects target ys es b (has_left ys))) (same_faults l.areas ds xs ys cs es h k)
+        (subst (λ (c : Bool). Agree (outcome_by l objects target xs cs (has_fault xs) (has_left xs)) (outcome_by l objects target ys es (has_fault xs) c)) (same_left l.areas ds xs ys cs es h k)
         (agree_by ds xs ys cs es (has_fault xs) (has_left xs) refl refl h k))

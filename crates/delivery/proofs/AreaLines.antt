@@ -8,27 +8,27 @@ use Rattle.delivery.specs.LineViews.{line_of, lines_of}
 use Rattle.delivery.specs.Lines.{Line}
 use Rattle.plane.specs.Rule.Plans.{plan}
 use Rattle.plane.specs.declared.drawing.Drawing.{Drawing}
-use Rattle.delivery.specs.AreaAnswers.{plans, proof_told}
+use Rattle.delivery.specs.AreaAnswers.{plans, proof_answer}
 use Rattle.certificate.specs.Spelling.{view, views}
 use Rattle.certificate.specs.declared.notes.Certificate.{Certificate}
-use Rattle.delivery.specs.Outcomes.{area_line, area_lines, trial_line, size_lines, proofs_told}
+use Rattle.delivery.specs.Outcomes.{area_line, area_lines, trial_line, size_lines, proof_answers}
 use Rattle.delivery.specs.declared.report.lines.AreaAnswer.{AreaAnswer}
 use Rattle.delivery.specs.declared.report.lines.Line as code
 
--- nothing is left to be told
-pub all_told : (told rest all : List Line) → rest ≡ [] → told ++ rest ≡ all → told ≡ all
-all_told told rest all e h = sym (append-nil told) ∙ ap (λ (s : List Line). told ++ s) (sym e) ∙ h
+-- nothing is left to be held
+pub all_lines : (held rest all : List Line) → rest ≡ [] → held ++ rest ≡ all → held ≡ all
+all_lines held rest all e h = sym (append-nil held) ∙ ap (λ (s : List Line). held ++ s) (sym e) ∙ h
 
-pub told_end : (l : Layout) (as_ : List AreaOf) (xs : List AreaAnswer) → (as_ ≡ []) ⊎ (xs ≡ []) → area_lines l (areas_view as_) xs ≡ []
-told_end l [] xs h = refl
-told_end l (a ∷ as_) [] h = refl
-told_end l (a ∷ as_) (x ∷ xs) (inl h) = absurd (cc)
-told_end l (a ∷ as_) (x ∷ xs) (inr h) = absurd (cc)
+pub lines_end : (l : Layout) (as_ : List AreaOf) (xs : List AreaAnswer) → (as_ ≡ []) ⊎ (xs ≡ []) → area_lines l (areas_view as_) xs ≡ []
+lines_end l [] xs h = refl
+lines_end l (a ∷ as_) [] h = refl
+lines_end l (a ∷ as_) (x ∷ xs) (inl h) = absurd (cc)
+lines_end l (a ∷ as_) (x ∷ xs) (inr h) = absurd (cc)
 
--- one area more is told
-pub told_more : (l : Layout) (all : List AreaOf) (a : AreaOf) (as_ : List AreaOf) (whole : List AreaAnswer) (x : AreaAnswer) (xs : List AreaAnswer) (old new : List code.Line) (line : code.Line) (result : List Line) → all ≡ a ∷ as_ → whole ≡ x ∷ xs
+-- one area more is held
+pub lines_more : (l : Layout) (all : List AreaOf) (a : AreaOf) (as_ : List AreaOf) (whole : List AreaAnswer) (x : AreaAnswer) (xs : List AreaAnswer) (old new : List code.Line) (line : code.Line) (result : List Line) → all ≡ a ∷ as_ → whole ≡ x ∷ xs
     → new ≡ old ++ line ∷ [] → line_of line ≡ area_line l (area_view a) x → lines_of old ++ area_lines l (areas_view all) whole ≡ result → lines_of new ++ area_lines l (areas_view as_) xs ≡ result
-told_more l all a as_ whole x xs old new line result e f g h k =
+lines_more l all a as_ whole x xs old new line result e f g h k =
     let same : area_lines l (areas_view all) whole ≡ (line_of line ∷ []) ++ area_lines l (areas_view as_) xs = rw (e, f, h) refl in
     rw (g, map-append line_of old (line ∷ []), append_assoc, ← same) k
 
@@ -46,17 +46,17 @@ sizes_more n all x xs whole c cs old new result e f g k =
     rw (g, append_assoc, ← same) k
 
 -- ---- the answers to drawings that are proved
-pub proofs_all : (told rest all : List AreaAnswer) → rest ≡ [] → told ++ rest ≡ all → told ≡ all
-proofs_all told rest all e h = sym (append-nil told) ∙ ap (λ (s : List AreaAnswer). told ++ s) (sym e) ∙ h
+pub proofs_all : (held rest all : List AreaAnswer) → rest ≡ [] → held ++ rest ≡ all → held ≡ all
+proofs_all held rest all e h = sym (append-nil held) ∙ ap (λ (s : List AreaAnswer). held ++ s) (sym e) ∙ h
 
-pub proofs_end : (ds : List Drawing) (levels : List ℕ) → (ds ≡ []) ⊎ (levels ≡ []) → proofs_told (plans ds) levels ≡ []
+pub proofs_end : (ds : List Drawing) (levels : List ℕ) → (ds ≡ []) ⊎ (levels ≡ []) → proof_answers (plans ds) levels ≡ []
 proofs_end [] levels h = refl
 proofs_end (d ∷ ds) [] h = refl
 proofs_end (d ∷ ds) (n ∷ levels) (inl h) = absurd (cc)
 proofs_end (d ∷ ds) (n ∷ levels) (inr h) = absurd (cc)
 
 pub proofs_more : (all : List Drawing) (d : Drawing) (ds : List Drawing) (whole : List ℕ) (n : ℕ) (levels : List ℕ) (old new : List AreaAnswer) (x : AreaAnswer) (result : List AreaAnswer) → all ≡ d ∷ ds → whole ≡ n ∷ levels
-    → new ≡ old ++ x ∷ [] → x ≡ proof_told (plan d) n → old ++ proofs_told (plans all) whole ≡ result → new ++ proofs_told (plans ds) levels ≡ result
+    → new ≡ old ++ x ∷ [] → x ≡ proof_answer (plan d) n → old ++ proof_answers (plans all) whole ≡ result → new ++ proof_answers (plans ds) levels ≡ result
 proofs_more all d ds whole n levels old new x result e f g h k =
-    let same : proofs_told (plans all) whole ≡ (x ∷ []) ++ proofs_told (plans ds) levels = rw (e, f, h) refl in
+    let same : proof_answers (plans all) whole ≡ (x ∷ []) ++ proof_answers (plans ds) levels = rw (e, f, h) refl in
     rw (g, append_assoc, ← same) k

@@ -6,72 +6,72 @@ use Rattle.itf_reader.specs.Forms.{Row}
 use Rattle.table_layout.specs.Layouts.{Layout}
 use Rattle.delivery.specs.declared.status.Status.{Status}
 use Rattle.delivery.specs.declared.status.Status.TheVariants.{Accepted, Rejected, Undecided, ModelRefused, Usage, ReadFault, WriteFault, OverLimit, Memory, NotProved}
-use Rattle.delivery.specs.Answers.{Means}
+use Rattle.delivery.specs.Answers.{HasCause}
 use Rattle.delivery.specs.Commands.{FileNames, Command, compile, check, verify, trial, IsSpelled, IsCommand}
 use Rattle.delivery.specs.Deciding.{Decides, formless, formed}
 use Rattle.delivery.specs.Gathering as gathering
 use Rattle.delivery.specs.Gathering.{Gathered, Gathers}
-use Rattle.delivery.specs.Amounting.{Amounts, HasSoundRows, HasFault, HasLargeArea, Accepts, Rejects, LeavesAreas, IsOversized}
-use Rattle.delivery.specs.Judging.{findings, objects, Tells, IsClean, AreJudged, IsRowsChecked, faulty, oversized, judged, IsChecked, at_fault, well_formed}
+use Rattle.delivery.specs.Causes.{HasOutcome, HasSoundRows, HasFault, HasLargeArea, Accepts, Rejects, LeavesUndecided, IsOversized}
+use Rattle.delivery.specs.Judging.{findings, objects, IsTextOf, IsClean, AreJudged, IsRowsChecked, faulty, oversized, judged, IsChecked, at_fault, well_formed}
 use Rattle.delivery.specs.AreaAnswers.{has_fault, has_left, HasFaultyArea, ArePartedAreas, AreLeftAreas}
 use Rattle.delivery.specs.AreaLimits.{has_too_large}
-use Rattle.delivery.specs.Outcomes.{Target, check_target, trial_target, Outcome, usage, unread, too_long, area_too_large, refused, compiled, misbuilt, rejected, areas_told, verified}
+use Rattle.delivery.specs.Outcomes.{Target, check_target, trial_target, Outcome, usage, unread, too_long, area_too_large, refused, compiled, misbuilt, rejected, areas_outcome, verified}
 use Rattle.delivery.specs.FiledTexts as filed_texts
 use Rattle.delivery.specs.FiledTexts.{AreVerified, IsRowsVerified, IsVerified}
 use Rattle.delivery.specs.Verifying as verifying
 use Rattle.delivery.specs.Verifying.{Verification, IsVerification}
-use Rattle.delivery.proofs.AreaLemmas.{AreaLaws, told_by, faulty_area, left_areas, parted_areas, parted_all}
+use Rattle.delivery.proofs.AreaLemmas.{AreaLaws, outcome_by, faulty_area, left_areas, parted_areas, parted_all}
 
 -- ---- the causes
-module _ (laws : AreaLaws) (told : Option Files) (counted : List ℕ → Type 0) (words : List (List ℕ)) where
+module _ (laws : AreaLaws) (held : Option Files) (counted : List ℕ → Type 0) (words : List (List ℕ)) where
   -- what is said of an outcome is said of one that is equal
-  moved : (o p : Outcome) → o ≡ p → Means told counted words p.status → Means told counted words o.status
-  moved o p e h = subst (λ (x : Outcome). Means told counted words x.status) (sym e) h
+  moved : (o p : Outcome) → o ≡ p → HasCause held counted words p.status → HasCause held counted words o.status
+  moved o p e h = subst (λ (x : Outcome). HasCause held counted words x.status) (sym e) h
 
   -- a command whose transfer is judged, and what its tests say of one text
-  module _ (c : Command) (target : Target) (i : IsCommand words c) (l : Layout) (text : List ℕ) (g_ : Gathers told counted c (gathering.texts l (text ∷ [])))
+  module _ (c : Command) (target : Target) (i : IsCommand words c) (l : Layout) (text : List ℕ) (g_ : Gathers held counted c (gathering.texts l (text ∷ [])))
       (accepts : HasSoundRows l text (ArePartedAreas l) → Accepts c l (text ∷ []))
       (rejects : HasFault l text ⊎ HasSoundRows l text (HasFaultyArea l) → Rejects c l (text ∷ []))
-      (leaves : HasSoundRows l text (AreLeftAreas l) → LeavesAreas c l (text ∷ []))
+      (leaves : HasSoundRows l text (AreLeftAreas l) → LeavesUndecided c l (text ∷ []))
       (exceeds : HasLargeArea l text → IsOversized c l (text ∷ [])) where
     -- the status of the answers to areas
-    areas_mean : (rows : List (List Row)) → Tells l text rows → IsClean l rows → has_too_large rows l.areas ≡ false → (o : Outcome) → AreJudged target l rows o → Means told counted words o.status
-    areas_mean rows t k b o j = moved o (areas_told l (objects rows) target j.answers j.certificates) j.told (by (has_fault j.answers) (has_left j.answers) refl refl)
+    areas_mean : (rows : List (List Row)) → IsTextOf l text rows → IsClean l rows → has_too_large rows l.areas ≡ false → (o : Outcome) → AreJudged target l rows o → HasCause held counted words o.status
+    areas_mean rows t k b o j = moved o (areas_outcome l (objects rows) target j.answers j.certificates) j.is (by (has_fault j.answers) (has_left j.answers) refl refl)
       where
         by : (f g : Bool) → has_fault j.answers ≡ f → has_left j.answers ≡ g
-            → Means told counted words (told_by l (objects rows) target j.answers j.certificates f g).status
+            → HasCause held counted words (outcome_by l (objects rows) target j.answers j.certificates f g).status
         by true g f h = (c, l, text ∷ [], i, g_, rejects (inr (rows, t, k, b, faulty_area laws l rows j.drawings j.answers j.certificates j.drawn j.answered f)))
         by false true f h = (c, l, text ∷ [], i, g_, leaves (rows, t, k, b, left_areas laws l rows j.drawings j.answers j.certificates j.drawn j.answered f h))
         by false false f h = (c, l, text ∷ [], i, g_, accepts (rows, t, k, b, parted_areas laws l rows j.drawings j.answers j.certificates j.drawn j.answered f h))
 
-    rows_mean : (rows : List (List Row)) → Tells l text rows → (o : Outcome) → IsRowsChecked target l rows o → Means told counted words o.status
+    rows_mean : (rows : List (List Row)) → IsTextOf l text rows → (o : Outcome) → IsRowsChecked target l rows o → HasCause held counted words o.status
     rows_mean rows t o (faulty n e) = moved o (rejected (findings l rows)) e (c, l, text ∷ [], i, g_, rejects (inl (inr (rows, t, n))))
     rows_mean rows t o (oversized k b e) = moved o area_too_large e (inr (c, l, text ∷ [], i, g_, exceeds (rows, t, k, b)))
     rows_mean rows t o (judged k b j) = areas_mean rows t k b o j
 
-    checked_means : (o : Outcome) → IsChecked target l text o → Means told counted words o.status
+    checked_means : (o : Outcome) → IsChecked target l text o → HasCause held counted words o.status
     checked_means o (at_fault n code h e) = moved o (misbuilt n code) e (c, l, text ∷ [], i, g_, rejects (inl (inl (n, code, h))))
     checked_means o (well_formed rows t h) = rows_mean rows t o h
 
-  module _ (c : FileNames) (i : IsSpelled (codes "verify") words c) (l : Layout) (text filed : List ℕ) (g_ : Gathers told counted (verify c) (gathering.texts l (text ∷ filed ∷ []))) where
+  module _ (c : FileNames) (i : IsSpelled (codes "verify") words c) (l : Layout) (text filed : List ℕ) (g_ : Gathers held counted (verify c) (gathering.texts l (text ∷ filed ∷ []))) where
     -- the status of what certificates prove
-    verified_means : (rows : List (List Row)) → Tells l text rows → IsClean l rows → has_too_large rows l.areas ≡ false → (o : Outcome) → AreVerified l rows filed o → Means told counted words o.status
-    verified_means rows t k b o j = moved o (verified l (objects rows) j.drawings j.verification) j.told (by j.verification j.judged)
+    verified_means : (rows : List (List Row)) → IsTextOf l text rows → IsClean l rows → has_too_large rows l.areas ≡ false → (o : Outcome) → AreVerified l rows filed o → HasCause held counted words o.status
+    verified_means rows t k b o j = moved o (verified l (objects rows) j.drawings j.verification) j.is (by j.verification j.judged)
       where
-        by : (v : Verification) → IsVerification l j.drawings filed v → Means told counted words (verified l (objects rows) j.drawings v).status
+        by : (v : Verification) → IsVerification l j.drawings filed v → HasCause held counted words (verified l (objects rows) j.drawings v).status
         by (verifying.proved levels) h = (verify c, l, text ∷ filed ∷ [], i, g_, (rows, t, k, b, ((j.drawings, j.drawn, levels, h), parted_all l rows j.drawings j.drawn (laws.verified l j.drawings filed levels h))))
         by (verifying.not_proved a rule place) h = (verify c, l, text ∷ filed ∷ [], i, g_, (rows, t, k, b, (j.drawings, j.drawn, a, rule, place, h)))
 
-    filed_rows_mean : (rows : List (List Row)) → Tells l text rows → (o : Outcome) → IsRowsVerified l rows filed o → Means told counted words o.status
+    filed_rows_mean : (rows : List (List Row)) → IsTextOf l text rows → (o : Outcome) → IsRowsVerified l rows filed o → HasCause held counted words o.status
     filed_rows_mean rows t o (filed_texts.faulty n e) = moved o (rejected (findings l rows)) e (verify c, l, text ∷ filed ∷ [], i, g_, inr (rows, t, n))
     filed_rows_mean rows t o (filed_texts.oversized k b e) = moved o area_too_large e (inr (verify c, l, text ∷ filed ∷ [], i, g_, (rows, t, k, b)))
     filed_rows_mean rows t o (filed_texts.verified k b j) = verified_means rows t k b o j
 
-    verify_means : (o : Outcome) → IsVerified l text filed o → Means told counted words o.status
+    verify_means : (o : Outcome) → IsVerified l text filed o → HasCause held counted words o.status
     verify_means o (filed_texts.at_fault n code h e) = moved o (misbuilt n code) e (verify c, l, text ∷ filed ∷ [], i, g_, inl (n, code, h))
     verify_means o (filed_texts.well_formed rows t h) = filed_rows_mean rows t o h
 
-  files_mean : (c : Command) (g : Gathered) → IsCommand words c → Gathers told counted c g → (o : Outcome) → Amounts c g o → Means told counted words o.status
+  files_mean : (c : Command) (g : Gathered) → IsCommand words c → Gathers held counted c g → (o : Outcome) → HasOutcome c g o → HasCause held counted words o.status
   files_mean c (gathering.unread f) i h o e = moved o (unread f) e (f, (c, i, h))
   files_mean c (gathering.too_long f) i h o e = moved o (too_long f) e (inl (f, (c, i, h)))
   files_mean c (gathering.refused r) i h o e = moved o (refused r) e (r, (c, i, h))
@@ -88,7 +88,7 @@ module _ (laws : AreaLaws) (told : Option Files) (counted : List ℕ → Type 0)
   files_mean (trial n c) (gathering.texts l (t ∷ u ∷ ts)) i h o k = absurd k
 
   -- the status of the outcome has its cause
-  pub means : (o : Outcome) → Decides told counted words o → Means told counted words o.status
+  pub means : (o : Outcome) → Decides held counted words o → HasCause held counted words o.status
   means o (formless u e) = moved o usage e u
   means o (formed c g i h a) = files_mean c g i h o a
 
@@ -102,9 +102,9 @@ fixed_as : (o p : Outcome) → o ≡ p → IsFixed p.status → IsFixed o.status
 fixed_as o p e h = subst (λ (x : Outcome). IsFixed x.status) (sym e) h
 
 areas_fixed : (target : Target) (l : Layout) (rows : List (List Row)) (o : Outcome) → AreJudged target l rows o → IsFixed o.status
-areas_fixed target l rows o j = fixed_as o (areas_told l (objects rows) target j.answers j.certificates) j.told (by (has_fault j.answers) (has_left j.answers))
+areas_fixed target l rows o j = fixed_as o (areas_outcome l (objects rows) target j.answers j.certificates) j.is (by (has_fault j.answers) (has_left j.answers))
   where
-    by : (f g : Bool) → IsFixed (told_by l (objects rows) target j.answers j.certificates f g).status
+    by : (f g : Bool) → IsFixed (outcome_by l (objects rows) target j.answers j.certificates f g).status
     by true g = tt
     by false true = tt
     by false false = tt
@@ -119,7 +119,7 @@ check_fixed target l text o (at_fault n code h e) = fixed_as o (misbuilt n code)
 check_fixed target l text o (well_formed rows t h) = rows_fixed target l rows o h
 
 verified_fixed : (l : Layout) (rows : List (List Row)) (filed : List ℕ) (o : Outcome) → AreVerified l rows filed o → IsFixed o.status
-verified_fixed l rows filed o j = fixed_as o (verified l (objects rows) j.drawings j.verification) j.told (by j.verification)
+verified_fixed l rows filed o j = fixed_as o (verified l (objects rows) j.drawings j.verification) j.is (by j.verification)
   where
     by : (v : Verification) → IsFixed (verified l (objects rows) j.drawings v).status
     by (verifying.proved levels) = tt
@@ -134,7 +134,7 @@ filed_fixed : (l : Layout) (text filed : List ℕ) (o : Outcome) → IsVerified 
 filed_fixed l text filed o (filed_texts.at_fault n code h e) = fixed_as o (misbuilt n code) e tt
 filed_fixed l text filed o (filed_texts.well_formed rows t h) = filed_rows_fixed l rows filed o h
 
-files_fixed : (c : Command) (g : Gathered) (o : Outcome) → Amounts c g o → IsFixed o.status
+files_fixed : (c : Command) (g : Gathered) (o : Outcome) → HasOutcome c g o → IsFixed o.status
 files_fixed c (gathering.unread f) o e = fixed_as o (unread f) e tt
 files_fixed c (gathering.too_long f) o e = fixed_as o (too_long f) e tt
 files_fixed c (gathering.refused r) o e = fixed_as o (refused r) e tt
@@ -150,15 +150,15 @@ files_fixed (trial n c) (gathering.texts l []) o k = absurd k
 files_fixed (trial n c) (gathering.texts l (text ∷ [])) o k = check_fixed (trial_target n c) l text o k
 files_fixed (trial n c) (gathering.texts l (t ∷ u ∷ ts)) o k = absurd k
 
-fixed : (told : Option Files) (counted : List ℕ → Type 0) (words : List (List ℕ)) (o : Outcome) → Decides told counted words o → IsFixed o.status
-fixed told counted words o (formless u e) = fixed_as o usage e tt
-fixed told counted words o (formed c g i h a) = files_fixed c g o a
+fixed : (held : Option Files) (counted : List ℕ → Type 0) (words : List (List ℕ)) (o : Outcome) → Decides held counted words o → IsFixed o.status
+fixed held counted words o (formless u e) = fixed_as o usage e tt
+fixed held counted words o (formed c g i h a) = files_fixed c g o a
 
-pub not_write_fault : (told : Option Files) (counted : List ℕ → Type 0) (words : List (List ℕ)) (o : Outcome) → Decides told counted words o → o.status ≢ WriteFault
-not_write_fault told counted words o h e = subst IsFixed e (fixed told counted words o h)
+pub not_write_fault : (held : Option Files) (counted : List ℕ → Type 0) (words : List (List ℕ)) (o : Outcome) → Decides held counted words o → o.status ≢ WriteFault
+not_write_fault held counted words o h e = subst IsFixed e (fixed held counted words o h)
 
-pub not_memory : (told : Option Files) (counted : List ℕ → Type 0) (words : List (List ℕ)) (o : Outcome) → Decides told counted words o → o.status ≢ Memory
-not_memory told counted words o h e = subst IsFixed e (fixed told counted words o h)
+pub not_memory : (held : Option Files) (counted : List ℕ → Type 0) (words : List (List ℕ)) (o : Outcome) → Decides held counted words o → o.status ≢ Memory
+not_memory held counted words o h e = subst IsFixed e (fixed held counted words o h)
 
 -- ---- an answer that is that of an outcome, unless a write failed
 -- a status is that a write failed, or it is not
@@ -174,13 +174,13 @@ by_write A OverLimit f n = n (λ e. cc)
 by_write A Memory f n = n (λ e. cc)
 by_write A NotProved f n = n (λ e. cc)
 
-pub caused : (told : Option Files) (counted : List ℕ → Type 0) (words : List (List ℕ)) (o : Outcome) (s : Status) → (Decides told counted words o → Means told counted words o.status) → Decides told counted words o → (s ≢ WriteFault → s ≡ o.status) → Means told counted words s
-caused told counted words o s law h e =
-    by_write (Means told counted words s) s
-    (λ w. subst (Means told counted words) (sym w) tt)
-    (λ n. subst (Means told counted words) (sym (e n)) (law h))
+pub caused : (held : Option Files) (counted : List ℕ → Type 0) (words : List (List ℕ)) (o : Outcome) (s : Status) → (Decides held counted words o → HasCause held counted words o.status) → Decides held counted words o → (s ≢ WriteFault → s ≡ o.status) → HasCause held counted words s
+caused held counted words o s law h e =
+    by_write (HasCause held counted words s) s
+    (λ w. subst (HasCause held counted words) (sym w) tt)
+    (λ n. subst (HasCause held counted words) (sym (e n)) (law h))
 
 -- such an answer is not out of memory
-pub never_memory : (told : Option Files) (counted : List ℕ → Type 0) (words : List (List ℕ)) (o : Outcome) (s : Status) → Decides told counted words o → (s ≢ WriteFault → s ≡ o.status) → s ≢ Memory
-never_memory told counted words o s h e m =
-    by_write ⊥ s (λ w. let k : WriteFault ≡ Memory = sym w ∙ m in cc) (λ n. not_memory told counted words o h (sym (e n) ∙ m))
+pub never_memory : (held : Option Files) (counted : List ℕ → Type 0) (words : List (List ℕ)) (o : Outcome) (s : Status) → Decides held counted words o → (s ≢ WriteFault → s ≡ o.status) → s ≢ Memory
+never_memory held counted words o s h e m =
+    by_write ⊥ s (λ w. let k : WriteFault ≡ Memory = sym w ∙ m in cc) (λ n. not_memory held counted words o h (sym (e n) ∙ m))

@@ -1,4 +1,4 @@
--- What a certificate claims is told by its text.
+-- What a certificate claims is claims by its text.
 use Rattle.std.proofs.Common.{◌≡◌, ℕ, zero, suc, ◌*◌, List, [], ◌∷◌, length, refl, sym, ap, subst, arith}
 use Rattle.certificate.specs.Spelling.{ArePaired, pairs, view}
 use Rattle.certificate.specs.declared.notes.Certificate.{Certificate}
@@ -16,7 +16,7 @@ notes_paired (a ∷ b ∷ notes) h = ap (λ (ns : List HalfNote). a ∷ b ∷ ns
 
 pub claims_paired : (c : Certificate) → ArePaired c.notes.items → claims c ≡ claims_of (view c)
 claims_paired c h =
-    ap (λ (ns : List HalfNote). (let told : Claims = record { level = c.level; positions = c.positions.items; notes = ns; places = c.places.items } in told))
+    ap (λ (ns : List HalfNote). (let claims : Claims = record { level = c.level; positions = c.positions.items; notes = ns; places = c.places.items } in claims))
     (sym (notes_paired c.notes.items h))
 
 -- so many notes have partners where their number is even

@@ -40,14 +40,14 @@ use Rattle.delivery.proofs.KeptPlaces.{all_large, all_can_be_drawn, all_drawings
 use Rattle.delivery.proofs.PieceSteps.{after-append, shown-append}
 
 -- ---- the lines of a text
-abbrev told : List LogicalLine → LineEnd → LogicalLines
-told lines end = record { lines = lines; fault = end.fault; total = end.total }
+abbrev lines_to : List LogicalLine → LineEnd → LogicalLines
+lines_to lines end = record { lines = lines; fault = end.fault; total = end.total }
 
 module _ (l : Layout) (text : List ℕ) (j : Judge) (h : HasText l text j) (last : List LogicalLine) (end : LineEnd) (ends : Ends j.lines last end) (law : lines_from_state (opening l.codes.continued) text ≡ logical l.codes.continued text) where
   abbrev all : List LogicalLine
   all = h.takes.lines ++ last
 
-  pub found : lines_of l text ≡ told all end
+  pub found : lines_of l text ≡ lines_to all end
   found =
       sym law
       ∙ (ap (λ (s : FeedState). lines_from_state s text) (sym h.opened.lines)
@@ -88,7 +88,7 @@ module _ (l : Layout) (text : List ℕ) (j : Judge) (h : HasText l text j) (last
     are_kept r s e = record {
       rows = rows;
       taken = rows_end;
-      tells = r (by_table (form_of l) rows) (answered None e);
+      has_rows = r (by_table (form_of l) rows) (answered None e);
       closed = s all ∙ ap (λ (f : LogicalLines). closed_rows (form_of l) f.lines) (sym found);
     }
 
@@ -107,20 +107,20 @@ module _ (l : Layout) (text : List ℕ) (k : TransferKept) (h : AreKept l text k
   abbrev transfer : List (List Row)
   transfer = transfer_so_far l h.rows
 
-  pub all_told : ((l : Layout) (lines : List LogicalLine) (transfer : List (List Row)) → TransferText (form_of l) lines transfer → key_findings l transfer ≡ in_order (fed_keys l (closed_rows (form_of l) lines)))
+  pub all_lines : ((l : Layout) (lines : List LogicalLine) (transfer : List (List Row)) → TransferText (form_of l) lines transfer → key_findings l transfer ≡ in_order (fed_keys l (closed_rows (form_of l) lines)))
       → in_order (in_order (all_found (kept_in k.tables.items)) ++ in_order (fed_keys l h.rows)) ≡ findings l transfer
-  all_told law =
+  all_lines law =
       ap (λ (fs : List Finding). in_order (in_order fs ++ in_order (fed_keys l h.rows))) (ap all_found h.taken.kept ∙ found_tables l.codes l.tables transfer)
       ∙ ap (λ (fs : List Finding). in_order (value_findings l transfer ++ fs))
-      (ap (λ (rs : List (ℕ × Row)). in_order (fed_keys l rs)) h.closed ∙ sym (law l (lines_of l text).lines transfer h.tells.1))
+      (ap (λ (rs : List (ℕ × Row)). in_order (fed_keys l rs)) h.closed ∙ sym (law l (lines_of l text).lines transfer h.has_rows.1))
 
   -- rows without findings
   module _ (v : IsValid l) (c : IsClean l transfer) (n : EachRow IsCounted (form_of l).tables transfer) where
-    pub large_told : has_kept_large (kept_in k.tables.items) transfer l.areas ≡ has_too_large transfer l.areas
-    large_told = ap (λ (ks : List Kept). has_kept_large ks transfer l.areas) h.taken.kept ∙ all_large l transfer v c n
+    pub large_are : has_kept_large (kept_in k.tables.items) transfer l.areas ≡ has_too_large transfer l.areas
+    large_are = ap (λ (ks : List Kept). has_kept_large ks transfer l.areas) h.taken.kept ∙ all_large l transfer v c n
 
-    pub drawable_told : (places : List Kept) → places ≡ map places_of (kept_in k.tables.items) → has_too_large transfer l.areas ≡ false → All (CanBeDrawn l places) l.areas
-    drawable_told places e s = subst (λ (ks : List Kept). All (CanBeDrawn l ks) l.areas) (sym (e ∙ ap (map places_of) h.taken.kept)) (all_can_be_drawn l transfer v c n s)
+    pub are_drawable : (places : List Kept) → places ≡ map places_of (kept_in k.tables.items) → has_too_large transfer l.areas ≡ false → All (CanBeDrawn l places) l.areas
+    are_drawable places e s = subst (λ (ks : List Kept). All (CanBeDrawn l ks) l.areas) (sym (e ∙ ap (map places_of) h.taken.kept)) (all_can_be_drawn l transfer v c n s)
 
-    pub drawn_told : (places : List Kept) → places ≡ map places_of (kept_in k.tables.items) → (ds : List Plan) → AllZip (IsDrawnFrom l places) l.areas ds → AreDrawings l transfer ds
-    drawn_told places e ds z = all_drawings l transfer v c n ds (subst (λ (ks : List Kept). AllZip (IsDrawnFrom l ks) l.areas ds) (e ∙ ap (map places_of) h.taken.kept) z)
+    pub drawn_are : (places : List Kept) → places ≡ map places_of (kept_in k.tables.items) → (ds : List Plan) → AllZip (IsDrawnFrom l places) l.areas ds → AreDrawings l transfer ds
+    drawn_are places e ds z = all_drawings l transfer v c n ds (subst (λ (ks : List Kept). AllZip (IsDrawnFrom l ks) l.areas ds) (e ∙ ap (map places_of) h.taken.kept) z)

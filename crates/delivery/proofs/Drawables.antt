@@ -116,14 +116,14 @@ module _ (codes : Codes) (v : Window) (w : Window2) (line : ℕ) (e : IsWindowOf
       by true false c d h = absurd (cc)
       by false b c d h = absurd (cc)
 
-  told : (b : Bool) (o : Option ValueFault) (value : Value) → b ≡ true → are_in w line (place_read (reading (if b then Some Undefined else o) value))
-  told true o value h = none_in
-  told false o value h = absurd (cc)
+  of_undefined : (b : Bool) (o : Option ValueFault) (value : Value) → b ≡ true → are_in w line (place_read (reading (if b then Some Undefined else o) value))
+  of_undefined true o value h = none_in
+  of_undefined false o value h = absurd (cc)
 
   inside : (optional : Bool) (words : List (List ℕ)) → HasPoint codes optional (AreaPoint v) words → are_in w line (place_read (column_reading (AreaPoint v) codes words))
   inside optional [] h = read_as (are_in w line) (field_fault (AreaPoint v) codes []) (value_of (AreaPoint v) []) none_in none_in
   inside optional (x ∷ []) h = read_as (are_in w line) (field_fault (AreaPoint v) codes (x ∷ [])) (value_of (AreaPoint v) (x ∷ [])) none_in none_in
-  inside optional (x ∷ y ∷ ws) (inl u) = told (list_any (is_undefined codes) (x ∷ y ∷ ws)) (value_fault (AreaPoint v) (x ∷ y ∷ ws)) (value_of (AreaPoint v) (x ∷ y ∷ ws)) (undefined_none optional x (y ∷ ws) u)
+  inside optional (x ∷ y ∷ ws) (inl u) = of_undefined (list_any (is_undefined codes) (x ∷ y ∷ ws)) (value_fault (AreaPoint v) (x ∷ y ∷ ws)) (value_of (AreaPoint v) (x ∷ y ∷ ws)) (undefined_none optional x (y ∷ ws) u)
   inside optional (x ∷ y ∷ ws) (inr i) = read_as (are_in w line) (field_fault (AreaPoint v) codes (x ∷ y ∷ ws)) (value_of (AreaPoint v) (x ∷ y ∷ ws)) none_in (one_in (place_named v (x ∷ y ∷ ws)) i)
 
 pub point_in : (codes : Codes) (t : Table) (k : ℕ) (c : Column) (v : Window) (w : Window2) → slice_get t.columns k ≡ Some c → c.form ≡ AreaPoint v → IsWindowOf v w → (r : Row) → HasPlaces codes t r → HasPointIn codes (first_word t.columns k) c w r

@@ -1,19 +1,23 @@
--- A drawing has at most one curve for each vertex of its lines.
-use Rattle.std.proofs.Common.{◌≡◌, ℕ, ◌+◌, ◌≤◌, Bool, true, false, ◌||◌, nat_lt, List, [], ◌∷◌, ◌++◌, length, Option, None, Some, refl, subst, sym, arith}
+-- A drawing has at most one curve for each vertex of its lines, and one point for each object.
+use Rattle.std.proofs.Common.{◌≡◌, ℕ, ◌+◌, ◌≤◌, Bool, true, false, ◌||◌, nat_lt, List, [], ◌∷◌, ◌++◌, length, Option, None, Some, Result, Ok, Err, refl, subst, sym, arith}
 use Rattle.std.specs.Prelude.{if◌then◌else◌, slice_get, slice_index_or}
 use Rattle.std.specs.List.{All, AllZip, flat_map}
 use Rattle.std.proofs.lemmas.Bool.Decides.{nat_tests}
 use Rattle.std.proofs.lemmas.List.{length-append, length-map}
 use Rattle.std.proofs.lemmas.List.Elements.{All-nil, All-cons}
 use Rattle.resolver.specs.Resolved.{LineForm}
-use Rattle.table_layout.specs.Layouts.{AreaOf, Layout}
+use Rattle.table_layout.specs.Layouts.{AreaOf, Column, Layout}
 use Rattle.field_values.specs.Places.{Place, is_same_place, are_collinear}
 use Rattle.itf_reader.specs.Forms.{Vertex, Row}
 use Rattle.itf_reader.specs.StrokeFindings.{Seen, is_on_arc, place_of, seen, all_seen}
 use Rattle.plane.specs.Rule.Plans.{Plan, straight}
 use Rattle.plane.specs.declared.kinds.Curve.{Curve}
-use Rattle.delivery.specs.AreaLimits.{area_limit, vertices_in, vertex_count, is_too_large, has_too_large, HasFewCurves}
-use Rattle.delivery.specs.Drawings.{point_at, straight_between, half_arcs, arc_over, curves_after, line_curves, row_curves, curves_by, lines_in, area_curves, IsDrawing, AreDrawings}
+use Rattle.plane.specs.declared.kinds.Placed.{Placed}
+use Rattle.field_values.specs.Readings.{Value, Numbers, Bytes, column_reading}
+use Rattle.field_values.specs.declared.value.ValueFault.{ValueFault}
+use Rattle.ili_grammar.specs.Syntax.{Codes}
+use Rattle.delivery.specs.AreaLimits.{area_limit, vertices_in, vertex_count, is_too_large, has_too_large, IsSmallPlan}
+use Rattle.delivery.specs.Drawings.{point_at, straight_between, half_arcs, arc_over, curves_after, line_curves, row_curves, curves_by, lines_in, area_curves, place_read, placed, points_at, points_by, first_word, words_at, columns_in, area_points, IsDrawing, AreDrawings}
 
 -- ---- one line
 straight_few : (p q : Place) (line : ℕ) → length (straight_between p q line) ≤ 1
@@ -63,6 +67,29 @@ forms_few : (ls : List LineForm) (rows : List Row) → length (curves_by ls rows
 forms_few [] rows = omega arith
 forms_few (l ∷ ls) rows = rows_few l rows
 
+-- ---- the points of an area
+place_few : (r : Result Value ValueFault) → length (place_read r) ≤ 1
+place_few (Ok (Numbers [])) = omega arith
+place_few (Ok (Numbers (x ∷ []))) = omega arith
+place_few (Ok (Numbers (x ∷ y ∷ []))) = omega arith
+place_few (Ok (Numbers (x ∷ y ∷ z ∷ zs))) = omega arith
+place_few (Ok (Bytes bs)) = omega arith
+place_few (Err e) = omega arith
+
+point_few : (codes : Codes) (first : ℕ) (c : Column) (r : Row) → length (points_at codes first c r) ≤ 1
+point_few codes first c r =
+    let v = column_reading c.form codes (words_at first c r) in
+    omega (arith, length-map (place_read v) (placed r.line), place_few v)
+
+objects_few : (codes : Codes) (first : ℕ) (c : Column) (rows : List Row) → length (flat_map (points_at codes first c) rows) ≤ length rows
+objects_few codes first c [] = omega arith
+objects_few codes first c (r ∷ rows) =
+    omega (arith, length-append (points_at codes first c r) (flat_map (points_at codes first c) rows), point_few codes first c r, objects_few codes first c rows)
+
+points_few : (codes : Codes) (first : ℕ) (c : Option Column) (rows : List Row) → length (points_by codes first c rows) ≤ length rows
+points_few codes first None rows = omega arith
+points_few codes first (Some c) rows = objects_few codes first c rows
+
 -- ---- the areas of a layout, within their limits
 module _ (l : Layout) (rows : List (List Row)) where
   area_few : (a : AreaOf) → is_too_large rows a ≡ false → length (area_curves l rows a) ≤ area_limit
@@ -72,17 +99,31 @@ module _ (l : Layout) (rows : List (List Row)) where
       within : (n m : ℕ) → (nat_lt area_limit n || nat_lt area_limit m) ≡ false → n ≤ area_limit
       within n m e = grind (arith, nat_tests)
 
-  all_few : (as_ : List AreaOf) (ds : List Plan) → has_too_large rows as_ ≡ false → AllZip (IsDrawing l rows) as_ ds → All HasFewCurves ds
-  all_few [] [] h w = All-nil HasFewCurves
+  placed_few : (a : AreaOf) → is_too_large rows a ≡ false → length (area_points l rows a) ≤ area_limit
+  placed_few a h =
+      let cs = columns_in (slice_get l.tables a.main) in
+      omega (arith, points_few l.codes (first_word cs a.column) (slice_get cs a.column) (slice_index_or rows a.main []), within (vertex_count (slice_index_or rows a.lines [])) (length (slice_index_or rows a.main [])) h)
+    where
+      within : (n m : ℕ) → (nat_lt area_limit n || nat_lt area_limit m) ≡ false → m ≤ area_limit
+      within n m e = grind (arith, nat_tests)
+
+  plan_small : (a : AreaOf) (d : Plan) → is_too_large rows a ≡ false → IsDrawing l rows a d → IsSmallPlan d
+  plan_small a d h w = record {
+    curves = subst (λ (cs : List Curve). length cs ≤ area_limit) (sym w.curves) (area_few a h);
+    points = subst (λ (ps : List Placed). length ps ≤ area_limit) (sym w.points) (placed_few a h);
+  }
+
+  all_few : (as_ : List AreaOf) (ds : List Plan) → has_too_large rows as_ ≡ false → AllZip (IsDrawing l rows) as_ ds → All IsSmallPlan ds
+  all_few [] [] h w = All-nil IsSmallPlan
   all_few [] (d ∷ ds) h w = absurd w
   all_few (a ∷ as_) [] h w = absurd w
   all_few (a ∷ as_) (d ∷ ds) h w =
       let n = neither (is_too_large rows a) (has_too_large rows as_) h in
-      All-cons HasFewCurves d ds (subst (λ (cs : List Curve). length cs ≤ area_limit) (sym w.0.curves) (area_few a n.0)) (all_few as_ ds n.1 w.1)
+      All-cons IsSmallPlan d ds (plan_small a d n.0 w.0) (all_few as_ ds n.1 w.1)
     where
       neither : (b c : Bool) → (b || c) ≡ false → (b ≡ false) × (c ≡ false)
       neither true c h = absurd (cc)
       neither false c h = (refl, h)
 
-  pub few_curves : (ds : List Plan) → has_too_large rows l.areas ≡ false → AreDrawings l rows ds → All HasFewCurves ds
+  pub few_curves : (ds : List Plan) → has_too_large rows l.areas ≡ false → AreDrawings l rows ds → All IsSmallPlan ds
   few_curves ds = all_few l.areas ds

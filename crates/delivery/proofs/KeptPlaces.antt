@@ -243,15 +243,15 @@ module _ (codes : Codes) (v : Window) (line : ℕ) where
   nowhere None value e = ap (map (placed line)) (sym e)
   nowhere (Some f) value e = refl
 
-  told : (b : Bool) (o : Option ValueFault) (value : Value) → b ≡ true → [] ≡ map (placed line) (place_read (reading (if b then Some UndefinedFault else o) value))
-  told true o value h = refl
-  told false o value h = absurd (cc)
+  of_undefined : (b : Bool) (o : Option ValueFault) (value : Value) → b ≡ true → [] ≡ map (placed line) (place_read (reading (if b then Some UndefinedFault else o) value))
+  of_undefined true o value h = refl
+  of_undefined false o value h = absurd (cc)
 
   undefined_place : (words : List (List ℕ)) → list_all (is_undefined codes) words ≡ true → [] ≡ map (placed line) (place_read (column_reading (AreaPoint v) codes words))
   undefined_place [] h = nowhere (field_fault (AreaPoint v) codes []) (value_of (AreaPoint v) []) refl
   undefined_place (x ∷ []) h = nowhere (field_fault (AreaPoint v) codes (x ∷ [])) (value_of (AreaPoint v) (x ∷ [])) refl
   undefined_place (x ∷ y ∷ ws) h =
-      told (list_any (is_undefined codes) (x ∷ y ∷ ws)) (value_fault (AreaPoint v) (x ∷ y ∷ ws)) (value_of (AreaPoint v) (x ∷ y ∷ ws))
+      of_undefined (list_any (is_undefined codes) (x ∷ y ∷ ws)) (value_fault (AreaPoint v) (x ∷ y ∷ ws)) (value_of (AreaPoint v) (x ∷ y ∷ ws))
       (first (is_undefined codes x) (list_all (is_undefined codes) (y ∷ ws)) (list_any (is_undefined codes) (y ∷ ws)) h)
     where
       first : (a b c : Bool) → (a && b) ≡ true → (a || c) ≡ true

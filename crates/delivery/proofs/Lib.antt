@@ -15,6 +15,7 @@ pub mod JudgingSteps
 pub mod KeptAt
 pub mod KeptPlaces
 pub mod KeptSteps
+pub mod NamedAreas
 pub mod ModelTextLemmas
 pub mod OneCommand
 pub mod Pieces

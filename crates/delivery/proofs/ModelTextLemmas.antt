@@ -35,14 +35,14 @@ same_tokens : (text : List ℕ) (a b : List Token) → AreTokens text a → AreT
 same_tokens text a b h k = let e = one_answer text 0 (tokens a) (tokens b) h k in cc
 
 -- a fault of the tokens that a refusal tells
-told_fault : (text : List ℕ) (f : LexFault) (r : Refusal) → IsFault text f → lex_refusal f ≡ Some r → Gives text 0 (fault f)
-told_fault text (lexed.BadByte l c) r h e = h
-told_fault text (lexed.OpenExplanation l c) r h e = h
-told_fault text (lexed.LongNumber l c) r h e = h
-told_fault text lexed.Memory r h e = absurd (cc)
+given_fault : (text : List ℕ) (f : LexFault) (r : Refusal) → IsFault text f → lex_refusal f ≡ Some r → Gives text 0 (fault f)
+given_fault text (lexed.BadByte l c) r h e = h
+given_fault text (lexed.OpenExplanation l c) r h e = h
+given_fault text (lexed.LongNumber l c) r h e = h
+given_fault text lexed.Memory r h e = absurd (cc)
 
 no_tokens : (text : List ℕ) (f : LexFault) (r : Refusal) (ts : List Token) → IsFault text f → lex_refusal f ≡ Some r → AreTokens text ts → ⊥
-no_tokens text f r ts h e k = let q = one_answer text 0 (fault f) (tokens ts) (told_fault text f r h e) k in cc
+no_tokens text f r ts h e k = let q = one_answer text 0 (fault f) (tokens ts) (given_fault text f r h e) k in cc
 
 module _ (text : List ℕ) where
   same_syntax : (m n : ModelSyntax) → IsSpelt text m → IsSpelt text n → m ≡ n
@@ -62,7 +62,7 @@ module _ (text : List ℕ) where
 
   one_faulty : (q r : Refusal) → IsFaulty text q → IsFaulty text r → q ≡ r
   one_faulty q r (no_token f h e) (no_token g k d) =
-      let o = one_answer text 0 (fault f) (fault g) (told_fault text f q h e) (told_fault text g r k d) in
+      let o = one_answer text 0 (fault f) (fault g) (given_fault text f q h e) (given_fault text g r k d) in
       let same : f ≡ g = cc in
       let w = ap lex_refusal same in cc
   one_faulty q r (no_token f h e) (ends_early us d b k g) = absurd (no_tokens text f q us h e b)

@@ -46,8 +46,8 @@ module _ (codes : Codes) (first : ℕ) (o : Option Column) (rows : List Row) whe
   pub points_there : (f : ℕ) (c : Column) (w : Window2) → f ≡ first → Some c ≡ o → HavePointsIn codes first o w rows → All (HasPointIn codes f c w) rows
   points_there f c w g e h = subst (λ (n : ℕ). All (HasPointIn codes n c w) rows) (sym g) (subst (λ (x : Option Column). HavePointsIn codes first x w rows) (sym e) h)
 
-  pub points_told : (f : ℕ) (c : Column) → f ≡ first → Some c ≡ o → flat_map (points_at codes f c) rows ≡ points_by codes first o rows
-  points_told f c g e = ap (λ (n : ℕ). flat_map (points_at codes n c) rows) g ∙ ap (λ (x : Option Column). points_by codes first x rows) e
+  pub points_are : (f : ℕ) (c : Column) → f ≡ first → Some c ≡ o → flat_map (points_at codes f c) rows ≡ points_by codes first o rows
+  points_are f c g e = ap (λ (n : ℕ). flat_map (points_at codes n c) rows) g ∙ ap (λ (x : Option Column). points_by codes first x rows) e
 
   pub no_points : (ps : List Placed) → None ≡ o → ps ≡ ps ++ points_by codes first o rows
   no_points ps e = sym (append-nil ps) ∙ ap (λ (x : Option Column). ps ++ points_by codes first x rows) e

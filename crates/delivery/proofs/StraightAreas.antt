@@ -5,8 +5,8 @@ use Rattle.ports.specs.Files.{Files}
 use Rattle.itf_reader.proofs.Readings.{one_transfer}
 use Rattle.itf_reader.specs.Layouts.{form_of}
 use Rattle.table_layout.specs.Layouts.{Layout}
-use Rattle.delivery.specs.Amounting.{HasStraightAreas, LeavesAreas}
-use Rattle.delivery.specs.Answers.{Means, Passes}
+use Rattle.delivery.specs.Causes.{HasStraightAreas, LeavesUndecided}
+use Rattle.delivery.specs.Answers.{HasCause, Passes}
 use Rattle.delivery.specs.AreaAnswers.{HaveStraightLines}
 use Rattle.delivery.specs.Commands.{Command, compile, check, verify, trial}
 use Rattle.delivery.specs.Gathering as gathering
@@ -18,7 +18,7 @@ use Rattle.delivery.proofs.Agreement.{same_gathered}
 use Rattle.delivery.proofs.AreaLemmas.{straights_decided}
 use Rattle.delivery.proofs.OneCommand.{one_command}
 
-none_in : (c : Command) (l : Layout) (ts : List (List ℕ)) → HasStraightAreas c l ts → LeavesAreas c l ts → ⊥
+none_in : (c : Command) (l : Layout) (ts : List (List ℕ)) → HasStraightAreas c l ts → LeavesUndecided c l ts → ⊥
 none_in (compile m) l ts s h = h
 none_in (verify v) l ts s h = h
 none_in (check v) l [] s h = s
@@ -33,7 +33,7 @@ abbrev AreStraightIn : Command → Gathered → Type 0
 AreStraightIn c (gathering.texts l ts) = HasStraightAreas c l ts
 AreStraightIn c _ = ⊥
 
-pub none_left : (files : Files) (far near : List ℕ → Type 0) (words : List (List ℕ)) → Passes (Some files) far words HasStraightAreas → Passes (Some files) near words LeavesAreas → ⊥
+pub none_left : (files : Files) (far near : List ℕ → Type 0) (words : List (List ℕ)) → Passes (Some files) far words HasStraightAreas → Passes (Some files) near words LeavesUndecided → ⊥
 none_left files far near words p q =
     let e = one_command words p.0 q.0 p.3 q.3 in
     let g = gathering.texts p.1 p.2 in
@@ -47,8 +47,8 @@ none_left files far near words p q =
     ]
 
 -- an answer that has its cause is not that something is undecided
-pub decided : (told : Option Files) (counted : List ℕ → Type 0) (words : List (List ℕ)) (s : Status) → Means told counted words s
-    → ((files : Files) → Passes (Some files) counted words HasStraightAreas → Means (Some files) counted words Undecided → ⊥)
-    → (files : Files) → told ≡ Some files → Passes (Some files) counted words HasStraightAreas → s ≢ Undecided
-decided told counted words s m law files t p e =
-    law files p (subst (λ (x : Option Files). Means x counted words Undecided) t (subst (Means told counted words) e m))
+pub decided : (held : Option Files) (counted : List ℕ → Type 0) (words : List (List ℕ)) (s : Status) → HasCause held counted words s
+    → ((files : Files) → Passes (Some files) counted words HasStraightAreas → HasCause (Some files) counted words Undecided → ⊥)
+    → (files : Files) → held ≡ Some files → Passes (Some files) counted words HasStraightAreas → s ≢ Undecided
+decided held counted words s m law files t p e =
+    law files p (subst (λ (x : Option Files). HasCause x counted words Undecided) t (subst (HasCause held counted words) e m))

@@ -1,4 +1,4 @@
--- Filed certificates of the code, by their texts.
+-- IsFiled certificates of the code, by their texts.
 use Rattle.std.proofs.Common.{◌≡◌, ℕ, zero, suc, ◌+◌, ◌<◌, ◌≤◌, List, [], ◌∷◌, ◌++◌, length, map, take, get_or, Some, Ok, slice_get, refl, sym, ap, ◌∙◌, subst, arith}
 use Rattle.std.specs.Option.{option_map}
 use Rattle.std.specs.List.{AllByRecursion}
@@ -30,11 +30,11 @@ paired_at P (y ∷ xs) zero x h w e = subst P (sym e) h.0
 paired_at P (y ∷ xs) (suc i) x h w e = paired_at P xs i x h.1 (omega (arith, w)) e
 
 -- ---- the text
-pub told_line : (text : List ℕ) (e : CertFault) (line : ℕ) → IsFault text e → IsLineOf e line → IsBadLine text line
-told_line text (faults.Line k) line (bad_line n h) q = bad n h q
-told_line text (faults.Number k) line (bad_number n h) q = bad n h q
-told_line text (faults.Short k) line (too_short n h) q = missing n h q
-told_line text faults.Memory line out_of_memory q = absurd q
+pub bad_line_named : (text : List ℕ) (e : CertFault) (line : ℕ) → IsFault text e → IsLineOf e line → IsBadLine text line
+bad_line_named text (faults.Line k) line (bad_line n h) q = bad n h q
+bad_line_named text (faults.Number k) line (bad_number n h) q = bad n h q
+bad_line_named text (faults.Short k) line (too_short n h) q = missing n h q
+bad_line_named text faults.Memory line out_of_memory q = absurd q
 
 -- a fault with a line is that of a text that spells no list
 pub no_list : (e : CertFault) (line : ℕ) (list : List Plain) → IsLineOf e line → Fails e (Ok list) → ⊥
@@ -69,9 +69,9 @@ pub levels_more : (cs : List Certificate) (n : ℕ) (c : Certificate) (old new :
 levels_more cs n c old new w p q =
     p ∙ ap (λ (ns : List ℕ). ns ++ (get_or cs n c).level ∷ []) q ∙ sym (map-append level (take n cs) (get_or cs n c ∷ [])) ∙ ap (map level) (sym (take_more cs n c w))
 
-pub levels_seen : (cs : List Certificate) → map (λ (c : Certificate). c.level) cs ≡ levels_of (views cs)
-levels_seen [] = refl
-levels_seen (c ∷ cs) = ap (λ (ns : List ℕ). c.level ∷ ns) (levels_seen cs)
+pub levels_view : (cs : List Certificate) → map (λ (c : Certificate). c.level) cs ≡ levels_of (views cs)
+levels_view [] = refl
+levels_view (c ∷ cs) = ap (λ (ns : List ℕ). c.level ∷ ns) (levels_view cs)
 
 pub checked_list : (l : Layout) (ds : List Plan) (cs : List Plain) (v : Verification) → length ds ≡ length l.areas → AreNamed l cs → AreChecked ds cs v → (text : List ℕ) → Spells text cs → IsVerification l ds text v
 checked_list l ds cs (proved levels) m n h text s = all_proved cs s (certificates_of l ds cs m n h.1) (ap proved h.0)

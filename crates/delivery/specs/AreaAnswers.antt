@@ -1,5 +1,6 @@
 -- What is answered to the areas of a layout.
-use Rattle.std.specs.Prelude.{◌≡◌, ◌⊎◌, ℕ, Bool, true, false, pos, List, [], ◌∷◌, ◌++◌, length, map, get_or}
+use Rattle.std.specs.Prelude.{◌≡◌, ◌⊎◌, ℕ, Bool, true, false, pos, List, [], ◌∷◌, ◌++◌, length, map}
+use Rattle.std.specs.Prelude.{get_or}
 use Rattle.std.specs.List.{All, Any, list_any}
 use Rattle.certificate.specs.Spelling.{Plain}
 use Rattle.itf_reader.specs.Forms.{Row}
@@ -15,7 +16,8 @@ use Rattle.area_search.specs.declared.kinds.AreaFinding.TheVariants as fault
 use Rattle.delivery.specs.AreaCertificates.{IsCertificateOf}
 use Rattle.delivery.specs.Drawings.{IsDrawing, area_curves}
 use Rattle.delivery.specs.declared.report.lines.AreaAnswer.{AreaAnswer}
-use Rattle.delivery.specs.declared.report.lines.AreaAnswer.TheVariants.{Undecided, Meeting, On, Outside, Two, Empty, Proved}
+use Rattle.delivery.specs.declared.report.lines.AreaAnswer.TheVariants.{Undecided, Meeting, On}
+use Rattle.delivery.specs.declared.report.lines.AreaAnswer.TheVariants.{Outside, Two, Empty, Proved}
 
 -- ---- one drawing
 -- the line of the transfer of a curve, and that of an object
@@ -23,32 +25,38 @@ abbrev pub curve_line : Plan → ℕ → ℕ
 curve_line d i = (curve d i).line
 
 abbrev pub object_line : Plan → ℕ → ℕ
-object_line d j = (get_or d.points j (record { at = record { x = pos 0; y = pos 0 }; line = 0 })).line
+object_line d j =
+    (get_or d.points j (record { at = record { x = pos 0; y = pos 0 }; line = 0 })).line
 
--- a fault of the drawing, told by the lines of its curves and objects
-abbrev pub fault_told : Plan → AreaFinding → AreaAnswer
-fault_told d (fault.Meeting i j) = Meeting (curve_line d i) (curve_line d j)
-fault_told d (fault.On j i) = On (object_line d j) (curve_line d i)
-fault_told d (fault.Outside j) = Outside (object_line d j)
-fault_told d (fault.Two i j) = Two (object_line d i) (object_line d j)
-fault_told d (fault.Empty i left) = Empty (curve_line d i) left
+-- a fault of the drawing, held by the lines of its curves and objects
+abbrev pub fault_answer : Plan → AreaFinding → AreaAnswer
+fault_answer d (fault.Meeting i j) = Meeting (curve_line d i) (curve_line d j)
+fault_answer d (fault.On j i) = On (object_line d j) (curve_line d i)
+fault_answer d (fault.Outside j) = Outside (object_line d j)
+fault_answer d (fault.Two i j) = Two (object_line d i) (object_line d j)
+fault_answer d (fault.Empty i left) = Empty (curve_line d i) left
 
--- two curves that are not decided, or one named twice, told by their lines
-abbrev pub undecided_told : Plan → ℕ → ℕ → AreaAnswer
-undecided_told d i j = Undecided (curve_line d i) (curve_line d j)
+-- two curves that are not decided, or one named twice, held by their lines
+abbrev pub undecided_answer : Plan → ℕ → ℕ → AreaAnswer
+undecided_answer d i j = Undecided (curve_line d i) (curve_line d j)
 
 -- how many curves and points are shown to be a partition, at a level
-abbrev pub proof_told : Plan → ℕ → AreaAnswer
-proof_told d level = Proved level (length d.curves) (length d.points)
+abbrev pub proof_answer : Plan → ℕ → AreaAnswer
+proof_answer d level = Proved level (length d.curves) (length d.points)
 
--- The answer to the drawing of an area, and the certificates that go with it: one where it is proved, else none.
-pub data IsAnswer (l : Layout) (a : AreaOf) (d : Plan) (x : AreaAnswer) (cs : List Plain) : Type 0 where
+-- The answer to the drawing of an area, and the certificates that go with it: one where it is
+-- proved, else none.
+pub data IsAnswer (l : Layout) (a : AreaOf) (d : Plan) (x : AreaAnswer)
+    (cs : List Plain) : Type 0 where
   -- this is the first fault
-  faulty : (f : AreaFinding) → search.IsAnswer d (found.Fault f) → x ≡ fault_told d f → cs ≡ [] → IsAnswer l a d x cs
+  faulty : (f : AreaFinding) → search.IsAnswer d (found.Fault f) → x ≡ fault_answer d f → cs ≡ []
+      → IsAnswer l a d x cs
   -- no level settles the drawing, and these two curves are the first that break the last one
-  undecided : (i j : ℕ) → search.IsAnswer d (found.Undecided i j) → x ≡ undecided_told d i j → cs ≡ [] → IsAnswer l a d x cs
+  undecided : (i j : ℕ) → search.IsAnswer d (found.Undecided i j) → x ≡ undecided_answer d i j
+      → cs ≡ [] → IsAnswer l a d x cs
   -- a certificate proves it, at the least level that settles it
-  proved : (c : Plain) → IsCertificateOf l a d c → search.IsLeastLevel d c.level → x ≡ proof_told d c.level → cs ≡ c ∷ [] → IsAnswer l a d x cs
+  proved : (c : Plain) → IsCertificateOf l a d c → search.IsLeastLevel d c.level
+      → x ≡ proof_answer d c.level → cs ≡ c ∷ [] → IsAnswer l a d x cs
 
 -- ---- all areas of a layout
 abbrev pub plans : List Drawing → List Plan
@@ -57,7 +65,9 @@ plans ds = map plan ds
 -- the answers to areas and their drawings, in order, and all certificates that go with them
 abbrev pub AreAnswers : Layout → List AreaOf → List Plan → List AreaAnswer → List Plain → Type 0
 AreAnswers l [] [] [] cs = cs ≡ []
-AreAnswers l (a ∷ as_) (d ∷ ds) (x ∷ xs) cs = (here : List Plain) × (rest : List Plain) × IsAnswer l a d x here × AreAnswers l as_ ds xs rest × (cs ≡ here ++ rest)
+AreAnswers l (a ∷ as_) (d ∷ ds) (x ∷ xs) cs =
+    (here : List Plain) × (rest : List Plain) × IsAnswer l a d x here × AreAnswers l as_ ds xs rest
+    × (cs ≡ here ++ rest)
 AreAnswers l as_ ds xs cs = ⊥
 
 -- the answer names what is at fault
@@ -95,8 +105,8 @@ HasFaultyArea l rows = Any (IsDrawn l rows IsFaultyPlan) l.areas
 abbrev pub ArePartedAreas : Layout → List (List Row) → Type 0
 ArePartedAreas l rows = All (IsDrawn l rows IsPartition) l.areas
 
--- no level settles the drawing: these two curves are the first that break the last level, or it is one curve named twice, and one of
--- them is a half arc
+-- no level settles the drawing: these two curves are the first that break the last level, or it is
+-- one curve named twice, and one of them is a half arc
 pub record IsUndecidedPlan (d : Plan) : Type 0 where
   pub first : ℕ
   pub second : ℕ
@@ -109,7 +119,8 @@ IsFaultlessPlan d = IsUndecidedPlan d ⊎ IsPartition d
 
 -- some area is undecided, and each other one is undecided or a partition
 abbrev pub AreLeftAreas : Layout → List (List Row) → Type 0
-AreLeftAreas l rows = Any (IsDrawn l rows IsUndecidedPlan) l.areas × All (IsDrawn l rows IsFaultlessPlan) l.areas
+AreLeftAreas l rows =
+    Any (IsDrawn l rows IsUndecidedPlan) l.areas × All (IsDrawn l rows IsFaultlessPlan) l.areas
 
 -- all lines of areas are straights
 abbrev pub HaveStraightLines : Layout → List (List Row) → Type 0

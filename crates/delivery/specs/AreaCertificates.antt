@@ -15,7 +15,8 @@ notes_of (e ∷ es) = e.0 ∷ e.1 ∷ notes_of es
 
 -- what a certificate claims: all but its names
 abbrev pub claims_of : Plain → Claims
-claims_of c = record { level = c.level; positions = c.positions; notes = notes_of c.edges; places = c.places }
+claims_of c =
+    record { level = c.level; positions = c.positions; notes = notes_of c.edges; places = c.places }
 
 -- the certificate has the names of the area
 pub record IsNamedFor (l : Layout) (a : AreaOf) (c : Plain) : Type 0 where
@@ -31,5 +32,6 @@ pub record IsCertificateOf (l : Layout) (a : AreaOf) (d : Plan) (c : Plain) : Ty
 -- one for each area and its drawing, in order
 abbrev pub AreCertificatesOf : Layout → List AreaOf → List Plan → List Plain → Type 0
 AreCertificatesOf l [] [] [] = ⊤
-AreCertificatesOf l (a ∷ as_) (d ∷ ds) (c ∷ cs) = IsCertificateOf l a d c × AreCertificatesOf l as_ ds cs
+AreCertificatesOf l (a ∷ as_) (d ∷ ds) (c ∷ cs) =
+    IsCertificateOf l a d c × AreCertificatesOf l as_ ds cs
 AreCertificatesOf l as_ ds cs = ⊥

@@ -1,5 +1,6 @@
 -- How large an area may be.
-use Rattle.std.specs.Prelude.{◌≡◌, ℕ, ◌+◌, ◌≤◌, Bool, false, nat_lt, ◌||◌, List, [], ◌∷◌, length, Some, slice_get, slice_index_or}
+use Rattle.std.specs.Prelude.{◌≡◌, ℕ, ◌+◌, ◌≤◌, Bool, false, nat_lt, ◌||◌, List, [], ◌∷◌, length}
+use Rattle.std.specs.Prelude.{Some, slice_get, slice_index_or}
 use Rattle.std.specs.List.{list_any}
 use Rattle.itf_reader.specs.Forms.{Vertex, Row}
 use Rattle.plane.specs.Rule.Plans.{Plan}
@@ -20,7 +21,9 @@ vertex_count (r ∷ rs) = vertices_in r.strokes + vertex_count rs
 
 -- the table of an area's lines, or its main table, has more than the limit
 abbrev pub is_too_large : List (List Row) → AreaOf → Bool
-is_too_large rows a = nat_lt area_limit (vertex_count (slice_index_or rows a.lines [])) || nat_lt area_limit (length (slice_index_or rows a.main []))
+is_too_large rows a =
+    nat_lt area_limit (vertex_count (slice_index_or rows a.lines []))
+    || nat_lt area_limit (length (slice_index_or rows a.main []))
 
 -- the area of that number is within the limits
 abbrev pub IsWithinLimits : List (List Row) → List AreaOf → ℕ → Type 0
@@ -30,6 +33,8 @@ IsWithinLimits rows as_ k = (a : AreaOf) → slice_get as_ k ≡ Some a → is_t
 abbrev pub has_too_large : List (List Row) → List AreaOf → Bool
 has_too_large rows as_ = list_any (is_too_large rows) as_
 
--- the drawing has no more curves than the lines of an area may have vertices
-abbrev pub HasFewCurves : Plan → Type 0
-HasFewCurves d = length d.curves ≤ area_limit
+-- the drawing has no more curves than the lines of an area may have vertices, and no more points
+-- than its main table may have rows
+pub record IsSmallPlan (d : Plan) : Type 0 where
+  pub curves : length d.curves ≤ area_limit
+  pub points : length d.points ≤ area_limit

@@ -1,5 +1,6 @@
 -- What an area is called: the names of its topic, of its main table and of its attribute.
 use Rattle.std.specs.Prelude.{ℕ, List, [], Option, Some, None, slice_get, slice_index_or}
+use Rattle.certificate.specs.Spelling.{IsName}
 use Rattle.table_layout.specs.Layouts.{Table, AreaOf, Layout}
 
 -- the names of a table's topic and of the table, empty where there is no such table
@@ -16,3 +17,9 @@ topic_name l a = topic_at l (slice_get l.tables a.main)
 
 abbrev pub table_name : Layout → AreaOf → List ℕ
 table_name l a = name_at (slice_get l.tables a.main)
+
+-- they are such as the title line of a certificate can hold
+pub record HasTitle (l : Layout) (a : AreaOf) : Type 0 where
+  pub topic : IsName (topic_name l a)
+  pub table : IsName (table_name l a)
+  pub attribute : IsName a.name

@@ -1,26 +1,35 @@
--- What an accepted check or trial leaves behind.
-use Rattle.std.specs.Prelude.{◌≡◌, ℕ, List, [], ◌∷◌, Option, Some}
+-- What an accepted check or trial leaves.
+use Rattle.std.specs.Prelude.{◌≡◌, ℕ, false, List, [], ◌∷◌, Option, Some}
 use Rattle.ports.specs.Files.{Files, Puts}
-use Rattle.certificate.specs.Spelling.{Plain, spelling}
+use Rattle.certificate.specs.Spelling.{Plain, AreSpelt, spelling}
 use Rattle.itf_reader.specs.Forms.{Row}
 use Rattle.table_layout.specs.Layouts.{Layout}
 use Rattle.delivery.specs.AreaCertificates.{AreCertificatesOf}
+use Rattle.delivery.specs.AreaLimits.{has_too_large}
 use Rattle.delivery.specs.Commands.{Command, IsCommand, writes_to}
 use Rattle.delivery.specs.Drawings.{AreDrawings}
 use Rattle.plane.specs.Rule.Plans.{Plan}
 use Rattle.delivery.specs.Gathering.{texts, Gathers}
-use Rattle.delivery.specs.Judging.{Tells, IsClean}
+use Rattle.delivery.specs.Judging.{IsTextOf, IsClean}
 
--- the transfer tells rows that meet the declarations, and these certificates, one for each AREA by its names, prove their drawings
+-- The transfer has rows that meet the declarations, and no AREA is over its limit. These
+-- certificates, one for each AREA by its names, prove their drawings, and are such as can be
+-- written and read back.
 pub record AreCertified (l : Layout) (text : List ℕ) (cs : List Plain) : Type 0 where
   pub rows : List (List Row)
   pub drawings : List Plan
-  pub told : Tells l text rows
+  pub rows_of : IsTextOf l text rows
   pub clean : IsClean l rows
+  pub few : has_too_large rows l.areas ≡ false
   pub drawn : AreDrawings l rows drawings
   pub proved : AreCertificatesOf l l.areas drawings cs
+  pub spelt : AreSpelt cs
 
--- where the words are a command that writes certificates, their file holds the text of such a list, and no other file has changed
+-- where the words are a command that writes certificates, their file holds the text of such a list,
+-- and no other file has changed
 abbrev pub Certifies : Option Files → (List ℕ → Type 0) → List (List ℕ) → Option Files → Type 0
-Certifies told counted words new = (c : Command) (name : List ℕ) → IsCommand words c → writes_to c ≡ Some name
-    → (l : Layout) × (text : List ℕ) × (cs : List Plain) × Gathers told counted c (texts l (text ∷ [])) × AreCertified l text cs × Puts told name (λ file. spelling cs) new
+Certifies held counted words new =
+    (c : Command) (name : List ℕ) → IsCommand words c → writes_to c ≡ Some name
+    → (l : Layout) × (text : List ℕ) × (cs : List Plain)
+    × Gathers held counted c (texts l (text ∷ [])) × AreCertified l text cs
+    × Puts held name (λ file. spelling cs) new

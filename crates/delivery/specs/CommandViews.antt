@@ -5,7 +5,8 @@ use Rattle.delivery.specs.declared.command.Command.{Command as CodeCommand}
 use Rattle.delivery.specs.declared.command.Command.TheVariants as commands
 
 abbrev pub names_of : CodeNames → FileNames
-names_of c = record { model = c.model.now; transfer = c.transfer.now; certificate = c.certificate.now }
+names_of c =
+    record { model = c.model.now; transfer = c.transfer.now; certificate = c.certificate.now }
 
 abbrev pub command_of : CodeCommand → Command
 command_of (commands.Compile model) = compile model.now

@@ -1,5 +1,6 @@
 -- The words of the command line, and the files that a command reads and writes.
-use Rattle.std.specs.Prelude.{◌≡◌, ◌≤◌, ℕ, Bool, true, false, not, ◌==◌, List, [], ◌∷◌, Option, Some, None, ⊤, codes}
+use Rattle.std.specs.Prelude.{◌≡◌, ◌≤◌, ℕ, Bool, true, false, not, ◌==◌, List, [], ◌∷◌, Option}
+use Rattle.std.specs.Prelude.{Some, None, ⊤, codes}
 use Rattle.delivery.specs.TrialFiles.{IsSize, model_text, transfer_text}
 use Rattle.delivery.specs.declared.files.File.{File}
 use Rattle.delivery.specs.declared.files.File.TheVariants.{Model, Transfer, Certificate}

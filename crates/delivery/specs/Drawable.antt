@@ -1,5 +1,6 @@
 -- What the drawing of an area stands on: the forms of the layout, and rows that are sound and few.
-use Rattle.std.specs.Prelude.{◌≡◌, ⊤, ℕ, ◌+◌, ◌≤◌, List, [], ◌∷◌, length, Option, Some, None, slice_get, slice_index_or}
+use Rattle.std.specs.Prelude.{◌≡◌, ⊤, ℕ, ◌+◌, ◌≤◌, List, [], ◌∷◌, length, Option, Some, None}
+use Rattle.std.specs.Prelude.{slice_get, slice_index_or}
 use Rattle.std.specs.Borrow.{Bor}
 use Rattle.std.specs.List.{All}
 use Rattle.std.specs.Option.{option_map, IfSome}
@@ -20,7 +21,8 @@ use Rattle.plane.specs.Rule.Windows.{IsInside}
 use Rattle.plane.specs.declared.kinds.Curve.{Curve}
 use Rattle.plane.specs.declared.window.Window2.{Window2}
 use Rattle.delivery.specs.AreaLimits.{area_limit, vertex_count}
-use Rattle.delivery.specs.Drawings.{point_at, curves_after, lines_in, columns_in, first_word, points_at, IsWindowOf}
+use Rattle.delivery.specs.Drawings.{point_at, curves_after, lines_in, columns_in, first_word}
+use Rattle.delivery.specs.Drawings.{points_at, IsWindowOf}
 use Rattle.delivery.specs.declared.drawings.curves.Pen.{Pen}
 
 -- ---- the layout
@@ -44,7 +46,8 @@ abbrev pub HasSoundLine : LineForm → Row → Type 0
 HasSoundLine l r = AreSoundVertices l (slice_index_or r.strokes 0 [])
 
 -- an object has the words of its point, which is in the window from low to high
-pub record HasPointIn (codes : Codes) (first : ℕ) (c : Column) (w : Window2) (r : Row) : Type 0 where
+pub record HasPointIn (codes : Codes) (first : ℕ) (c : Column) (w : Window2)
+    (r : Row) : Type 0 where
   pub counted : first + width c.form ≤ length r.fields
   pub inside : All (λ p. IsInside w.low w.high p.at) (points_at codes first c r)
 
@@ -61,17 +64,20 @@ column_there c = option_map (λ found. column_view found.now) c
 pub record IsDrawable (l : Layout) (rows : List (List Row)) (a : AreaOf) : Type 0 where
   pub forms : HasForms l a
   pub sound : All (HasSoundLine forms.line) (slice_index_or rows a.lines [])
-  pub points : (w : Window2) → IsWindowOf forms.line.window w → HavePointsIn l.codes (first_word (columns_in (slice_get l.tables a.main)) a.column) (slice_get (columns_in (slice_get l.tables a.main)) a.column) w (slice_index_or rows a.main [])
+  pub points : (w : Window2) → IsWindowOf forms.line.window w
+      → HavePointsIn l.codes (first_word (columns_in (slice_get l.tables a.main)) a.column)
+      (slice_get (columns_in (slice_get l.tables a.main)) a.column) w
+      (slice_index_or rows a.main [])
   pub vertices : vertex_count (slice_index_or rows a.lines []) ≤ area_limit
   pub objects : length (slice_index_or rows a.main []) ≤ area_limit
 
 -- ---- a line while it is drawn
-abbrev pub over_seen : Option ReadVertex → Option Seen
-over_seen over = option_map vertex_view over
+abbrev pub over_view : Option ReadVertex → Option Seen
+over_view over = option_map vertex_view over
 
 -- the curves that are still to be drawn where the pen goes on to these vertices
 abbrev pub rest_curves : Pen → List Seen → List Curve
-rest_curves pen vs = curves_after (place_view pen.at) (over_seen pen.over) vs
+rest_curves pen vs = curves_after (place_view pen.at) (over_view pen.over) vs
 
 -- the vertices that were read and have no curve yet
 abbrev pub waiting : Option ReadVertex → ℕ

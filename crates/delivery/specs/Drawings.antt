@@ -1,5 +1,6 @@
 -- The drawing of an area: from the rows of a transfer to curves and points of the plane.
-use Rattle.std.specs.Prelude.{◌≡◌, ℕ, ◌+◌, if◌then◌else◌, List, [], ◌∷◌, ◌++◌, take, drop, map, Option, Some, None, Result, Ok, pos, slice_get, slice_index_or}
+use Rattle.std.specs.Prelude.{◌≡◌, ℕ, ◌+◌, if◌then◌else◌, List, [], ◌∷◌, ◌++◌, take, drop, map}
+use Rattle.std.specs.Prelude.{Option, Some, None, Result, Ok, pos, slice_get, slice_index_or}
 use Rattle.std.specs.List.{AllZip, flat_map}
 use Rattle.ili_grammar.specs.Syntax.{Codes}
 use Rattle.resolver.specs.Resolved.{LineForm, Window}
@@ -23,21 +24,31 @@ point_at p = record { x = p.x; y = p.y }
 -- ---- curves
 -- the straight between two places, by the line of the second; none where they are one place
 abbrev pub straight_between : Place → Place → ℕ → List Curve
-straight_between p q line = if is_same_place p q then [] else straight (point_at p) (point_at q) line ∷ []
+straight_between p q line =
+    if is_same_place p q then [] else straight (point_at p) (point_at q) line ∷ []
 
 -- the two half arcs from a place over m to e
 abbrev pub half_arcs : Place → Seen → Seen → List Curve
-half_arcs s m e = half_arc (point_at s) (point_at m.at) (point_at e.at) m.line ∷ half_arc (point_at m.at) (point_at e.at) (point_at s) e.line ∷ []
+half_arcs s m e =
+    half_arc (point_at s) (point_at m.at) (point_at e.at) m.line
+    ∷ half_arc (point_at m.at) (point_at e.at) (point_at s) e.line ∷ []
 
 -- an arc; where the three places lie on one straight it is the straights that have length
 abbrev pub arc_over : Place → Seen → Seen → List Curve
-arc_over s m e = if are_collinear s m.at e.at then straight_between s m.at m.line ++ straight_between m.at e.at e.line else half_arcs s m e
+arc_over s m e =
+    if are_collinear s m.at e.at
+    then straight_between s m.at m.line ++ straight_between m.at e.at e.line
+    else half_arcs s m e
 
--- the curves of the vertices that follow a place; behind the vertex that an arc leads over comes its end
+-- the curves of the vertices that follow a place; after the vertex that an arc leads over comes
+-- its end
 abbrev pub curves_after : Place → Option Seen → List Seen → List Curve
 curves_after s over [] = []
 curves_after s (Some m) (e ∷ vs) = arc_over s m e ++ curves_after e.at None vs
-curves_after s None (v ∷ vs) = if is_on_arc v.kind then curves_after s (Some v) vs else straight_between s v.at v.line ++ curves_after v.at None vs
+curves_after s None (v ∷ vs) =
+    if is_on_arc v.kind
+    then curves_after s (Some v) vs
+    else straight_between s v.at v.line ++ curves_after v.at None vs
 
 -- a line from its start
 abbrev pub line_curves : LineForm → List Vertex → List Curve
@@ -58,7 +69,8 @@ lines_in (Some t) = t.lines
 lines_in None = []
 
 abbrev pub area_curves : Layout → List (List Row) → AreaOf → List Curve
-area_curves l rows a = curves_by (lines_in (slice_get l.tables a.lines)) (slice_index_or rows a.lines [])
+area_curves l rows a =
+    curves_by (lines_in (slice_get l.tables a.lines)) (slice_index_or rows a.lines [])
 
 -- ---- points
 -- a column of two numbers is a place; an undefined one is none
@@ -66,7 +78,8 @@ abbrev pub place_read : Result Value ValueFault → List Place
 place_read (Ok (Numbers (x ∷ y ∷ []))) = record { x = x; y = y } ∷ []
 place_read other = []
 
--- where the words of column k begin in a row: behind its identification and the words of the columns before
+-- where the words of column k begin in a row: after its identification and the words of the
+-- columns before
 abbrev pub first_word : List Column → ℕ → ℕ
 first_word cs k = 1 + widths (take k cs)
 
@@ -78,7 +91,8 @@ placed line p = record { at = point_at p; line = line }
 
 -- the point of an object, by the line of the object; none where its column is undefined
 abbrev pub points_at : Codes → ℕ → Column → Row → List Placed
-points_at codes first c r = map (placed r.line) (place_read (column_reading c.form codes (words_at first c r)))
+points_at codes first c r =
+    map (placed r.line) (place_read (column_reading c.form codes (words_at first c r)))
 
 abbrev pub points_by : Codes → ℕ → Option Column → List Row → List Placed
 points_by codes first None rows = []
@@ -93,7 +107,9 @@ columns_in (Some t) = t.columns
 columns_in None = []
 
 abbrev pub area_points : Layout → List (List Row) → AreaOf → List Placed
-area_points l rows a = points_in l.codes (columns_in (slice_get l.tables a.main)) a.column (slice_index_or rows a.main [])
+area_points l rows a =
+    points_in l.codes (columns_in (slice_get l.tables a.main)) a.column
+    (slice_index_or rows a.main [])
 
 -- ---- drawings
 -- the window of the plane in which the vertices of a line lie
@@ -103,7 +119,8 @@ pub record IsWindowOf (w : Window) (d : Window2) : Type 0 where
 
 -- the window of the lines of a table; a table of lines has one form of them
 abbrev pub HasWindow : List LineForm → Window2 → Type 0
-HasWindow [] d = (d.low ≡ record { x = pos 0; y = pos 0 }) × (d.high ≡ record { x = pos 0; y = pos 0 })
+HasWindow [] d =
+    (d.low ≡ record { x = pos 0; y = pos 0 }) × (d.high ≡ record { x = pos 0; y = pos 0 })
 HasWindow (l ∷ ls) d = IsWindowOf l.window d
 
 -- the drawing of an area of the layout from the rows of a transfer

@@ -1,4 +1,4 @@
--- What a call leaves behind: the file of the certificates, and the output.
+-- What a call leaves: the file of the certificates, and the output.
 use Rattle.std.specs.Prelude.{◌≡◌, ◌≢◌, ℕ, List, take, Option, Some, None, ⊤, ◌⊎◌}
 use Rattle.std.specs.FinMap as map
 use Rattle.ports.specs.Files.{Files, Puts}
@@ -12,29 +12,36 @@ use Rattle.delivery.specs.declared.status.Status.TheVariants.{WriteFault}
 -- every file is as before, but that one may hold a front of the text in place of what it held
 abbrev pub HoldsFront : Option Files → List ℕ → List ℕ → Option Files → Type 0
 HoldsFront None name text new = ⊤
-HoldsFront (Some files) name text new = (new ≡ Some files) ⊎ ((n : ℕ) × (new ≡ Some (map.insert files name (take n text))))
+HoldsFront (Some files) name text new =
+    (new ≡ Some files) ⊎ ((n : ℕ) × (new ≡ Some (map.insert files name (take n text))))
 
--- Without certificates every file is as before; with them only their file has changed, and it holds what it held or a front of their text.
-abbrev pub Begun : Option Filing → Option Files → Option Files → Type 0
-Begun None old new = new ≡ old
-Begun (Some f) old new = HoldsFront old f.name (spelling f.certificates) new
+-- Without certificates every file is as before; with them only their file has changed, and it holds
+-- what it held or a front of their text.
+abbrev pub IsBegun : Option Filing → Option Files → Option Files → Type 0
+IsBegun None old new = new ≡ old
+IsBegun (Some f) old new = HoldsFront old f.name (spelling f.certificates) new
 
--- Without certificates every file is as before; with them only their file has changed, and it holds their text.
-abbrev pub Filed : Option Filing → Option Files → Option Files → Type 0
-Filed None old new = new ≡ old
-Filed (Some f) old new = Puts old f.name (λ file. spelling f.certificates) new
+-- Without certificates every file is as before; with them only their file has changed, and it holds
+-- their text.
+abbrev pub IsFiled : Option Filing → Option Files → Option Files → Type 0
+IsFiled None old new = new ≡ old
+IsFiled (Some f) old new = Puts old f.name (λ file. spelling f.certificates) new
 
 -- What a call does that does not run out of memory. `wrote`: a failed write of a file was counted.
-pub record Does (told : Option Files) (counted : List ℕ → Type 0) (words : List (List ℕ)) (status : Status) (new : Option Files) (wrote : Type 0) (before after : Option (List ℕ)) : Type 0 where
+pub record HasEffects (held : Option Files) (counted : List ℕ → Type 0) (words : List (List ℕ))
+    (status : Status) (new : Option Files) (wrote : Type 0)
+    (before after : Option (List ℕ)) : Type 0 where
   -- the words and the files have an outcome
   pub outcome : Outcome
-  pub decided : Decides told counted words outcome
+  pub decided : Decides held counted words outcome
   -- the answer is its status, unless a write failed
   pub answered : status ≢ WriteFault → status ≡ outcome.status
   -- the output gained the report, or after a failed write a front of it
   pub reported : status ≢ WriteFault → Adds before (report_of outcome) after
   pub begun : AddsPrefix before (report_of outcome) after
   -- the files, whatever the answer
-  pub files : Begun outcome.filing told new
-  -- the certificates are whole unless a write failed, also where none of a file was counted or the output gained a byte
-  pub filed : (status ≢ WriteFault) ⊎ ((wrote → ⊥) ⊎ (after ≢ before)) → Filed outcome.filing told new
+  pub files : IsBegun outcome.filing held new
+  -- the certificates are whole unless a write failed, also where none of a file was counted or the
+  -- output gained a byte
+  pub filed : (status ≢ WriteFault) ⊎ ((wrote → ⊥) ⊎ (after ≢ before))
+      → IsFiled outcome.filing held new

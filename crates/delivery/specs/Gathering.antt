@@ -2,7 +2,8 @@
 use Rattle.std.specs.Prelude.{◌≡◌, ℕ, List, [], ◌∷◌, ◌++◌, Option, ◌⊎◌}
 use Rattle.ports.specs.Files.{Files}
 use Rattle.table_layout.specs.Layouts.{Layout}
-use Rattle.delivery.specs.Commands.{Command, Source, from_file, made, limit_of, model_of, further_files}
+use Rattle.delivery.specs.Commands.{Command, Source, from_file, made, limit_of, model_of}
+use Rattle.delivery.specs.Commands.{further_files}
 use Rattle.delivery.specs.ModelTexts.{Refusal, IsRefused, HasLayout}
 use Rattle.delivery.specs.Reading.{IsWhole, IsLonger}
 use Rattle.delivery.specs.declared.files.File.{File}
@@ -17,20 +18,29 @@ pub data Gathered : Type 0 where
   -- the layout of the model, and the texts of the further files in order
   texts : Layout → List (List ℕ) → Gathered
 
--- a file is read: it could not be, with a fault of it counted; or it is too long; or its text goes on. A text that is made goes on.
+-- a file is read: it could not be, with a fault of it counted; or it is too long; or its text goes
+-- on. A text that is made goes on.
 abbrev pub Reads : Option Files → (List ℕ → Type 0) → Source → Gathered → (List ℕ → Type 0) → Type 0
-Reads told counted (from_file f name) g goes_on = (counted name × (g ≡ unread f)) ⊎ ((IsLonger told name (limit_of f) × (g ≡ too_long f)) ⊎ ((text : List ℕ) × IsWhole told name (limit_of f) text × goes_on text))
-Reads told counted (made text) g goes_on = goes_on text
+Reads held counted (from_file f name) g goes_on =
+    (counted name × (g ≡ unread f))
+    ⊎ ((IsLonger held name (limit_of f) × (g ≡ too_long f))
+    ⊎ ((text : List ℕ) × IsWhole held name (limit_of f) text × goes_on text))
+Reads held counted (made text) g goes_on = goes_on text
 
--- files are read in order, behind those whose texts these are
-abbrev pub ReadsAll : Option Files → (List ℕ → Type 0) → Layout → List (List ℕ) → List Source → Gathered → Type 0
-ReadsAll told counted l before [] g = g ≡ texts l before
-ReadsAll told counted l before (s ∷ ss) g = Reads told counted s g (λ text. ReadsAll told counted l (before ++ (text ∷ [])) ss g)
+-- files are read in order, after those whose texts these are
+abbrev pub ReadsAll : Option Files → (List ℕ → Type 0) → Layout → List (List ℕ) → List Source
+    → Gathered → Type 0
+ReadsAll held counted l before [] g = g ≡ texts l before
+ReadsAll held counted l before (s ∷ ss) g =
+    Reads held counted s g (λ text. ReadsAll held counted l (before ++ (text ∷ [])) ss g)
 
 -- a model's text is refused, or has a layout, and then the further files are read
 abbrev pub Compiles : Option Files → (List ℕ → Type 0) → Command → List ℕ → Gathered → Type 0
-Compiles told counted c text g = ((r : Refusal) × IsRefused text r × (g ≡ refused r)) ⊎ ((l : Layout) × HasLayout text l × ReadsAll told counted l [] (further_files c) g)
+Compiles held counted c text g =
+    ((r : Refusal) × IsRefused text r × (g ≡ refused r))
+    ⊎ ((l : Layout) × HasLayout text l × ReadsAll held counted l [] (further_files c) g)
 
 -- this is read of the files of a command
 abbrev pub Gathers : Option Files → (List ℕ → Type 0) → Command → Gathered → Type 0
-Gathers told counted c g = Reads told counted (model_of c) g (λ text. Compiles told counted c text g)
+Gathers held counted c g =
+    Reads held counted (model_of c) g (λ text. Compiles held counted c text g)

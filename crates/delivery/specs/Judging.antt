@@ -8,12 +8,13 @@ use Rattle.itf_reader.specs.Readings.{Structure, IsRead, IsRefused as IsAtFault}
 use Rattle.table_layout.specs.Layouts.{Layout}
 use Rattle.domain_rules.specs.ValueFindings.{value_findings}
 use Rattle.ident_refs.specs.KeyFindings.{key_findings}
-use Rattle.certificate.specs.Spelling.{Plain}
+use Rattle.certificate.specs.Spelling.{Plain, AreSpelt}
 use Rattle.delivery.specs.AreaAnswers.{AreAnswers}
 use Rattle.delivery.specs.AreaLimits.{has_too_large}
 use Rattle.delivery.specs.Drawings.{AreDrawings}
 use Rattle.plane.specs.Rule.Plans.{Plan}
-use Rattle.delivery.specs.Outcomes.{Target, Outcome, area_too_large, misbuilt, rejected, areas_told}
+use Rattle.delivery.specs.Outcomes.{Target, Outcome, area_too_large, misbuilt, rejected}
+use Rattle.delivery.specs.Outcomes.{areas_outcome}
 use Rattle.delivery.specs.declared.report.lines.AreaAnswer.{AreaAnswer}
 
 -- the logical lines of a transfer, by the codes of its layout
@@ -34,33 +35,40 @@ objects (rows ∷ tables) = length rows + objects tables
 abbrev pub IsMisbuilt : Layout → List ℕ → ℕ → Structure → Type 0
 IsMisbuilt l text n code = IsAtFault (form_of l) (lines_of l text) n code
 
--- the text tells these rows
-abbrev pub Tells : Layout → List ℕ → List (List Row) → Type 0
-Tells l text rows = IsRead (form_of l) (lines_of l text) rows
+-- the text is a transfer with these rows
+abbrev pub IsTextOf : Layout → List ℕ → List (List Row) → Type 0
+IsTextOf l text rows = IsRead (form_of l) (lines_of l text) rows
 
 -- the rows meet the declarations of their tables
 abbrev pub IsClean : Layout → List (List Row) → Type 0
 IsClean l rows = findings l rows ≡ []
 
--- the areas of rows are drawn, and the outcome tells the answers to their drawings
-pub record AreJudged (target : Target) (l : Layout) (rows : List (List Row)) (o : Outcome) : Type 0 where
+-- the areas of rows are drawn, and the outcome has the answers to their drawings
+pub record AreJudged (target : Target) (l : Layout) (rows : List (List Row))
+    (o : Outcome) : Type 0 where
   pub drawings : List Plan
   pub answers : List AreaAnswer
   pub certificates : List Plain
   pub drawn : AreDrawings l rows drawings
   pub answered : AreAnswers l l.areas drawings answers certificates
-  pub told : o ≡ areas_told l (objects rows) target answers certificates
+  pub spelt : AreSpelt certificates
+  pub is : o ≡ areas_outcome l (objects rows) target answers certificates
 
 -- the outcome of rows, whose certificates go to that target
-pub data IsRowsChecked (target : Target) (l : Layout) (rows : List (List Row)) (o : Outcome) : Type 0 where
+pub data IsRowsChecked (target : Target) (l : Layout) (rows : List (List Row))
+    (o : Outcome) : Type 0 where
   -- they break a rule
   faulty : findings l rows ≢ [] → o ≡ rejected (findings l rows) → IsRowsChecked target l rows o
   -- they meet the declarations, and an area is over its limit
-  oversized : IsClean l rows → has_too_large rows l.areas ≡ true → o ≡ area_too_large → IsRowsChecked target l rows o
+  oversized : IsClean l rows → has_too_large rows l.areas ≡ true → o ≡ area_too_large
+      → IsRowsChecked target l rows o
   -- they meet the declarations, and no area is over its limit: the areas are judged
-  judged : IsClean l rows → has_too_large rows l.areas ≡ false → AreJudged target l rows o → IsRowsChecked target l rows o
+  judged : IsClean l rows → has_too_large rows l.areas ≡ false → AreJudged target l rows o
+      → IsRowsChecked target l rows o
 
--- the outcome of a transfer's text: a line is at fault, or it tells rows
+-- the outcome of a transfer's text: a line is at fault, or it has rows
 pub data IsChecked (target : Target) (l : Layout) (text : List ℕ) (o : Outcome) : Type 0 where
-  at_fault : (n : ℕ) (code : Structure) → IsMisbuilt l text n code → o ≡ misbuilt n code → IsChecked target l text o
-  well_formed : (rows : List (List Row)) → Tells l text rows → IsRowsChecked target l rows o → IsChecked target l text o
+  at_fault : (n : ℕ) (code : Structure) → IsMisbuilt l text n code → o ≡ misbuilt n code
+      → IsChecked target l text o
+  well_formed : (rows : List (List Row)) → IsTextOf l text rows → IsRowsChecked target l rows o
+      → IsChecked target l text o

@@ -1,5 +1,6 @@
 -- The drawing of an area from what is kept of the rows.
-use Rattle.std.specs.Prelude.{◌≡◌, ℕ, ◌+◌, ◌≤◌, Bool, nat_lt, ◌||◌, List, [], ◌∷◌, length, take, drop, Option, Some, None, slice_get, slice_index_or}
+use Rattle.std.specs.Prelude.{◌≡◌, ℕ, ◌+◌, ◌≤◌, Bool, nat_lt, ◌||◌, List, [], ◌∷◌, length, take}
+use Rattle.std.specs.Prelude.{drop, Option, Some, None, slice_get, slice_index_or}
 use Rattle.std.specs.List.{All, list_any, flat_map}
 use Rattle.table_layout.specs.Layouts.{AreaOf, Layout}
 use Rattle.itf_reader.specs.Forms.{Row}
@@ -19,7 +20,7 @@ abbrev pub seen_curves : List Seen → List Curve
 seen_curves [] = []
 seen_curves (v ∷ vs) = curves_after v.at None vs
 
--- vertices of rows, one row behind another, by how many each has
+-- vertices of rows, one row after another, by how many each has
 abbrev pub cut : List ℕ → List Seen → List (List Seen)
 cut [] vs = []
 cut (n ∷ ns) vs = take n vs ∷ cut ns (drop n vs)
@@ -48,12 +49,15 @@ kept_vertices ks n = vertices_there (slice_get ks n)
 
 -- an area of rows is too large by what is kept
 abbrev pub is_kept_large : List Kept → List (List Row) → AreaOf → Bool
-is_kept_large ks rows a = nat_lt area_limit (length (kept_vertices ks a.lines)) || nat_lt area_limit (length (slice_index_or rows a.main []))
+is_kept_large ks rows a =
+    nat_lt area_limit (length (kept_vertices ks a.lines))
+    || nat_lt area_limit (length (slice_index_or rows a.main []))
 
 abbrev pub has_kept_large : List Kept → List (List Row) → List AreaOf → Bool
 has_kept_large ks rows as_ = list_any (is_kept_large ks rows) as_
 
--- what is kept has all that an area is drawn from: its forms are known, all places are in its window, and there are not too many
+-- what is kept has all that an area is drawn from: its forms are known, all places are in its
+-- window, and there are not too many
 pub record CanBeDrawn (l : Layout) (ks : List Kept) (a : AreaOf) : Type 0 where
   pub forms : HasForms l a
   pub strokes : Kept

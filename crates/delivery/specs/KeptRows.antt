@@ -1,5 +1,7 @@
--- What is kept of the rows of a transfer that come one after another: their findings, and the places that areas are drawn from.
-use Rattle.std.specs.Prelude.{ℕ, zero, suc, ◌+◌, Bool, true, false, if◌then◌else◌, List, [], ◌∷◌, ◌++◌, length, drop, map, Option, Some, slice_get}
+-- What is kept of the rows of a transfer that come one after another: their findings, and the
+-- places that areas are drawn from.
+use Rattle.std.specs.Prelude.{ℕ, zero, suc, ◌+◌, Bool, true, false, if◌then◌else◌, List, [], ◌∷◌}
+use Rattle.std.specs.Prelude.{◌++◌, length, drop, map, Option, Some, slice_get}
 use Rattle.std.specs.List.{flat_map}
 use Rattle.ili_grammar.specs.Syntax.{Codes}
 use Rattle.resolver.specs.Resolved.{Form, AreaPoint}
@@ -17,7 +19,8 @@ use Rattle.plane.specs.declared.kinds.Placed.{Placed}
 use Rattle.delivery.specs.Drawings.{placed}
 
 -- ---- one row
--- the vertices of its lines that are sound, and what its columns stand for; none where it has too few or too many words
+-- the vertices of its lines that are sound, and what its columns stand for; none where it has too
+-- few or too many words
 abbrev pub row_vertices : Table → Row → List Seen
 row_vertices t r = if is_counted t r then lines_vertices t.lines r.strokes else []
 
@@ -44,7 +47,8 @@ pub record PointColumn : Type 0 where
   pub is_area : Bool
   pub points : List Placed
 
--- the findings of the rows; and if they are lines of an area, their vertices and how many each row has
+-- the findings of the rows; and if they are lines of an area, their vertices and how many each row
+-- has
 pub record Kept : Type 0 where
   pub found : List Finding
   pub is_lines : Bool
@@ -53,12 +57,18 @@ pub record Kept : Type 0 where
   pub columns : List PointColumn
 
 abbrev pub point_column : Codes → Table → List Row → ℕ → Column → PointColumn
-point_column codes t rows n c = record { number = n; is_area = is_area_point c.form; points = if is_area_point c.form then flat_map (row_points codes t n) rows else [] }
+point_column codes t rows n c =
+    record {
+      number = n;
+      is_area = is_area_point c.form;
+      points = if is_area_point c.form then flat_map (row_points codes t n) rows else [];
+    }
 
 -- columns, the first of which has that number
 abbrev pub point_columns : Codes → Table → List Row → ℕ → List Column → List PointColumn
 point_columns codes t rows n [] = []
-point_columns codes t rows n (c ∷ cs) = point_column codes t rows n c ∷ point_columns codes t rows (n + 1) cs
+point_columns codes t rows n (c ∷ cs) =
+    point_column codes t rows n c ∷ point_columns codes t rows (n + 1) cs
 
 abbrev pub vertex_count : Table → Row → ℕ
 vertex_count t r = length (row_vertices t r)
@@ -77,11 +87,26 @@ no_rows codes t = kept codes t []
 
 -- ---- one more row
 abbrev pub with_point : ℕ → List Cell → PointColumn → PointColumn
-with_point line cells c = record { number = c.number; is_area = c.is_area; points = if c.is_area then c.points ++ cell_points line (slice_get cells c.number) else c.points }
+with_point line cells c =
+    record {
+      number = c.number;
+      is_area = c.is_area;
+      points = if c.is_area
+          then c.points ++ cell_points line (slice_get cells c.number)
+          else c.points;
+    }
 
--- its findings, its vertices where the rows are lines of an area, and its points by what its columns stand for
+-- its findings, its vertices where the rows are lines of an area, and its points by what its
+-- columns stand for
 abbrev pub with_found : List Finding → Kept → Kept
-with_found found k = record { found = k.found ++ found; is_lines = k.is_lines; vertices = k.vertices; counts = k.counts; columns = k.columns }
+with_found found k =
+    record {
+      found = k.found ++ found;
+      is_lines = k.is_lines;
+      vertices = k.vertices;
+      counts = k.counts;
+      columns = k.columns;
+    }
 
 abbrev pub with_vertices : List Seen → Kept → Kept
 with_vertices vertices k = record {
@@ -93,10 +118,19 @@ with_vertices vertices k = record {
 }
 
 abbrev pub with_points : ℕ → List Cell → Kept → Kept
-with_points line cells k = record { found = k.found; is_lines = k.is_lines; vertices = k.vertices; counts = k.counts; columns = map (with_point line cells) k.columns }
+with_points line cells k =
+    record {
+      found = k.found;
+      is_lines = k.is_lines;
+      vertices = k.vertices;
+      counts = k.counts;
+      columns = map (with_point line cells) k.columns;
+    }
 
 abbrev pub with_row : Codes → Table → Row → Kept → Kept
-with_row codes t r k = with_points r.line (row_cells codes t r) (with_vertices (row_vertices t r) (with_found (row_findings codes t r) k))
+with_row codes t r k =
+    with_points r.line (row_cells codes t r)
+    (with_vertices (row_vertices t r) (with_found (row_findings codes t r) k))
 
 -- ---- the rows of all tables
 abbrev pub all_kept : Codes → List Table → List (List Row) → List Kept
@@ -121,4 +155,11 @@ all_found (k ∷ ks) = k.found ++ all_found ks
 
 -- what areas are drawn from, without the findings
 abbrev pub places_of : Kept → Kept
-places_of k = record { found = []; is_lines = k.is_lines; vertices = k.vertices; counts = k.counts; columns = k.columns }
+places_of k =
+    record {
+      found = [];
+      is_lines = k.is_lines;
+      vertices = k.vertices;
+      counts = k.counts;
+      columns = k.columns;
+    }

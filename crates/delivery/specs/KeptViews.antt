@@ -23,7 +23,14 @@ abbrev pub point_columns_view : List CodeColumn → List PointColumn
 point_columns_view cs = map column_view cs
 
 abbrev pub kept_of : TableKept → Kept
-kept_of k = record { found = findings_of k.found.items; is_lines = k.is_lines; vertices = vertices_view k.vertices.items; counts = k.counts.items; columns = point_columns_view k.columns.items }
+kept_of k =
+    record {
+      found = findings_of k.found.items;
+      is_lines = k.is_lines;
+      vertices = vertices_view k.vertices.items;
+      counts = k.counts.items;
+      columns = point_columns_view k.columns.items;
+    }
 
 abbrev pub kept_in : List TableKept → List Kept
 kept_in ks = map kept_of ks

@@ -1,4 +1,4 @@
-pub mod Amounting
+pub mod Causes
 pub mod Answers
 pub mod AnswerViews
 pub mod AreaAnswers

@@ -10,10 +10,20 @@ use Rattle.delivery.specs.RefusalViews.{refusal_of}
 use Rattle.delivery.specs.declared.report.lines.TableLine as table
 use Rattle.delivery.specs.declared.report.lines.AreaLine as area
 use Rattle.delivery.specs.declared.report.lines.Line as code
-use Rattle.delivery.specs.declared.report.lines.Line.TheVariants.{UsageFault, UsageWords, Unread, TooLong, AreaLimit, ModelFault, Model, Table, Structure, Area, NotProved, Trial, Verdict}
+use Rattle.delivery.specs.declared.report.lines.Line.TheVariants.{UsageFault, UsageWords, Unread}
+use Rattle.delivery.specs.declared.report.lines.Line.TheVariants.{TooLong, AreaLimit, ModelFault}
+use Rattle.delivery.specs.declared.report.lines.Line.TheVariants.{Model, Table, Structure, Area}
+use Rattle.delivery.specs.declared.report.lines.Line.TheVariants.{NotProved, Trial, Verdict}
 
 abbrev pub table_of : table.TableLine → TableLine
-table_of t = record { topic = t.topic; name = t.name; role = role_view t.role; columns = t.columns; lines = t.lines }
+table_of t =
+    record {
+      topic = t.topic;
+      name = t.name;
+      role = role_view t.role;
+      columns = t.columns;
+      lines = t.lines;
+    }
 
 abbrev pub area_of : area.AreaLine → AreaLine
 area_of a = record { topic = a.topic; table = a.table; attribute = a.attribute; answer = a.answer }
@@ -37,5 +47,5 @@ abbrev pub lines_of : List code.Line → List Line
 lines_of ls = map line_of ls
 
 -- the lines for findings
-abbrev pub findings_seen : List found.Finding → List Line
-findings_seen fs = map lines.finding (findings_of fs)
+abbrev pub findings_view : List found.Finding → List Line
+findings_view fs = map lines.finding (findings_of fs)

@@ -62,7 +62,8 @@ abbrev pub place_text : ℕ → ℕ → List ℕ
 place_text l c = codes " " ++ decimal l ++ codes " " ++ decimal c ++ codes " "
 
 abbrev pub refusal_words : Refusal → List ℕ
-refusal_words r = codes "FAULT MODEL " ++ refusal_text r.code ++ place_text r.line r.column ++ r.word
+refusal_words r =
+    codes "FAULT MODEL " ++ refusal_text r.code ++ place_text r.line r.column ++ r.word
 
 abbrev pub role_text : Role → List ℕ
 role_text Main = codes "MAIN"
@@ -70,7 +71,9 @@ role_text (AreaLines main column) = codes "AREA"
 role_text (SurfaceLines main) = codes "SURFACE"
 
 abbrev pub table_words : TableLine → List ℕ
-table_words t = codes "TABLE " ++ t.topic ++ codes " " ++ t.name ++ codes " " ++ role_text t.role ++ codes " " ++ decimal t.columns ++ codes " " ++ decimal t.lines
+table_words t =
+    codes "TABLE " ++ t.topic ++ codes " " ++ t.name ++ codes " " ++ role_text t.role ++ codes " "
+    ++ decimal t.columns ++ codes " " ++ decimal t.lines
 
 abbrev pub structure_words : ℕ → Structure → List ℕ
 structure_words n code = codes "STRUCTURE " ++ decimal n ++ codes " " ++ structure_text code
@@ -82,7 +85,9 @@ other_text (ALine l) = codes " " ++ decimal l
 other_text (AWord w) = codes " " ++ w
 
 abbrev pub finding_words : Finding → List ℕ
-finding_words f = codes "FINDING " ++ decimal f.line ++ codes " " ++ code_text f.code ++ codes " " ++ decimal f.column ++ other_text f.other
+finding_words f =
+    codes "FINDING " ++ decimal f.line ++ codes " " ++ code_text f.code ++ codes " "
+    ++ decimal f.column ++ other_text f.other
 
 -- two lines of the transfer
 abbrev pub pair_text : ℕ → ℕ → List ℕ
@@ -96,9 +101,10 @@ abbrev pub empty_text : ℕ → Bool → List ℕ
 empty_text curve left = codes "EMPTY " ++ decimal curve ++ side_text left
 
 abbrev pub proof_text : ℕ → ℕ → ℕ → List ℕ
-proof_text level curves points = codes "PROVED " ++ decimal level ++ codes " " ++ decimal curves ++ codes " " ++ decimal points
+proof_text level curves points =
+    codes "PROVED " ++ decimal level ++ codes " " ++ decimal curves ++ codes " " ++ decimal points
 
--- curves and objects are told by their lines
+-- curves and objects are held by their lines
 abbrev pub area_text : AreaAnswer → List ℕ
 area_text (answer.Undecided first second) = codes "UNDECIDED " ++ pair_text first second
 area_text (answer.Meeting first second) = codes "MEETING " ++ pair_text first second
@@ -109,7 +115,9 @@ area_text (answer.Empty curve left) = empty_text curve left
 area_text (answer.Proved level curves points) = proof_text level curves points
 
 abbrev pub area_words : AreaLine → List ℕ
-area_words a = codes "AREA " ++ a.topic ++ codes " " ++ a.table ++ codes " " ++ a.attribute ++ codes " " ++ area_text a.answer
+area_words a =
+    codes "AREA " ++ a.topic ++ codes " " ++ a.table ++ codes " " ++ a.attribute ++ codes " "
+    ++ area_text a.answer
 
 abbrev pub verdict_text : Verdict → List ℕ
 verdict_text (verdicts.Accepted objects) = codes "VERDICT ACCEPTED " ++ decimal objects
@@ -119,10 +127,13 @@ verdict_text verdicts.NotProved = codes "VERDICT NOTPROVED"
 verdict_text (verdicts.Compiled tables) = codes "VERDICT COMPILED " ++ decimal tables
 
 abbrev pub not_proved_words : ℕ → ℕ → ℕ → List ℕ
-not_proved_words a rule place = codes "NOTPROVED " ++ decimal a ++ codes " " ++ decimal rule ++ codes " " ++ decimal place
+not_proved_words a rule place =
+    codes "NOTPROVED " ++ decimal a ++ codes " " ++ decimal rule ++ codes " " ++ decimal place
 
 abbrev pub trial_words : ℕ → ℕ → ℕ → ℕ → List ℕ
-trial_words n curves events points = codes "TRIAL " ++ decimal n ++ codes " " ++ decimal curves ++ codes " " ++ decimal events ++ codes " " ++ decimal points
+trial_words n curves events points =
+    codes "TRIAL " ++ decimal n ++ codes " " ++ decimal curves ++ codes " " ++ decimal events
+    ++ codes " " ++ decimal points
 
 abbrev pub words_of : Line → List ℕ
 words_of usage_fault = codes "FAULT USAGE"

@@ -46,15 +46,27 @@ word_of _ bytes = bytes
 
 -- a fault of the grammar at a token
 abbrev pub token_refusal : List ℕ → SyntaxCode → Token → Refusal
-token_refusal text code t = record { code = refused.Syntax code; line = t.line; column = t.column; word = word_of t.kind (bytes_of text t) }
+token_refusal text code t =
+    record {
+      code = refused.Syntax code;
+      line = t.line;
+      column = t.column;
+      word = word_of t.kind (bytes_of text t);
+    }
 
--- a fault of the grammar behind the last byte
+-- a fault of the grammar after the last byte
 abbrev pub end_refusal : List ℕ → SyntaxCode → Refusal
 end_refusal text code = wordless (refused.Syntax code) (line_after text) (column_after text)
 
 -- a fault of the names and types, at the name where it counts
 abbrev pub name_refusal : Fault → Refusal
-name_refusal f = record { code = refused.Names f.code; line = f.name.line; column = f.name.column; word = f.name.text }
+name_refusal f =
+    record {
+      code = refused.Names f.code;
+      line = f.name.line;
+      column = f.name.column;
+      word = f.name.text;
+    }
 
 -- the text is cut into tokens, and these spell the syntax
 pub record IsSpelt (text : List ℕ) (syntax : ModelSyntax) : Type 0 where
@@ -65,13 +77,17 @@ pub record IsSpelt (text : List ℕ) (syntax : ModelSyntax) : Type 0 where
 -- the text is no model, and this is its first fault: of the tokens, else of the grammar
 pub data IsFaulty (text : List ℕ) (r : Refusal) : Type 0 where
   no_token : (f : LexFault) → IsFault text f → lex_refusal f ≡ Some r → IsFaulty text r
-  ends_early : (ts : List Token) (c : SyntaxCode) → AreTokens text ts → IsFirstFault (toks text ts) (parsed.At c None) → r ≡ end_refusal text c → IsFaulty text r
-  wrong_token : (ts : List Token) (c : SyntaxCode) (k : ℕ) (t : Token) → AreTokens text ts → IsFirstFault (toks text ts) (parsed.At c (Some k)) → slice_get ts k ≡ Some t → r ≡ token_refusal text c t → IsFaulty text r
+  ends_early : (ts : List Token) (c : SyntaxCode) → AreTokens text ts
+      → IsFirstFault (toks text ts) (parsed.At c None) → r ≡ end_refusal text c → IsFaulty text r
+  wrong_token : (ts : List Token) (c : SyntaxCode) (k : ℕ) (t : Token) → AreTokens text ts
+      → IsFirstFault (toks text ts) (parsed.At c (Some k)) → slice_get ts k ≡ Some t
+      → r ≡ token_refusal text c t → IsFaulty text r
 
 -- the text is no model, or a model whose names and types break a rule: the fault that counts
 pub data IsRefused (text : List ℕ) (r : Refusal) : Type 0 where
   at_fault : IsFaulty text r → IsRefused text r
-  misnamed : (m : ModelSyntax) (f : Fault) → IsSpelt text m → first_fault m ≡ Some f → r ≡ name_refusal f → IsRefused text r
+  misnamed : (m : ModelSyntax) (f : Fault) → IsSpelt text m → first_fault m ≡ Some f
+      → r ≡ name_refusal f → IsRefused text r
 
 -- the text spells a model without fault, and its tables are laid out so
 pub record HasLayout (text : List ℕ) (l : Layout) : Type 0 where

@@ -6,7 +6,7 @@ use Rattle.certificate.specs.Spelling.{views}
 use Rattle.table_layout.specs.Layouts.{Table}
 use Rattle.table_layout.specs.Values.{table_view}
 use Rattle.table_layout.specs.declared.layouts.Table as table
-use Rattle.delivery.specs.LineViews.{findings_seen, lines_of}
+use Rattle.delivery.specs.LineViews.{findings_view, lines_of}
 use Rattle.delivery.specs.Outcomes.{Filing, Target, Outcome}
 use Rattle.delivery.specs.declared.outcome.Filing as filing
 use Rattle.delivery.specs.declared.outcome.Outcome as outcome
@@ -20,7 +20,12 @@ target_of t = record { name = t.name.now; trial = t.trial }
 
 -- the lines for the findings come first
 abbrev pub outcome_of : outcome.Outcome → Outcome
-outcome_of o = record { status = o.status; lines = findings_seen o.findings.items ++ lines_of o.lines.items; filing = option_map filing_of o.filing }
+outcome_of o =
+    record {
+      status = o.status;
+      lines = findings_view o.findings.items ++ lines_of o.lines.items;
+      filing = option_map filing_of o.filing;
+    }
 
 -- a table that was found
 abbrev pub table_there : Option (Bor table.Table) → Option Table

@@ -1,5 +1,6 @@
 -- How the text of a transfer is taken in pieces.
-use Rattle.std.specs.Prelude.{◌≡◌, ◌≢◌, ◌≤◌, ⊤, ℕ, true, false, List, [], ◌++◌, length, Option, Result, Ok, Err}
+use Rattle.std.specs.Prelude.{◌≡◌, ◌≢◌, ◌≤◌, ⊤, ℕ, true, false, List, [], ◌++◌, length, Option}
+use Rattle.std.specs.Prelude.{Result, Ok, Err}
 use Rattle.itf_lines.specs.FeedStates.{opening}
 use Rattle.itf_lines.specs.Feeds.{Reads}
 use Rattle.itf_lines.specs.LogicalLines.{LogicalLine}
@@ -20,7 +21,7 @@ use Rattle.delivery.specs.declared.judging.rows.TransferKept.{TransferKept}
 use Rattle.delivery.specs.AreaAnswers.{plans}
 use Rattle.delivery.specs.AreaLimits.{has_too_large}
 use Rattle.delivery.specs.Drawings.{AreDrawings}
-use Rattle.delivery.specs.Judging.{lines_of, objects, findings, IsMisbuilt, Tells, IsClean}
+use Rattle.delivery.specs.Judging.{lines_of, objects, findings, IsMisbuilt, IsTextOf, IsClean}
 use Rattle.delivery.specs.KeptRows.{transfer_so_far}
 use Rattle.delivery.specs.Reading.{IsWhole, IsLonger}
 use Rattle.delivery.specs.declared.files.FileRefusal.TheVariants as refusals_of
@@ -36,13 +37,16 @@ pub record IsOpened (l : Layout) (j : Judge) : Type 0 where
   pub sound : j.rows.feed.failed ≡ false
   pub none : HasTaken l [] j.rows.kept
 
--- Some bytes lead from one state to another with the last of them left: these are their lines, and the rows that they close were judged.
-pub record Takes (l : Layout) (old : Judge) (bytes : List ℕ) (new : Judge) (left : List ℕ) : Type 0 where
+-- Some bytes lead from one state to another with the last of them left: these are their lines, and
+-- the rows that they close were judged.
+pub record Takes (l : Layout) (old : Judge) (bytes : List ℕ) (new : Judge)
+    (left : List ℕ) : Type 0 where
   pub lines : List LogicalLine
   pub reads : Reads old.lines bytes lines new.lines left
   pub at : new.rows.feed.at ≡ after_lines (form_of l) old.rows.feed.at lines
   pub sound : old.rows.feed.failed ≡ false → new.rows.feed.failed ≡ false
-  pub taken : (rows : List (ℕ × Row)) → HasTaken l rows old.rows.kept → HasTaken l (rows ++ shown_rows (form_of l) old.rows.feed.at lines) new.rows.kept
+  pub taken : (rows : List (ℕ × Row)) → HasTaken l rows old.rows.kept
+      → HasTaken l (rows ++ shown_rows (form_of l) old.rows.feed.at lines) new.rows.kept
 
 -- this text came, and it is within the limit of a transfer
 pub record HasText (l : Layout) (text : List ℕ) (j : Judge) : Type 0 where
@@ -51,14 +55,14 @@ pub record HasText (l : Layout) (text : List ℕ) (j : Judge) : Type 0 where
   pub takes : Takes l start text j []
   pub few : length text ≤ 268435456
 
--- what is kept are the rows that a text tells
+-- what is kept are the rows of a text
 pub record AreKept (l : Layout) (text : List ℕ) (k : TransferKept) : Type 0 where
   pub rows : List (ℕ × Row)
   pub taken : HasTaken l rows k
-  pub tells : Tells l text (transfer_so_far l rows)
+  pub has_rows : IsTextOf l text (transfer_so_far l rows)
   pub closed : rows ≡ closed_rows (form_of l) (lines_of l text).lines
 
--- the rows that a text tells, or the line at which it is at fault
+-- the rows of a text, or the line at which it is at fault
 abbrev pub IsKept : Layout → List ℕ → Result TransferKept ReadRefusal → Type 0
 IsKept l text (Ok k) = AreKept l text k
 IsKept l text (Err (refusals.At line code)) = IsMisbuilt l text line (fault_of code)
@@ -67,20 +71,30 @@ IsKept l text (Err refusals.Memory) = ⊤
 -- what a text comes to
 abbrev pub IsJudged : Layout → List ℕ → Judged → Type 0
 IsJudged l text (judged.Misbuilt line code) = IsMisbuilt l text line (fault_of code)
-IsJudged l text (judged.Faulty found) = (rows : List (List Row)) × Tells l text rows × (findings l rows ≢ []) × (findings_of found.items ≡ findings l rows)
-IsJudged l text judged.Oversized = (rows : List (List Row)) × Tells l text rows × IsClean l rows × (has_too_large rows l.areas ≡ true)
-IsJudged l text (judged.Clean count drawings) = (rows : List (List Row)) × Tells l text rows × IsClean l rows × (has_too_large rows l.areas ≡ false) × (count ≡ objects rows) × AreDrawings l rows (plans drawings.items)
+IsJudged l text (judged.Faulty found) =
+    (rows : List (List Row)) × IsTextOf l text rows × (findings l rows ≢ [])
+    × (findings_of found.items ≡ findings l rows)
+IsJudged l text judged.Oversized =
+    (rows : List (List Row)) × IsTextOf l text rows × IsClean l rows
+    × (has_too_large rows l.areas ≡ true)
+IsJudged l text (judged.Clean count drawings) =
+    (rows : List (List Row)) × IsTextOf l text rows × IsClean l rows
+    × (has_too_large rows l.areas ≡ false) × (count ≡ objects rows)
+    × AreDrawings l rows (plans drawings.items)
 
 -- the text of a file came, whole
-pub record ArePieces (told : Option Files) (name : List ℕ) (l : Layout) (old new : Judge) : Type 0 where
+pub record ArePieces (held : Option Files) (name : List ℕ) (l : Layout)
+    (old new : Judge) : Type 0 where
   pub text : List ℕ
-  pub whole : IsWhole told name 268435456 text
+  pub whole : IsWhole held name 268435456 text
   pub takes : Takes l old text new []
   pub few : length text ≤ 268435456
 
--- what the file of a transfer is: it could not be read, where a fault was counted; it is too long; or its text comes to that
+-- what the file of a transfer is: it could not be read, where a fault was counted; it is too long;
+-- or its text comes to that
 abbrev pub IsTransfer : Option Files → List ℕ → Layout → Type 0 → TransferReading → Type 0
-IsTransfer told name l rose (reading.Unread refusals_of.Failed) = rose
-IsTransfer told name l rose (reading.Unread refusals_of.TooLong) = IsLonger told name 268435456
-IsTransfer told name l rose (reading.Unread refusals_of.Memory) = ⊥
-IsTransfer told name l rose (reading.Judged j) = (text : List ℕ) × IsWhole told name 268435456 text × IsJudged l text j
+IsTransfer held name l rose (reading.Unread refusals_of.Failed) = rose
+IsTransfer held name l rose (reading.Unread refusals_of.TooLong) = IsLonger held name 268435456
+IsTransfer held name l rose (reading.Unread refusals_of.Memory) = ⊥
+IsTransfer held name l rose (reading.Judged j) =
+    (text : List ℕ) × IsWhole held name 268435456 text × IsJudged l text j

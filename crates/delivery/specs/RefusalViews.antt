@@ -17,7 +17,8 @@ use Rattle.delivery.specs.declared.model.Reading.{Reading}
 use Rattle.delivery.specs.declared.model.Reading.TheVariants as readings
 use Rattle.delivery.specs.declared.model.ModelReading.{ModelReading}
 use Rattle.delivery.specs.declared.model.ModelReading.TheVariants as models
-use Rattle.delivery.specs.ModelTexts.{Refusal, name_refusal, IsSpelt, IsFaulty, IsRefused, HasLayout}
+use Rattle.delivery.specs.ModelTexts.{Refusal, name_refusal, IsSpelt, IsFaulty, IsRefused}
+use Rattle.delivery.specs.ModelTexts.{HasLayout}
 
 abbrev pub refusal_of : CodeRefusal → Refusal
 refusal_of r = record { code = r.code; line = r.line; column = r.column; word = r.word.items }
@@ -32,19 +33,21 @@ abbrev pub IsSmallReading : Reading → Type 0
 IsSmallReading (readings.Syntax syntax) = IsWithinLimits (model_of syntax)
 IsSmallReading (readings.Refused r) = ⊤
 
--- a fault of the names and types is told so; want of memory is not told
+-- a fault of the names and types is held so; out of memory is not held
 abbrev pub IsNameRefusal : ModelFault → Refusal → Type 0
-IsNameRefusal (faults.At code name) r = r ≡ name_refusal (record { code = code; name = ident_of name })
+IsNameRefusal (faults.At code name) r =
+    r ≡ name_refusal (record { code = code; name = ident_of name })
 IsNameRefusal faults.Memory r = ⊥
 
--- the fault that counts is told
-abbrev pub TellsFault : ModelSyntax → Refusal → Type 0
-TellsFault m r = (f : Fault) × (first_fault m ≡ Some f) × (r ≡ name_refusal f)
+-- the fault that counts is held
+abbrev pub NamesFault : ModelSyntax → Refusal → Type 0
+NamesFault m r = (f : Fault) × (first_fault m ≡ Some f) × (r ≡ name_refusal f)
 
--- the syntax has this layout, or the fault that counts is told
+-- the syntax has this layout, or the fault that counts is held
 abbrev pub IsLaidOut : ModelSyntax → ModelReading → Type 0
-IsLaidOut m (models.Laid layout) = (first_fault m ≡ None) × (layout_view layout ≡ layout_of (resolved_model m))
-IsLaidOut m (models.Refused r) = TellsFault m (refusal_of r)
+IsLaidOut m (models.Laid layout) =
+    (first_fault m ≡ None) × (layout_view layout ≡ layout_of (resolved_model m))
+IsLaidOut m (models.Refused r) = NamesFault m (refusal_of r)
 
 -- the text has this layout, or is refused so
 abbrev pub IsModelReading : List ℕ → ModelReading → Type 0

@@ -1,7 +1,10 @@
 -- The exit status of the program.
 use Rattle.std.specs.Prelude.{ℕ}
 use Rattle.delivery.specs.declared.status.Status.{Status}
-use Rattle.delivery.specs.declared.status.Status.TheVariants.{Accepted, Rejected, Undecided, ModelRefused, Usage, ReadFault, WriteFault, OverLimit, Memory, NotProved}
+use Rattle.delivery.specs.declared.status.Status.TheVariants.{Accepted, Rejected, Undecided}
+use Rattle.delivery.specs.declared.status.Status.TheVariants.{ModelRefused, Usage, ReadFault}
+use Rattle.delivery.specs.declared.status.Status.TheVariants.{WriteFault, OverLimit, Memory}
+use Rattle.delivery.specs.declared.status.Status.TheVariants.{NotProved}
 
 abbrev pub number : Status → ℕ
 number Accepted = 0

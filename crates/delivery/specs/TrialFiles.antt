@@ -1,5 +1,6 @@
 -- The files of a trial: a square grid of n times n cells, each ten units wide.
-use Rattle.std.specs.Prelude.{ℕ, zero, suc, ◌≡◌, ◌+◌, ◌*◌, ◌≤◌, List, [], ◌∷◌, ◌++◌, codes, decimal, pos}
+use Rattle.std.specs.Prelude.{ℕ, zero, suc, ◌≡◌, ◌+◌, ◌*◌, ◌≤◌, List, [], ◌∷◌, ◌++◌, codes, decimal}
+use Rattle.std.specs.Prelude.{pos}
 use Rattle.std.specs.List.{flat_map}
 use Rattle.decimals.specs.Written.{spelling_of}
 use Rattle.delivery.specs.declared.trial.objects.Place.{Place}
@@ -49,7 +50,8 @@ straight_text number from to =
 
 -- the object of a cell
 abbrev pub cell_text : ℕ → Place → List ℕ
-cell_text number point = codes "OBJE " ++ decimal number ++ codes " " ++ place_text point ++ codes "\n"
+cell_text number point =
+    codes "OBJE " ++ decimal number ++ codes " " ++ place_text point ++ codes "\n"
 
 abbrev pub corner : ℕ → ℕ → Place
 corner i j = record { x = 10 * i; y = 10 * j }
@@ -61,7 +63,7 @@ middle i j = record { x = 10 * i + 5; y = 10 * j + 5 }
 abbrev pub level : ℕ → ℕ → ℕ → List ℕ
 level n j i = straight_text (j * n + i + 1) (corner i j) (corner (i + 1) j)
 
--- the straight from a corner to the next one above it; they are numbered behind the others
+-- the straight from a corner to the next one above it; they are numbered after the others
 abbrev pub upright : ℕ → ℕ → ℕ → List ℕ
 upright n i j = straight_text (n * (n + 1) + i * n + j + 1) (corner i j) (corner i (j + 1))
 
@@ -83,7 +85,7 @@ uprights n = each (n + 1) (λ i. each n (upright n i))
 abbrev pub cells : ℕ → List ℕ
 cells n = each n (λ j. each n (cell n j))
 
--- what stands before the straights, between them and the cells, and behind the cells
+-- what stands before the straights, between them and the cells, and after the cells
 abbrev pub head : List ℕ
 head = codes "SCNT\n////\nMTID Trial\nMODL Trial\nTOPI Grid\nTABL Cell_Form\n"
 

@@ -1,5 +1,6 @@
 -- What a filed text of certificates proves of the drawings of a layout's areas.
-use Rattle.std.specs.Prelude.{◌≡◌, ◌⊎◌, ℕ, suc, ◌<◌, List, length, map, Option, Some, None, slice_get}
+use Rattle.std.specs.Prelude.{◌≡◌, ◌⊎◌, ℕ, suc, ◌<◌, List, length, map, Option, Some, None}
+use Rattle.std.specs.Prelude.{slice_get}
 use Rattle.certificate.specs.FirstBad.{IsFirstBad, IsTooShort}
 use Rattle.certificate.specs.Spelling.{Plain, AreSpelt, spelling}
 use Rattle.certificate.specs.declared.fault.CertFault.{CertFault}
@@ -9,7 +10,8 @@ use Rattle.plane.specs.Rule.Plans.{Plan}
 use Rattle.table_layout.specs.Layouts.{AreaOf, Layout}
 use Rattle.delivery.specs.AreaCertificates.{AreCertificatesOf, IsNamedFor, claims_of}
 
--- all is proved, by certificates of these levels; or an area, the rule that is broken there and its place
+-- all is proved, by certificates of these levels; or an area, the rule that is broken there and its
+-- place
 pub data Verification : Type 0 where
   proved : List ℕ → Verification
   not_proved : ℕ → ℕ → ℕ → Verification
@@ -37,7 +39,8 @@ pub record AreNamed (l : Layout) (cs : List Plain) : Type 0 where
   pub count : length cs ≡ length l.areas
   pub named : (k : ℕ) → k < length cs → IsNamedAt l cs k
 
--- the certificates before k have the names of their areas; number k is missing, surplus or of another name
+-- the certificates before k have the names of their areas; number k is missing, surplus or of
+-- another name
 pub record IsMisnamedAt (l : Layout) (cs : List Plain) (k : ℕ) : Type 0 where
   pub before : (j : ℕ) → j < k → IsNamedAt l cs j
   pub there : (k < length l.areas) ⊎ (k < length cs)
@@ -51,7 +54,8 @@ pub record IsProvedAt (ds : List Plan) (cs : List Plain) (k : ℕ) : Type 0 wher
   pub certificate_there : slice_get cs k ≡ Some certificate
   pub proves : Proves drawing (claims_of certificate)
 
--- the certificates before k prove their drawings, and the rule is the first that certificate k breaks, at that place
+-- the certificates before k prove their drawings, and the rule is the first that certificate k
+-- breaks, at that place
 pub record IsBrokenAt (ds : List Plan) (cs : List Plain) (k rule place : ℕ) : Type 0 where
   pub before : (j : ℕ) → j < k → IsProvedAt ds cs j
   pub drawing : Plan
@@ -65,11 +69,16 @@ abbrev pub levels_of : List Plain → List ℕ
 levels_of cs = map (λ c. c.level) cs
 
 -- what the text proves of the areas of the layout, whose drawings these are
-pub data IsVerification (l : Layout) (ds : List Plan) (text : List ℕ) (v : Verification) : Type 0 where
-  unspelt : (line : ℕ) → ((cs : List Plain) → Spells text cs → ⊥) → IsBadLine text line → v ≡ not_proved 0 0 line → IsVerification l ds text v
-  misnamed : (cs : List Plain) (k : ℕ) → Spells text cs → IsMisnamedAt l cs k → v ≡ not_proved k 1 k → IsVerification l ds text v
-  broken : (cs : List Plain) (k rule place : ℕ) → Spells text cs → AreNamed l cs → IsBrokenAt ds cs k rule place → v ≡ not_proved k rule place → IsVerification l ds text v
-  all_proved : (cs : List Plain) → Spells text cs → AreCertificatesOf l l.areas ds cs → v ≡ proved (levels_of cs) → IsVerification l ds text v
+pub data IsVerification (l : Layout) (ds : List Plan) (text : List ℕ)
+    (v : Verification) : Type 0 where
+  unspelt : (line : ℕ) → ((cs : List Plain) → Spells text cs → ⊥) → IsBadLine text line
+      → v ≡ not_proved 0 0 line → IsVerification l ds text v
+  misnamed : (cs : List Plain) (k : ℕ) → Spells text cs → IsMisnamedAt l cs k → v ≡ not_proved k 1 k
+      → IsVerification l ds text v
+  broken : (cs : List Plain) (k rule place : ℕ) → Spells text cs → AreNamed l cs
+      → IsBrokenAt ds cs k rule place → v ≡ not_proved k rule place → IsVerification l ds text v
+  all_proved : (cs : List Plain) → Spells text cs → AreCertificatesOf l l.areas ds cs
+      → v ≡ proved (levels_of cs) → IsVerification l ds text v
 
 -- ---- what the parts of a verification answer
 -- the first certificate that is missing, surplus or of another name, if there is one
@@ -79,7 +88,8 @@ IsFirstMisnamed l cs (Some k) = IsMisnamedAt l cs k
 
 -- the certificates against their drawings
 abbrev pub AreChecked : List Plan → List Plain → Verification → Type 0
-AreChecked ds cs (proved levels) = (levels ≡ levels_of cs) × ((k : ℕ) → k < length cs → IsProvedAt ds cs k)
+AreChecked ds cs (proved levels) =
+    (levels ≡ levels_of cs) × ((k : ℕ) → k < length cs → IsProvedAt ds cs k)
 AreChecked ds cs (not_proved k rule place) = IsBrokenAt ds cs k rule place
 
 -- the line of a fault

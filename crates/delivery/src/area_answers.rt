@@ -1,39 +1,42 @@
 // What is answered to the drawings of areas.
 ghost use Rattle.std.specs.Prelude.{◌≡◌, ◌++◌, ◌∷◌, ◌<◌, [], IfOk, OnOk, length};
-ghost use Rattle.std.specs.List.{All};
-ghost use Rattle.certificate.specs.Spelling.{view, views};
+ghost use Rattle.std.specs.List.{All, AllByRecursion};
+ghost use Rattle.certificate.specs.Spelling.{AreSpelt, Fits, view, views};
 ghost use Rattle.plane.specs.Rule.Plans.{plan};
+ghost use Rattle.table_layout.specs.Valid.{IsValid};
 ghost use Rattle.table_layout.specs.Values.{area_view, areas_view, layout_view};
 ghost use Rattle.area_search.specs.Answers.{IsAnswer as IsFound};
-ghost use Rattle.area_search.specs.declared.kinds.AreaAnswer.TheVariants.{Fault, Undecided};
+ghost use Rattle.area_search.specs.declared.kinds.AreaAnswer.TheVariants.{Fault, Proved, Undecided};
 ghost use Rattle.delivery.specs.AreaAnswers.{IsAnswer, AreAnswers, plans};
-ghost use Rattle.delivery.specs.AreaAnswers.{fault_told, proof_told, undecided_told};
+ghost use Rattle.delivery.specs.AreaAnswers.{fault_answer, proof_answer, undecided_answer};
 ghost use Rattle.delivery.specs.AreaAnswers.{is_fault, is_left, has_fault, has_left};
 ghost use Rattle.delivery.specs.AreaAnswers.{curve_line, object_line};
+ghost use Rattle.delivery.specs.AreaNames.{HasTitle};
 ghost use Rattle.delivery.specs.AnswerViews.{certificates_in, named};
-ghost use Rattle.delivery.specs.AreaLimits.{HasFewCurves};
+ghost use Rattle.delivery.specs.AreaLimits.{IsSmallPlan};
 
 use crate::area_names::{AreaNames, names_of};
 use crate::report::AreaAnswer;
 use area_search::laws::undecided_has_half_arc;
 use area_search::{AreaAnswer as Found, AreaFinding, find_area};
-use certificate::Certificate;
+use certificate::{Certificate, numbers_fit};
+use certificate_checker::laws::proved_counts;
 use plane::Drawing;
 use ports::Memory;
 use std::alloc::Global;
-use table_layout::{AreaOf, Layout};
+use table_layout::{AreaOf, Layout, area_names};
 
 // The answer to one area, and its certificate where it is proved.
 #[derive(Drop)]
 struct Answer {
-    told: AreaAnswer,
+    area: AreaAnswer,
     certificate: Option<Certificate>,
 }
 
 /// The answers to areas, in order, and the certificates of those that are proved.
 #[derive(Drop)]
 pub struct Answers {
-    pub told: Vec<AreaAnswer>,
+    pub areas: Vec<AreaAnswer>,
     pub certificates: Vec<Certificate>,
 }
 
@@ -53,10 +56,10 @@ fn object_line(drawing: &Drawing, point: u32) -> u32
     drawing.points[point as usize].line
 }
 
-// A fault of a drawing, told by lines of the transfer.
-fn fault_told(drawing: &Drawing, finding: AreaFinding) -> AreaAnswer
+// A fault of a drawing, by lines of the transfer.
+fn fault_answer(drawing: &Drawing, finding: AreaFinding) -> AreaAnswer
     requires { IsFound (plan drawing.now) (Fault finding) }
-    ensures { result ≡ fault_told (plan drawing.now) finding }
+    ensures { result ≡ fault_answer (plan drawing.now) finding }
 {
     match finding {
         AreaFinding::Meeting { first, second } => AreaAnswer::Meeting {
@@ -81,10 +84,10 @@ fn fault_told(drawing: &Drawing, finding: AreaFinding) -> AreaAnswer
     }
 }
 
-// Two curves of a drawing that is not decided, or one named twice, told by lines of the transfer.
-fn undecided_told(drawing: &Drawing, first: u32, second: u32) -> AreaAnswer
+// Two curves of a drawing that is not decided, or one named twice, by lines of the transfer.
+fn undecided_answer(drawing: &Drawing, first: u32, second: u32) -> AreaAnswer
     requires { IsFound (plan drawing.now) (Undecided first second) }
-    ensures { result ≡ undecided_told (plan drawing.now) first second }
+    ensures { result ≡ undecided_answer (plan drawing.now) first second }
 {
     undecided_has_half_arc();
     let lesser = curve_line(drawing, first);
@@ -111,14 +114,39 @@ fn named(names: AreaNames, found: Certificate) -> Certificate
 }
 
 /// How many curves and points of a drawing are shown to be a partition.
-pub fn proof_told(drawing: &Drawing, level: u8) -> AreaAnswer
-    ensures { result ≡ proof_told (plan drawing.now) level }
+pub fn proof_answer(drawing: &Drawing, level: u8) -> AreaAnswer
+    ensures { result ≡ proof_answer (plan drawing.now) level }
 {
     AreaAnswer::Proved {
         level,
         curves: drawing.curves.len() as u64,
         points: drawing.points.len() as u64,
     }
+}
+
+// The answer to an area that a certificate proves, and the certificate under the area's names.
+fn proved_answer(
+    alloc: Global,
+    layout: &Layout,
+    area: &AreaOf,
+    drawing: &Drawing,
+    found: Certificate,
+) -> Result<Answer, Memory>
+    requires names { HasTitle (layout_view layout.now) (area_view area.now) }
+    requires small { IsSmallPlan (plan drawing.now) }
+    requires found { IsFound (plan drawing.now) (Proved found) }
+    ensures answer { IfOk result (λ x. IsAnswer (layout_view layout.now) (area_view area.now)
+        (plan drawing.now) x.area (certificates_in x.certificate)) }
+    ensures spelt { IfOk result (λ x. AllByRecursion Fits (certificates_in x.certificate)) }
+{
+    proved_counts();
+    let area_answer = proof_answer(drawing, found.level);
+    let certificate = named(names_of(alloc, layout, area)?, found);
+    numbers_fit(&certificate);
+    Ok(Answer {
+        area: area_answer,
+        certificate: Some(certificate),
+    })
 }
 
 // The answer to the drawing of an area.
@@ -128,21 +156,20 @@ fn answer_of(
     area: &AreaOf,
     drawing: &Drawing,
 ) -> Result<Answer, Memory>
-    requires { HasFewCurves (plan drawing.now) }
-    ensures { IfOk result (λ x. IsAnswer (layout_view layout.now) (area_view area.now)
-        (plan drawing.now) x.told (certificates_in x.certificate)) }
+    requires names { HasTitle (layout_view layout.now) (area_view area.now) }
+    requires small { IsSmallPlan (plan drawing.now) }
+    ensures answer { IfOk result (λ x. IsAnswer (layout_view layout.now) (area_view area.now)
+        (plan drawing.now) x.area (certificates_in x.certificate)) }
+    ensures spelt { IfOk result (λ x. AllByRecursion Fits (certificates_in x.certificate)) }
 {
     match find_area(alloc, drawing)? {
-        Found::Proved(found) => Ok(Answer {
-            told: proof_told(drawing, found.level),
-            certificate: Some(named(names_of(alloc, layout, area)?, found)),
-        }),
+        Found::Proved(found) => proved_answer(alloc, layout, area, drawing, found),
         Found::Fault(finding) => Ok(Answer {
-            told: fault_told(drawing, finding),
+            area: fault_answer(drawing, finding),
             certificate: None,
         }),
         Found::Undecided { first, second } => Ok(Answer {
-            told: undecided_told(drawing, first, second),
+            area: undecided_answer(drawing, first, second),
             certificate: None,
         }),
     }
@@ -150,12 +177,12 @@ fn answer_of(
 
 // Keeps one answer more.
 fn keep(answers: &mut Answers, answer: Answer) -> Result<(), Memory>
-    ensures told { OnOk result (answers.new.told.items
-        ≡ answers.old.told.items ++ answer.told ∷ []) }
+    ensures areas { OnOk result (answers.new.areas.items
+        ≡ answers.old.areas.items ++ answer.area ∷ []) }
     ensures certificates { OnOk result (views answers.new.certificates.items
         ≡ views answers.old.certificates.items ++ certificates_in answer.certificate) }
 {
-    answers.told.push(answer.told)?;
+    answers.areas.push(answer.area)?;
     if let Some(certificate) = answer.certificate {
         answers.certificates.push(certificate)?;
     }
@@ -165,14 +192,17 @@ fn keep(answers: &mut Answers, answer: Answer) -> Result<(), Memory>
 /// The answers to the areas of a layout by their drawings, one area after the other. The cost of
 /// each is that of its search.
 pub fn answers_of(alloc: Global, layout: &Layout, drawings: &[Drawing]) -> Result<Answers, Memory>
+    requires valid { IsValid (layout_view layout.now) }
     requires drawn { length drawings.now ≡ length layout.now.areas.items }
-    requires few { All HasFewCurves (plans drawings.now) }
-    ensures { IfOk result (λ x. AreAnswers (layout_view layout.now)
-        (areas_view layout.now.areas.items) (plans drawings.now) x.told.items
+    requires few { All IsSmallPlan (plans drawings.now) }
+    ensures answers { IfOk result (λ x. AreAnswers (layout_view layout.now)
+        (areas_view layout.now.areas.items) (plans drawings.now) x.areas.items
         (views x.certificates.items)) }
+    ensures spelt { IfOk result (λ x. AreSpelt (views x.certificates.items)) }
 {
+    area_names();
     let mut answers = Answers {
-        told: Vec::new(alloc),
+        areas: Vec::new(alloc),
         certificates: Vec::new(alloc),
     };
     for (area, drawing) in layout.areas.iter().zip(drawings) {

@@ -2,7 +2,7 @@
 ghost use Rattle.std.specs.Prelude.{◌≡◌, IfSome, IfNone, List, ℕ};
 ghost use Rattle.delivery.specs.Commands.{FileNames as AnyNames, is_file_name};
 ghost use Rattle.delivery.specs.Commands.{IsSpelled, IsCompile, IsCommand, IsUsage};
-ghost use Rattle.delivery.specs.CommandViews.{names_of, command_of as command_seen};
+ghost use Rattle.delivery.specs.CommandViews.{names_of, command_of as command_view};
 
 use crate::trial::{TrialWords, trial_of};
 use crate::word::Word;
@@ -54,7 +54,7 @@ fn compile_of(words: &[Word]) -> Option<&str>
     }
 }
 
-// The files that the words name behind that command, if they do.
+// The files that the words name after that command, if they do.
 fn files_of<'a>(words: &'a [Word], named: &str) -> Option<FileNames<'a>>
     ensures some { IfSome result (λ names. IsSpelled named.now words.now (names_of names)) }
     ensures none { IfNone result ((c : AnyNames) → IsSpelled named.now words.now c → ⊥) }
@@ -80,7 +80,7 @@ fn files_of<'a>(words: &'a [Word], named: &str) -> Option<FileNames<'a>>
 
 /// The command that the words spell; none where they have no right form.
 pub fn command_of(words: &[Word]) -> Option<Command<'_>>
-    ensures command { IfSome result (λ command. IsCommand words.now (command_seen command)) }
+    ensures command { IfSome result (λ command. IsCommand words.now (command_view command)) }
     ensures usage { IfNone result (IsUsage words.now) }
 {
     if let Some(names) = files_of(words, "check") {

@@ -6,7 +6,7 @@ ghost use Rattle.table_layout.specs.Values.{layout_view};
 ghost use Rattle.delivery.specs.Commands.{check as check_command, verify as verify_command};
 ghost use Rattle.delivery.specs.Commands.{certificate_source};
 ghost use Rattle.delivery.specs.Commands.{IsWithin, from_file, made, model_of};
-ghost use Rattle.delivery.specs.CommandViews.{names_of, command_of as command_seen};
+ghost use Rattle.delivery.specs.CommandViews.{names_of, command_of as command_view};
 ghost use Rattle.delivery.specs.Deciding.{Decides};
 ghost use Rattle.delivery.specs.Ending.{Ends, EndsAfter, EndsModel, EndsCommand};
 ghost use Rattle.delivery.specs.Judging.{IsChecked};
@@ -130,9 +130,9 @@ fn decide_compiled<'a, S: Shelf>(
     shelf: &mut S,
 ) -> Result<Outcome<'a>, Memory>
     requires valid { IsValid (layout_view layout.now) }
-    requires size { IsWithin (command_seen command.now) }
+    requires size { IsWithin (command_view command.now) }
     ensures outcome { IfOk result (λ o. Ends (S.held shelf.old)
-        (ReadRose (S.read_faults shelf.old) (S.read_faults shelf.new)) (command_seen command.now)
+        (ReadRose (S.read_faults shelf.old) (S.read_faults shelf.new)) (command_view command.now)
         (layout_view layout.now) (outcome_of o)) }
     ensures held { S.held shelf.new ≡ S.held shelf.old }
     ensures reads { NoReadFell (S.read_faults shelf.old) (S.read_faults shelf.new) }
@@ -154,9 +154,9 @@ fn decide_text<'a, S: Shelf>(
     shelf: &mut S,
 ) -> Result<Outcome<'a>, Memory>
     requires short { length text.now ≤ 4194304 }
-    requires size { IsWithin (command_seen command.now) }
+    requires size { IsWithin (command_view command.now) }
     ensures outcome { IfOk result (λ o. EndsModel (S.held shelf.old)
-        (ReadRose (S.read_faults shelf.old) (S.read_faults shelf.new)) (command_seen command.now)
+        (ReadRose (S.read_faults shelf.old) (S.read_faults shelf.new)) (command_view command.now)
         text.now (outcome_of o)) }
     ensures held { S.held shelf.new ≡ S.held shelf.old }
     ensures reads { NoReadFell (S.read_faults shelf.old) (S.read_faults shelf.new) }
@@ -175,10 +175,10 @@ fn decide_named<'a, S: Shelf>(
     name: &str,
     shelf: &mut S,
 ) -> Result<Outcome<'a>, Memory>
-    requires size { IsWithin (command_seen command.now) }
-    requires model { model_of (command_seen command.now) ≡ from_file File.Model name.now }
+    requires size { IsWithin (command_view command.now) }
+    requires model { model_of (command_view command.now) ≡ from_file File.Model name.now }
     ensures outcome { IfOk result (λ o. EndsCommand (S.held shelf.old)
-        (ReadRose (S.read_faults shelf.old) (S.read_faults shelf.new)) (command_seen command.now)
+        (ReadRose (S.read_faults shelf.old) (S.read_faults shelf.new)) (command_view command.now)
         (outcome_of o)) }
     ensures held { S.held shelf.new ≡ S.held shelf.old }
     ensures reads { NoReadFell (S.read_faults shelf.old) (S.read_faults shelf.new) }
@@ -196,10 +196,10 @@ fn decide_made<'a, S: Shelf>(
     command: &Command<'a>,
     shelf: &mut S,
 ) -> Result<Outcome<'a>, Memory>
-    requires size { IsWithin (command_seen command.now) }
-    requires model { model_of (command_seen command.now) ≡ made the_model }
+    requires size { IsWithin (command_view command.now) }
+    requires model { model_of (command_view command.now) ≡ made the_model }
     ensures outcome { IfOk result (λ o. EndsCommand (S.held shelf.old)
-        (ReadRose (S.read_faults shelf.old) (S.read_faults shelf.new)) (command_seen command.now)
+        (ReadRose (S.read_faults shelf.old) (S.read_faults shelf.new)) (command_view command.now)
         (outcome_of o)) }
     ensures held { S.held shelf.new ≡ S.held shelf.old }
     ensures reads { NoReadFell (S.read_faults shelf.old) (S.read_faults shelf.new) }
@@ -216,9 +216,9 @@ fn decide_command<'a, S: Shelf>(
     command: &Command<'a>,
     shelf: &mut S,
 ) -> Result<Outcome<'a>, Memory>
-    requires size { IsWithin (command_seen command.now) }
+    requires size { IsWithin (command_view command.now) }
     ensures outcome { IfOk result (λ o. EndsCommand (S.held shelf.old)
-        (ReadRose (S.read_faults shelf.old) (S.read_faults shelf.new)) (command_seen command.now)
+        (ReadRose (S.read_faults shelf.old) (S.read_faults shelf.new)) (command_view command.now)
         (outcome_of o)) }
     ensures held { S.held shelf.new ≡ S.held shelf.old }
     ensures reads { NoReadFell (S.read_faults shelf.old) (S.read_faults shelf.new) }

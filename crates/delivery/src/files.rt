@@ -1,5 +1,6 @@
 // A whole file, read in pieces.
-ghost use Rattle.std.specs.Prelude.{◌≡◌, ◌≤◌, ◌<◌, ◌^◌, length, IfOk, IsErrOf, IsTrue, IsFalse, OnOk};
+ghost use Rattle.std.specs.Prelude.{◌≡◌, ◌≤◌, ◌<◌, ◌^◌, length, IfOk, IsErrOf, IsTrue, IsFalse};
+ghost use Rattle.std.specs.Prelude.{OnOk};
 ghost use Rattle.ports.specs.Faults.{Rose, NoReadFell};
 ghost use Rattle.delivery.specs.Commands.{limit_of};
 ghost use Rattle.delivery.specs.Reading.{IsWhole, IsLonger, IsFront, IsEnd};
@@ -40,8 +41,8 @@ pub enum FileRefusal {
     Memory,
 }
 
-/// A buffer of that length. No clause tells its bytes: a list of 65,536 of them would be computed
-/// in every goal above.
+/// A buffer of that length. No clause says what its bytes are: a list of 65,536 of them would be
+/// computed in every goal above.
 pub fn buffer(alloc: Global, size: usize) -> Result<Vec<u8>, Memory>
     ensures { IfOk result (λ buffer. length buffer.items ≡ size) }
 {

@@ -1,27 +1,30 @@
 // Laws of outcomes.
 ghost use Rattle.std.specs.Prelude.{◌≡◌, ℕ, List, Option, Some};
 ghost use Rattle.std.specs.List.{All};
+ghost use Rattle.certificate.specs.Spelling.{Plain, spelling};
 ghost use Rattle.plane.specs.Rule.Partition.{IsPartition};
 ghost use Rattle.plane.specs.Rule.Plans.{Plan};
 ghost use Rattle.table_layout.specs.Layouts.{Layout};
 ghost use Rattle.ports.specs.Faults.{ReadRose};
 ghost use Rattle.ports.specs.Files.{Files};
 ghost use Rattle.itf_reader.specs.Forms.{Row};
-ghost use Rattle.delivery.specs.Amounting.{HasStraightAreas};
-ghost use Rattle.delivery.specs.Answers.{AgreeUnlessUnread, Means, Passes};
+ghost use Rattle.delivery.specs.Causes.{HasStraightAreas};
+ghost use Rattle.delivery.specs.Answers.{AgreeUnlessUnread, HasCause, Passes};
 ghost use Rattle.delivery.specs.AreaAnswers.{AreLeftAreas, HaveStraightLines};
+ghost use Rattle.delivery.specs.Certified.{AreCertified};
 ghost use Rattle.delivery.specs.Deciding.{Decides};
+ghost use Rattle.delivery.specs.FiledTexts.{IsVerified};
 ghost use Rattle.delivery.specs.Outcomes.{Outcome};
-ghost use Rattle.delivery.specs.declared.status.Status.TheVariants.{Undecided};
+ghost use Rattle.delivery.specs.declared.status.Status.TheVariants.{Accepted, Undecided};
 ghost use Rattle.delivery.specs.Verifying.{IsVerification, Verification, proved};
 
 /// The status of each outcome of words and files has its cause; and two outcomes of the same words
 /// and files agree, unless a file could not be read.
 pub fn outcomes_are_right()
     // `before` and `after` are the counts of faults of each file before and after a call.
-    ensures means { (told : Option Files) (before after : List ℕ → ℕ) (words : List (List ℕ))
-        (o : Outcome) → Decides told (ReadRose before after) words o
-        → Means told (ReadRose before after) words o.status }
+    ensures cause { (held : Option Files) (before after : List ℕ → ℕ) (words : List (List ℕ))
+        (o : Outcome) → Decides held (ReadRose before after) words o
+        → HasCause held (ReadRose before after) words o.status }
     ensures agree { (files : Files) (before after from upto : List ℕ → ℕ)
         (words : List (List ℕ)) (o p : Outcome)
         → Decides (Some files) (ReadRose before after) words o
@@ -53,6 +56,21 @@ pub fn verified_partitions()
     certificate_checker::laws::proves_partition();
 }
 
+/// What an accepted check or trial leaves is accepted again: where its file of certificates is
+/// filed as it is, with the same model and transfer, the outcome of `verify` is Accepted.
+pub fn accepted_is_verified()
+    ensures { (l : Layout) (text : List ℕ) (cs : List Plain) (o : Outcome) → AreCertified l text cs
+        → IsVerified l text (spelling cs) o → o.status ≡ Accepted }
+{
+    area_search::laws::answers_are_right();
+    area_search::laws::faults_are_true();
+    area_search::laws::undecided_has_half_arc();
+    certificate_checker::laws::proves_partition();
+    crate::trial::events_are_counted();
+    verifications_agree();
+    verified_partitions();
+}
+
 /// Where all lines of areas are straights, no area is left undecided, and no call whose files could
 /// be read.
 pub fn straights_are_decided()
@@ -61,5 +79,5 @@ pub fn straights_are_decided()
     ensures calls { (files : Files) (before after from upto : List ℕ → ℕ)
         (words : List (List ℕ))
         → Passes (Some files) (ReadRose before after) words HasStraightAreas
-        → Means (Some files) (ReadRose from upto) words Undecided → ⊥ }
+        → HasCause (Some files) (ReadRose from upto) words Undecided → ⊥ }
 {}

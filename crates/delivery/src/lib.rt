@@ -35,7 +35,7 @@
 //!
 //! Cost of `run`: time and memory in proportion to the files, but for the names of a model, the
 //! findings of a transfer and its keys, which take n log n, and for the search of each area or the
-//! check of its certificate, which `area_search` and `certificate_checker` tell. Of a model its
+//! check of its certificate, which `area_search` and `certificate_checker` say. Of a model its
 //! layout is held while the transfer is read, and its text, which is at most 4,194,304 bytes long.
 //! A transfer is read in pieces of 65,536 bytes and never held: each row is judged when it is
 //! closed, and of it stay its findings, 20 bytes and its keys, and where it belongs to an area 24

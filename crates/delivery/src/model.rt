@@ -4,8 +4,11 @@ ghost use Rattle.ili_lexer.specs.Places.{line_after, column_after};
 ghost use Rattle.ili_grammar.specs.Slices.{bytes_of};
 ghost use Rattle.ili_grammar.specs.Values.{model_of};
 ghost use Rattle.ili_grammar.specs.Limits.{IsWithinLimits};
-ghost use Rattle.delivery.specs.ModelTexts.{wordless, lex_refusal, word_of, token_refusal, end_refusal};
-ghost use Rattle.delivery.specs.RefusalViews.{refusal_of, IsReading, IsSmallReading, IsModelReading, IsValidReading, IsNameRefusal, IsLaidOut};
+ghost use Rattle.delivery.specs.ModelTexts.{wordless, lex_refusal, word_of, token_refusal};
+ghost use Rattle.delivery.specs.ModelTexts.{end_refusal};
+ghost use Rattle.delivery.specs.RefusalViews.{refusal_of, IsReading, IsSmallReading};
+ghost use Rattle.delivery.specs.RefusalViews.{IsModelReading, IsValidReading, IsNameRefusal};
+ghost use Rattle.delivery.specs.RefusalViews.{IsLaidOut};
 
 use crate::refusals::{Refusal, RefusalCode};
 use ili_grammar::{ModelSyntax, SyntaxCode, SyntaxFault, parse};

@@ -6,10 +6,10 @@ ghost use Rattle.itf_reader.specs.Refusals.{fault_of};
 ghost use Rattle.table_layout.specs.Values.{area_view, areas_view, layout_view, table_view};
 ghost use Rattle.table_layout.specs.Values.{tables_view};
 ghost use Rattle.delivery.specs.Outcomes.{reported, usage, area_too_large};
-ghost use Rattle.delivery.specs.Outcomes.{refused, compiled, misbuilt, rejected, areas_told};
+ghost use Rattle.delivery.specs.Outcomes.{refused, compiled, misbuilt, rejected, areas_outcome};
 ghost use Rattle.delivery.specs.Outcomes.{accepted, area_line, area_lines, table_line};
 ghost use Rattle.delivery.specs.Outcomes.{with_verdict, trial_line, size_lines, trial_lines};
-ghost use Rattle.delivery.specs.Outcomes.{proofs_told, verified};
+ghost use Rattle.delivery.specs.Outcomes.{proof_answers, verified};
 ghost use Rattle.delivery.specs.AreaAnswers.{plans};
 ghost use Rattle.delivery.specs.LineViews.{line_of, lines_of};
 ghost use Rattle.delivery.specs.OutcomeViews.{outcome_of, target_of};
@@ -17,7 +17,7 @@ ghost use Rattle.delivery.specs.FileRefusals.{IsNotRead};
 ghost use Rattle.delivery.specs.RefusalViews.{refusal_of};
 ghost use Rattle.delivery.specs.VerificationViews.{verification_of};
 
-use crate::area_answers::{Answers, has_fault, has_left, proof_told};
+use crate::area_answers::{Answers, has_fault, has_left, proof_answer};
 use crate::area_names::{names_of, topic_text};
 use crate::files::{File, FileRefusal};
 use crate::refusals::Refusal;
@@ -32,7 +32,7 @@ use std::alloc::Global;
 use table_layout::{AreaOf, Layout, Table};
 
 /// Where certificates go: the name of their file; and for a trial its size, which the report
-/// tells.
+/// says.
 #[derive(Clone, Copy)]
 pub struct Target<'a> {
     pub name: &'a str,
@@ -204,7 +204,7 @@ fn area_lines(alloc: Global, layout: &Layout, answers: &[AreaAnswer]) -> Result<
     Ok(lines)
 }
 
-// Adds what a trial of that size tells of an area that is proved.
+// Adds what a trial of that size reports of an area that is proved.
 fn add_trial_line(
     size: u32,
     answer: AreaAnswer,
@@ -225,7 +225,7 @@ fn add_trial_line(
     Ok(())
 }
 
-// What a trial of that size tells of its areas.
+// What a trial of that size reports of its areas.
 fn size_lines(
     alloc: Global,
     size: u32,
@@ -242,7 +242,7 @@ fn size_lines(
     Ok(lines)
 }
 
-// Adds what the report of a trial tells of its areas, where it is one.
+// Adds what the report of a trial says of its areas, where it is one.
 fn add_trial_lines(
     alloc: Global,
     trial: Option<u32>,
@@ -250,10 +250,10 @@ fn add_trial_lines(
     lines: &mut Vec<Line>,
 ) -> Result<(), Memory>
     ensures { OnOk result (lines_of lines.new.items ≡ lines_of lines.old.items
-        ++ trial_lines trial answers.now.told.items (views answers.now.certificates.items)) }
+        ++ trial_lines trial answers.now.areas.items (views answers.now.certificates.items)) }
 {
     if let Some(size) = trial {
-        let mut more = size_lines(alloc, size, &answers.told, &answers.certificates)?;
+        let mut more = size_lines(alloc, size, &answers.areas, &answers.certificates)?;
         lines.append(&mut more)?;
     }
     Ok(())
@@ -296,21 +296,21 @@ fn ended<'a>(
 
 /// So many objects without a finding, and these answers to the areas of the layout, whose
 /// certificates go to the target where all are proved.
-pub fn areas_told<'a>(
+pub fn areas_outcome<'a>(
     alloc: Global,
     layout: &Layout,
     objects: u128,
     target: &Target<'a>,
     answers: Answers,
 ) -> Result<Outcome<'a>, Memory>
-    ensures { IfOk result (λ o. outcome_of o ≡ areas_told (layout_view layout.now) objects
-        (target_of target.now) answers.told.items (views answers.certificates.items)) }
+    ensures { IfOk result (λ o. outcome_of o ≡ areas_outcome (layout_view layout.now) objects
+        (target_of target.now) answers.areas.items (views answers.certificates.items)) }
 {
-    let mut lines = area_lines(alloc, layout, &answers.told)?;
-    if has_fault(&answers.told) {
+    let mut lines = area_lines(alloc, layout, &answers.areas)?;
+    if has_fault(&answers.areas) {
         return ended(alloc, Status::Rejected, lines, Verdict::Rejected);
     }
-    if has_left(&answers.told) {
+    if has_left(&answers.areas) {
         return ended(alloc, Status::Undecided, lines, Verdict::Undecided);
     }
     add_trial_lines(alloc, target.trial, &answers, &mut lines)?;
@@ -322,16 +322,16 @@ pub fn areas_told<'a>(
 }
 
 // The answers to drawings that are proved at these levels.
-fn proofs_told(
+fn proof_answers(
     alloc: Global,
     drawings: &[Drawing],
     levels: &[u8],
 ) -> Result<Vec<AreaAnswer>, Memory>
-    ensures { IfOk result (λ xs. xs.items ≡ proofs_told (plans drawings.now) levels.now) }
+    ensures { IfOk result (λ xs. xs.items ≡ proof_answers (plans drawings.now) levels.now) }
 {
     let mut answers = Vec::new(alloc);
     for (drawing, level) in drawings.iter().zip(levels) {
-        answers.push(proof_told(drawing, *level))?;
+        answers.push(proof_answer(drawing, *level))?;
     }
     Ok(answers)
 }
@@ -349,7 +349,7 @@ pub fn verified<'a>(
 {
     match verification {
         Verification::Proved(levels) => {
-            let answers = proofs_told(alloc, drawings, levels)?;
+            let answers = proof_answers(alloc, drawings, levels)?;
             let lines = area_lines(alloc, layout, &answers)?;
             ended(alloc, Status::Accepted, lines, Verdict::Accepted(objects))
         }

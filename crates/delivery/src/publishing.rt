@@ -2,7 +2,7 @@
 ghost use Rattle.std.specs.Prelude.{◌≡◌, ◌≢◌, ◌≤◌, ◌⊎◌, OnOk, OnErr};
 ghost use Rattle.ports.specs.Faults.{Rose, NoReadFell};
 ghost use Rattle.ports.specs.Output.{Adds, AddsPrefix};
-ghost use Rattle.delivery.specs.Effects.{Begun, Filed};
+ghost use Rattle.delivery.specs.Effects.{IsBegun, IsFiled};
 ghost use Rattle.delivery.specs.OutcomeViews.{filing_of, outcome_of};
 ghost use Rattle.std.specs.Prelude.{Some};
 
@@ -13,9 +13,9 @@ use ports::{Failed, Shelf, Sink};
 
 // Writes certificates to their file.
 fn write_certificates<S: Shelf>(filing: &Filing<'_>, shelf: &mut S) -> Result<(), Failed>
-    ensures filed { OnOk result (Filed (Some (filing_of filing.now)) (S.held shelf.old)
+    ensures filed { OnOk result (IsFiled (Some (filing_of filing.now)) (S.held shelf.old)
         (S.held shelf.new)) }
-    ensures begun { Begun (Some (filing_of filing.now)) (S.held shelf.old) (S.held shelf.new) }
+    ensures begun { IsBegun (Some (filing_of filing.now)) (S.held shelf.old) (S.held shelf.new) }
     ensures reads { NoReadFell (S.read_faults shelf.old) (S.read_faults shelf.new) }
     ensures writes { S.write_faults shelf.old ≤ S.write_faults shelf.new }
     ensures cause { OnErr result (Rose (S.write_faults shelf.old) (S.write_faults shelf.new)) }
@@ -26,9 +26,9 @@ fn write_certificates<S: Shelf>(filing: &Filing<'_>, shelf: &mut S) -> Result<()
 
 // Writes the certificates of an outcome, where it has any.
 fn write_files<S: Shelf>(outcome: &Outcome<'_>, shelf: &mut S) -> Result<(), Failed>
-    ensures filed { OnOk result (Filed (outcome_of outcome.now).filing (S.held shelf.old)
+    ensures filed { OnOk result (IsFiled (outcome_of outcome.now).filing (S.held shelf.old)
         (S.held shelf.new)) }
-    ensures begun { Begun (outcome_of outcome.now).filing (S.held shelf.old) (S.held shelf.new) }
+    ensures begun { IsBegun (outcome_of outcome.now).filing (S.held shelf.old) (S.held shelf.new) }
     ensures reads { NoReadFell (S.read_faults shelf.old) (S.read_faults shelf.new) }
     ensures writes { S.write_faults shelf.old ≤ S.write_faults shelf.new }
     ensures cause { OnErr result (Rose (S.write_faults shelf.old) (S.write_faults shelf.new)) }
@@ -50,12 +50,12 @@ pub fn publish<S: Shelf, K: Sink>(
     ensures text { result ≢ Status.WriteFault
         → Adds (K.written out.old) text.now (K.written out.new) }
     ensures prefix { AddsPrefix (K.written out.old) text.now (K.written out.new) }
-    ensures begun { Begun (outcome_of outcome.now).filing (S.held shelf.old) (S.held shelf.new) }
+    ensures begun { IsBegun (outcome_of outcome.now).filing (S.held shelf.old) (S.held shelf.new) }
     ensures filed { result ≢ Status.WriteFault
-        → Filed (outcome_of outcome.now).filing (S.held shelf.old) (S.held shelf.new) }
+        → IsFiled (outcome_of outcome.now).filing (S.held shelf.old) (S.held shelf.new) }
     ensures whole { (Rose (S.write_faults shelf.old) (S.write_faults shelf.new) → ⊥)
         ⊎ (K.written out.new ≢ K.written out.old)
-        → Filed (outcome_of outcome.now).filing (S.held shelf.old) (S.held shelf.new) }
+        → IsFiled (outcome_of outcome.now).filing (S.held shelf.old) (S.held shelf.new) }
     ensures reads { NoReadFell (S.read_faults shelf.old) (S.read_faults shelf.new) }
     ensures writes { S.write_faults shelf.old ≤ S.write_faults shelf.new }
     ensures faults { K.faults out.old ≤ K.faults out.new }

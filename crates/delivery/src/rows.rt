@@ -2,9 +2,10 @@
 ghost use Rattle.std.specs.Prelude.{◌≡◌, ◌≤◌, ◌^◌, ℕ, List, length, IfOk};
 ghost use Rattle.std.specs.List.{All};
 ghost use Rattle.itf_reader.specs.Forms.{Row as GivenRow};
+ghost use Rattle.table_layout.specs.Valid.{IsValid};
 ghost use Rattle.table_layout.specs.Values.{layout_view};
 ghost use Rattle.delivery.specs.AreaAnswers.{plans};
-ghost use Rattle.delivery.specs.AreaLimits.{HasFewCurves};
+ghost use Rattle.delivery.specs.AreaLimits.{IsSmallPlan};
 ghost use Rattle.delivery.specs.Drawings.{AreDrawings};
 ghost use Rattle.delivery.specs.FiledTexts.{AreVerified, IsVerified};
 ghost use Rattle.delivery.specs.Judging.{AreJudged, IsChecked, objects};
@@ -14,7 +15,9 @@ ghost use Rattle.delivery.specs.Pieces.{IsJudged};
 
 use crate::area_answers::answers_of;
 use crate::judging::Judged;
-use crate::outcome::{Outcome, Target, area_too_large, areas_told, misbuilt, rejected, verified};
+use crate::outcome::{
+    Outcome, Target, area_too_large, areas_outcome, misbuilt, rejected, verified,
+};
 use crate::trial::TrialWords;
 use crate::verifying::verify_areas;
 use plane::Drawing;
@@ -30,15 +33,16 @@ fn check_areas<'a>(
     count: u128,
     drawings: &[Drawing],
 ) -> Result<Outcome<'a>, Memory>
+    requires valid { IsValid (layout_view layout.now) }
     requires drawn { length drawings.now ≡ length layout.now.areas.items }
-    requires few { All HasFewCurves (plans drawings.now) }
+    requires few { All IsSmallPlan (plans drawings.now) }
     ensures { (rows : List (List GivenRow)) → count ≡ objects rows
         → AreDrawings (layout_view layout.now) rows (plans drawings.now)
         → IfOk result (λ o. AreJudged (target_of target.now) (layout_view layout.now) rows
         (outcome_of o)) }
 {
     let answers = answers_of(alloc, layout, drawings)?;
-    areas_told(alloc, layout, count, target, answers)
+    areas_outcome(alloc, layout, count, target, answers)
 }
 
 // The outcome of a transfer that came to that. The certificates go to the target.
@@ -48,7 +52,8 @@ fn judged_for<'a>(
     layout: &Layout,
     judged: Judged,
 ) -> Result<Outcome<'a>, Memory>
-    requires { (text : List ℕ) × IsJudged (layout_view layout.now) text judged }
+    requires valid { IsValid (layout_view layout.now) }
+    requires text { (text : List ℕ) × IsJudged (layout_view layout.now) text judged }
     ensures { (text : List ℕ) → IsJudged (layout_view layout.now) text judged
         → IfOk result (λ o. IsChecked (target_of target.now) (layout_view layout.now) text
         (outcome_of o)) }
@@ -69,7 +74,8 @@ pub fn checked<'a>(
     layout: &Layout,
     judged: Judged,
 ) -> Result<Outcome<'a>, Memory>
-    requires { (text : List ℕ) × IsJudged (layout_view layout.now) text judged }
+    requires valid { IsValid (layout_view layout.now) }
+    requires text { (text : List ℕ) × IsJudged (layout_view layout.now) text judged }
     ensures { (text : List ℕ) → IsJudged (layout_view layout.now) text judged
         → IfOk result (λ o. IsChecked (check_target name.now) (layout_view layout.now) text
         (outcome_of o)) }
@@ -85,7 +91,8 @@ pub fn tried<'a>(
     layout: &Layout,
     judged: Judged,
 ) -> Result<Outcome<'a>, Memory>
-    requires { (text : List ℕ) × IsJudged (layout_view layout.now) text judged }
+    requires valid { IsValid (layout_view layout.now) }
+    requires text { (text : List ℕ) × IsJudged (layout_view layout.now) text judged }
     ensures { (text : List ℕ) → IsJudged (layout_view layout.now) text judged
         → IfOk result (λ o. IsChecked (trial_target trial.now.size trial.now.certificate.now)
         (layout_view layout.now) text (outcome_of o)) }

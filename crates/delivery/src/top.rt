@@ -2,11 +2,11 @@
 ghost use Rattle.std.specs.Prelude.{◌≡◌, ◌≢◌, ◌≤◌, ◌⊎◌, Some};
 ghost use Rattle.ports.specs.Faults.{Rose, NoReadFell, ReadRose};
 ghost use Rattle.ports.specs.Files.{Files};
-ghost use Rattle.delivery.specs.Amounting.{HasStraightAreas};
-ghost use Rattle.delivery.specs.Answers.{Means, Passes, IsAnswer, IsFaultless, IsComplete};
+ghost use Rattle.delivery.specs.Causes.{HasStraightAreas};
+ghost use Rattle.delivery.specs.Answers.{HasCause, Passes, IsAnswer, IsFaultless, IsComplete};
 ghost use Rattle.delivery.specs.Certified.{Certifies};
 ghost use Rattle.delivery.specs.Deciding.{Decides};
-ghost use Rattle.delivery.specs.Effects.{Does};
+ghost use Rattle.delivery.specs.Effects.{HasEffects};
 ghost use Rattle.delivery.specs.Outcomes.{Outcome as AnyOutcome};
 
 use crate::deciding::decide;
@@ -18,7 +18,7 @@ use crate::word::Word;
 use ports::{Shelf, Sink};
 use std::alloc::Global;
 
-/// Does what the words ask for, over files by name and an output, and answers with a status
+/// HasEffects what the words ask for, over files by name and an output, and answers with a status
 /// whose number is the exit status of the program.
 ///
 /// `words` are those after the program's name. The files that a command reads are read whole, in
@@ -27,7 +27,8 @@ use std::alloc::Global;
 /// memory is the one answer without a cause. It never comes after the first write.
 pub fn run<S: Shelf, K: Sink>(alloc: Global, words: &[Word], shelf: &mut S, out: &mut K) -> Status
     // The cause of the answer: the headline.
-    ensures means { Means (S.held shelf.old) (ReadRose (S.read_faults shelf.old) (S.read_faults shelf.new))
+    ensures cause { HasCause (S.held shelf.old)
+        (ReadRose (S.read_faults shelf.old) (S.read_faults shelf.new))
         words.now result }
 
     // Where all lines of AREAs are straights, nothing is left undecided.
@@ -42,10 +43,10 @@ pub fn run<S: Shelf, K: Sink>(alloc: Global, words: &[Word], shelf: &mut S, out:
         (S.held shelf.new) }
 
     // The answer, the output and every file are those of an outcome of the words and the files.
-    ensures does { result ≢ Status.Memory
-        → Does (S.held shelf.old) (ReadRose (S.read_faults shelf.old) (S.read_faults shelf.new))
-        words.now result (S.held shelf.new)
-        (Rose (S.write_faults shelf.old) (S.write_faults shelf.new))
+    ensures effects { result ≢ Status.Memory
+        → HasEffects (S.held shelf.old)
+        (ReadRose (S.read_faults shelf.old) (S.read_faults shelf.new)) words.now result
+        (S.held shelf.new) (Rose (S.write_faults shelf.old) (S.write_faults shelf.new))
         (K.written out.old) (K.written out.new) }
 
     // Whatever outcome the words and the files have, the answer and the report are those of an

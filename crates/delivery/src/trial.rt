@@ -75,7 +75,7 @@ pub fn size_of(word: &str) -> Option<u32>
     }
 }
 
-/// The text of the model, the same for all sizes. The only error is want of memory.
+/// The text of the model, the same for all sizes. The only error is out of memory.
 pub fn model_text(alloc: Global) -> Result<Vec<u8>, Memory>
     ensures { IfOk result (λ text. text.items ≡ the_model) }
 {
@@ -158,7 +158,7 @@ fn straights_text(alloc: Global, n: u32) -> Result<Text, Memory>
     Ok(text)
 }
 
-/// The text of the transfer of a grid of n times n cells. The only error is want of memory.
+/// The text of the transfer of a grid of n times n cells. The only error is out of memory.
 pub fn transfer_text(alloc: Global, n: u32) -> Result<Vec<u8>, Memory>
     requires { n ≤ 500 }
     ensures { IfOk result (λ text. text.items ≡ the_transfer n) }

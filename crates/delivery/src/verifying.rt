@@ -1,4 +1,4 @@
-// Filed certificates, judged against the drawings of a layout's areas.
+// IsFiled certificates, judged against the drawings of a layout's areas.
 ghost use Rattle.std.specs.Prelude.{◌≡◌, ◌↔◌, ℕ, List, ◌<◌, ◌≤◌, ◌^◌, length, IfOk, IsTrue};
 ghost use Rattle.std.specs.List.{AllByRecursion};
 ghost use Rattle.certificate.specs.Spelling.{ArePaired, view, views};
@@ -143,7 +143,7 @@ fn verify_list(
 /// first rule that is broken counts. The only error is out of memory.
 ///
 /// The text is read once, in time and memory linear in its length; then the drawings are checked
-/// one after the other, each at the cost that `certificate_checker` tells.
+/// one after the other, each at the cost that `certificate_checker` says.
 pub fn verify_areas(
     alloc: Global,
     layout: &Layout,

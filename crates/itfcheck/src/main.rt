@@ -18,7 +18,7 @@ use std::process::ExitCode;
 // The system gives no word that is longer.
 const LONGEST_WORD: usize = 131_072;
 
-// The word at a place of the command line; none behind the last.
+// The word at a place of the command line; none after the last.
 fn word_at(
     rt: &HostRuntime,
     alloc: Global,
@@ -34,7 +34,7 @@ fn word_at(
     Ok(Some(Word::new(alloc, text)?))
 }
 
-// The words behind the program's name.
+// The words after the program's name.
 fn words_of(rt: &HostRuntime, alloc: Global) -> Result<Vec<Word>, Memory> {
     let mut buffer = vec![in alloc; 0u8; LONGEST_WORD]?;
     let mut words = Vec::new(alloc);

@@ -162,7 +162,7 @@ fn read(form: &LineForm, vertex: &Vertex) -> ReadVertex
     requires { IsSoundVertex (line_of form.now) (vertex_of vertex.now) }
     ensures { vertex_view result ≡ seen (line_of form.now) (vertex_of vertex.now) }
 {
-    match read_vertex(form, &vertex.fields) {
+    match read_vertex(form, vertex.fields.as_slice()) {
         Ok(value) => ReadVertex {
             at: value.at,
             line: vertex.line,

@@ -62,7 +62,7 @@ fn add_stroke(vertices: &[ReadVertex], drawing: &mut Drawing) -> Result<(), Memo
     }
 }
 
-// Adds the curves of lines whose vertices stand one line behind another, by how many each has.
+// Adds the curves of lines whose vertices stand one line after another, by how many each has.
 fn add_strokes(
     counts: &[usize],
     vertices: &[ReadVertex],

@@ -167,7 +167,7 @@ fn has_too_large(kept: &TransferKept, areas: &[AreaOf]) -> bool
     false
 }
 
-// Moves the findings of a table behind others.
+// Moves the findings of a table after others.
 fn take_found(kept: &mut TableKept, all: &mut Vec<Finding>) -> Result<(), Memory>
     ensures found { OnOk result (findings_of all.new.items ≡ findings_of all.old.items ++
         (kept_of kept.old).found) }
@@ -225,7 +225,7 @@ fn has_any(found: &[Finding]) -> bool
     }
 }
 
-// What rows come to that a text tells.
+// What the rows of a text come to.
 fn judge_rows(alloc: Global, layout: &Layout, kept: TransferKept) -> Result<Judged, Memory>
     requires valid { IsValid (layout_view layout.now) }
     requires text { (text : List ℕ) × AreKept (layout_view layout.now) text kept }

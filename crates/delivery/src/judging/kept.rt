@@ -34,7 +34,7 @@ pub struct PointColumn {
 }
 
 /// The findings of a table's rows, and the places that areas are drawn from: where the rows are
-/// lines of an area, their vertices one row behind another, with how many each row has, and the
+/// lines of an area, their vertices one row after another, with how many each row has, and the
 /// points of the columns.
 #[derive(Drop)]
 pub struct TableKept {

@@ -107,7 +107,7 @@ impl<'a> RowJudge<'a> {
         self.kept.keys.add_row(table, row)
     }
 
-    /// Takes a line by the names of a layout, and judges the row that it closes. Behind the first
+    /// Takes a line by the names of a layout, and judges the row that it closes. After the first
     /// line at fault nothing is taken.
     pub fn take(&mut self, layout: &Layout, names: &Names, line: &Line) -> Result<(), Memory>
         requires valid { IsValid (layout_view layout.now) }

@@ -1,7 +1,8 @@
 // The words of the report for codes.
 ghost use Rattle.std.specs.Prelude.{◌≡◌};
 ghost use Rattle.itf_reader.specs.Refusals.{fault_of};
-ghost use Rattle.delivery.specs.Codes.{code_text, syntax_text, model_text, refusal_text, structure_text};
+ghost use Rattle.delivery.specs.Codes.{code_text, syntax_text, model_text, refusal_text};
+ghost use Rattle.delivery.specs.Codes.{structure_text};
 
 use crate::refusals::RefusalCode;
 use ili_grammar::SyntaxCode;

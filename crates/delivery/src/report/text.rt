@@ -9,7 +9,7 @@ ghost use Rattle.delivery.specs.Lines.{other_text, finding_words, table_words, a
 ghost use Rattle.delivery.specs.Lines.{pair_text, empty_text, proof_text, area_words};
 ghost use Rattle.delivery.specs.Lines.{not_proved_words, structure_words, refusal_words};
 ghost use Rattle.delivery.specs.Lines.{trial_words, verdict_text, words_of, line_text};
-ghost use Rattle.delivery.specs.LineViews.{findings_seen, line_of, lines_of, table_of, area_of};
+ghost use Rattle.delivery.specs.LineViews.{findings_view, line_of, lines_of, table_of, area_of};
 ghost use Rattle.delivery.specs.Outcomes.{report_of};
 ghost use Rattle.delivery.specs.OutcomeViews.{outcome_of};
 ghost use Rattle.delivery.specs.RefusalViews.{refusal_of};
@@ -122,7 +122,7 @@ impl Text {
 
     fn add_findings(&mut self, findings: &[Finding]) -> Result<(), Memory>
         ensures { OnOk result (self.new ≡ self.old ++ flat_map line_text
-            (findings_seen findings.now)) }
+            (findings_view findings.now)) }
     {
         for finding in findings {
             self.add_finding(finding)?;

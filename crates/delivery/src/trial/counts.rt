@@ -1,4 +1,4 @@
-// Laws of the numbers that a trial tells.
+// Laws of the numbers that a trial reports.
 ghost use Rattle.std.specs.Prelude.{◌≡◌, ℕ, length};
 ghost use Rattle.plane.specs.Rule.Plans.{Plan};
 ghost use Rattle.certificate_checker.specs.Subjects.{Claims};

@@ -1,11 +1,12 @@
-use Rattle.std.proofs.Common.{◌≡◌, length}
+use Rattle.std.proofs.Common.{◌≡◌, ◌+◌, ◌≤◌, length}
 use Rattle.std.specs.Iterator.Adapters.{zip_first, zip_second}
-use Rattle.std.specs.List.{All}
+use Rattle.std.specs.List.{All, AllByRecursion}
 use Rattle.std.specs.Slice.Iter.{iter_rest}
-use Rattle.certificate.specs.Spelling.{views}
+use Rattle.certificate.specs.Spelling.{Fits, views}
 use Rattle.table_layout.specs.Values.{areas_view, layout_view}
 use Rattle.delivery.specs.AreaAnswers.{plans}
-use Rattle.delivery.specs.AreaLimits.{HasFewCurves}
+use Rattle.delivery.specs.AreaLimits.{IsSmallPlan}
+use Rattle.delivery.specs.AreaNames.{HasTitle}
 use Rattle.delivery.proofs.AnswerLemmas.{GoesOn}
 use Rattle.delivery.proofs.area_answers.answers_of.Given as goal
 
@@ -14,6 +15,9 @@ invariant-loop-area l = record {
   can_next : (goal.iterator-loop-area).can_next l.area-iterator;
   is_finite : (goal.iterator-loop-area).is_finite l.area-iterator;
   same : length (iter_rest (zip_second l.area-iterator)) ≡ length (iter_rest (zip_first l.area-iterator));
-  few : All HasFewCurves (plans (iter_rest (zip_second l.area-iterator)));
-  goes_on : GoesOn (layout_view l.layout) (areas_view l.layout.areas.items) (plans l.drawings) (areas_view (iter_rest (zip_first l.area-iterator))) (plans (iter_rest (zip_second l.area-iterator))) l.answers.told.items (views l.answers.certificates.items);
+  names : All (HasTitle (layout_view l.layout)) (areas_view (iter_rest (zip_first l.area-iterator)));
+  few : All IsSmallPlan (plans (iter_rest (zip_second l.area-iterator)));
+  goes_on : GoesOn (layout_view l.layout) (areas_view l.layout.areas.items) (plans l.drawings) (areas_view (iter_rest (zip_first l.area-iterator))) (plans (iter_rest (zip_second l.area-iterator))) l.answers.areas.items (views l.answers.certificates.items);
+  spelt : AllByRecursion Fits (views l.answers.certificates.items);
+  count : length (views l.answers.certificates.items) + length (iter_rest (zip_first l.area-iterator)) ≤ length l.layout.areas.items;
 }

@@ -10,8 +10,8 @@ use Rattle.delivery.specs.declared.transfers.TransferReading.{TransferReading}
 use Rattle.delivery.proofs.Steps.{if_ok, unread_ends}
 use Rattle.delivery.proofs.deciding.decide_check.Goals as goal
 
-pub checked-requires : goal.checked-requires
-checked-requires g c =
+pub checked-requires-clause-text : goal.checked-requires-clause-text
+checked-requires-clause-text g c =
     let name = c.args.names.now.transfer.now in
     let rose = Rose (g.S.Shelf.read_faults c.args.shelf.now name) (g.S.Shelf.read_faults c.read_transfer.new.shelf name) in
     let t = subst (λ (r : TransferReading). IsTransfer (g.S.Shelf.held c.args.shelf.now) name (layout_view c.args.layout.now) rose r) c.in-Judged.is c.in_ok-judged.ensures.transfer in

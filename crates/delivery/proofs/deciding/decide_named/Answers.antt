@@ -35,7 +35,7 @@ returns-in-Ok-clause-outcome g c =
     if_ok _ _ c.decide_text.result
     (λ o h.
     let moved : EndsModel held near command text (outcome_of o) =
-    subst (λ (told : Option Files). EndsModel told near command text (outcome_of o)) c.in-Ok.ensures.held
+    subst (λ (held : Option Files). EndsModel held near command text (outcome_of o)) c.in-Ok.ensures.held
     (subst (λ (bytes : List ℕ). EndsModel (g.S.Shelf.held c.read_file.new.shelf) near command bytes (outcome_of o)) c.deref.ensures.value h) in
     let e = model_on held near far
     (λ name r. rose_after (g.S.Shelf.read_faults c.args.shelf.now name) (g.S.Shelf.read_faults c.read_file.new.shelf name) (g.S.Shelf.read_faults c.decide_text.new.shelf name) (c.in-Ok.ensures.reads name) r)

@@ -33,7 +33,7 @@ returns-in-Judged-clause-outcome g c =
     if_ok _ _ c.decide_filed.result
     (λ o h.
     let moved : EndsAfter held near (verify names) layout (text ∷ []) (certificate_source names ∷ []) (outcome_of o) =
-    subst (λ (told : Option Files). EndsAfter told near (verify names) layout (text ∷ []) (certificate_source names ∷ []) (outcome_of o)) c.in_ok-judged.ensures.held h in
+    subst (λ (held : Option Files). EndsAfter held near (verify names) layout (text ∷ []) (certificate_source names ∷ []) (outcome_of o)) c.in_ok-judged.ensures.held h in
     let e = ends_on held near far
     (λ q r. rose_after (g.S.Shelf.read_faults c.args.shelf.now q) (g.S.Shelf.read_faults c.read_transfer.new.shelf q) (g.S.Shelf.read_faults c.decide_filed.new.shelf q) (c.in_ok-judged.ensures.reads q) r)
     (verify names) layout (text ∷ []) (certificate_source names ∷ []) (outcome_of o) moved in

@@ -4,7 +4,7 @@ use Rattle.itf_reader.specs.Refusals.{fault_of}
 use Rattle.plane.specs.declared.drawing.Drawing.{Drawing}
 use Rattle.table_layout.specs.Values.{layout_view}
 use Rattle.delivery.specs.AreaAnswers.{plans}
-use Rattle.delivery.specs.AreaLimits.{HasFewCurves}
+use Rattle.delivery.specs.AreaLimits.{IsSmallPlan}
 use Rattle.delivery.specs.Drawings.{AreDrawings}
 use Rattle.delivery.specs.Judging.{at_fault, well_formed, faulty, oversized, judged}
 use Rattle.delivery.specs.Outcomes.{rejected}
@@ -18,14 +18,14 @@ use Rattle.delivery.proofs.rows.judged_for.Goals as goal
 pub check_areas-requires-clause-drawn : goal.check_areas-requires-clause-drawn
 check_areas-requires-clause-drawn c =
     let l = layout_view c.args.layout.now in
-    let j = subst (λ (x : Judged). IsJudged l c.requires.0 x) c.in-Clean.is c.requires.1 in
+    let j = subst (λ (x : Judged). IsJudged l c.requires.text.0 x) c.in-Clean.is c.requires.text.1 in
     ap length c.deref.ensures.value ∙ drawn_count l j.0 c.args.layout.now.areas.items c.in-Clean.drawings.items j.5
 
 pub check_areas-requires-clause-few : goal.check_areas-requires-clause-few
 check_areas-requires-clause-few c =
     let l = layout_view c.args.layout.now in
-    let j = subst (λ (x : Judged). IsJudged l c.requires.0 x) c.in-Clean.is c.requires.1 in
-    subst (λ (ds : List Drawing). All HasFewCurves (plans ds)) (sym c.deref.ensures.value) (few_curves l j.0 (plans c.in-Clean.drawings.items) j.3 j.5)
+    let j = subst (λ (x : Judged). IsJudged l c.requires.text.0 x) c.in-Clean.is c.requires.text.1 in
+    subst (λ (ds : List Drawing). All IsSmallPlan (plans ds)) (sym c.deref.ensures.value) (few_curves l j.0 (plans c.in-Clean.drawings.items) j.3 j.5)
 
 pub returns-in-Misbuilt : goal.returns-in-Misbuilt
 returns-in-Misbuilt c text h =

@@ -17,6 +17,6 @@ returns c rows n h =
       verification = v;
       drawn = h;
       judged = c.in_ok-verification.ensures;
-      told = e ∙ ap (λ (k : ℕ). verified l k (plans ds) v) n;
+      is = e ∙ ap (λ (k : ℕ). verified l k (plans ds) v) n;
     })
     c.verified.ensures

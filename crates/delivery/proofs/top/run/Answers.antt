@@ -5,7 +5,7 @@ use Rattle.delivery.proofs.Certified.{certifies}
 use Rattle.ports.specs.Faults.{ReadRose}
 use Rattle.ports.specs.Files.{Files}
 use Rattle.ports.specs.Output.{Adds, AddsPrefix}
-use Rattle.delivery.specs.Effects.{Begun, Filed}
+use Rattle.delivery.specs.Effects.{IsBegun, IsFiled}
 use Rattle.delivery.specs.OutcomeViews.{outcome_of}
 use Rattle.delivery.proofs.Causes.{caused, never_memory, not_write_fault}
 use Rattle.delivery.proofs.Steps.{rose_after, rose_before, decides_on}
@@ -23,12 +23,12 @@ returns-clause-exact g c = exactly (g.S.Shelf.held c.args.shelf.now)
     c.publish.ensures.status
     (λ n. subst (λ (text : List ℕ). Adds (g.K.Sink.written c.args.out.now) text (g.K.Sink.written c.publish.new.out)) (c.deref.ensures.value ∙ c.in-Ok-report.ensures) (c.publish.ensures.text n))
 
-pub returns-clause-means : goal.returns-clause-means
-returns-clause-means g c =
+pub returns-clause-cause : goal.returns-clause-cause
+returns-clause-cause g c =
     caused (g.S.Shelf.held c.args.shelf.now)
     (ReadRose (g.S.Shelf.read_faults c.args.shelf.now) (g.S.Shelf.read_faults c.publish.new.shelf))
     c.args.words.now (outcome_of c.in-Ok.outcome) c.publish.result
-    (c.outcomes_are_right.ensures.means (g.S.Shelf.held c.args.shelf.now) (g.S.Shelf.read_faults c.args.shelf.now) (g.S.Shelf.read_faults c.publish.new.shelf) c.args.words.now (outcome_of c.in-Ok.outcome))
+    (c.outcomes_are_right.ensures.cause (g.S.Shelf.held c.args.shelf.now) (g.S.Shelf.read_faults c.args.shelf.now) (g.S.Shelf.read_faults c.publish.new.shelf) c.args.words.now (outcome_of c.in-Ok.outcome))
     (decides_on (g.S.Shelf.held c.args.shelf.now)
     (ReadRose (g.S.Shelf.read_faults c.args.shelf.now) (g.S.Shelf.read_faults c.decide.new.shelf))
     (ReadRose (g.S.Shelf.read_faults c.args.shelf.now) (g.S.Shelf.read_faults c.publish.new.shelf))
@@ -40,7 +40,7 @@ pub returns-clause-decided : goal.returns-clause-decided
 returns-clause-decided g c =
     decided (g.S.Shelf.held c.args.shelf.now)
     (ReadRose (g.S.Shelf.read_faults c.args.shelf.now) (g.S.Shelf.read_faults c.publish.new.shelf))
-    c.args.words.now c.publish.result (returns-clause-means g c)
+    c.args.words.now c.publish.result (returns-clause-cause g c)
     (λ files. c.straights_are_decided.ensures.calls files (g.S.Shelf.read_faults c.args.shelf.now) (g.S.Shelf.read_faults c.publish.new.shelf) (g.S.Shelf.read_faults c.args.shelf.now) (g.S.Shelf.read_faults c.publish.new.shelf) c.args.words.now)
 
 pub returns-clause-certified : goal.returns-clause-certified
@@ -58,10 +58,10 @@ returns-clause-certified g c =
     (λ name r. rose_before (g.S.Shelf.read_faults c.args.shelf.now name) (g.S.Shelf.read_faults c.decide.new.shelf name) (g.S.Shelf.read_faults c.publish.new.shelf name) (c.publish.ensures.reads name) r)
     c.args.words.now outcome c.in-Ok.ensures.outcome)
     (sym (c.publish.ensures.status fine) ∙ a)
-    (subst (λ (told : Option Files). Filed outcome.filing told new) c.in-Ok.ensures.held (c.publish.ensures.filed fine))
+    (subst (λ (held : Option Files). IsFiled outcome.filing held new) c.in-Ok.ensures.held (c.publish.ensures.filed fine))
 
-pub returns-clause-does : goal.returns-clause-does
-returns-clause-does g c =
+pub returns-clause-effects : goal.returns-clause-effects
+returns-clause-effects g c =
     let outcome = outcome_of c.in-Ok.outcome in
     let before = g.K.Sink.written c.args.out.now in
     let after = g.K.Sink.written c.publish.new.out in
@@ -77,8 +77,8 @@ returns-clause-does g c =
       answered = c.publish.ensures.status;
       reported = λ n. subst (λ (bytes : List ℕ). Adds before bytes after) text (c.publish.ensures.text n);
       begun = subst (λ (bytes : List ℕ). AddsPrefix before bytes after) text c.publish.ensures.prefix;
-      files = subst (λ (told : Option Files). Begun outcome.filing told new) c.in-Ok.ensures.held c.publish.ensures.begun;
-      filed = λ h. subst (λ (told : Option Files). Filed outcome.filing told new) c.in-Ok.ensures.held (elim h as (λ z. Filed outcome.filing (g.S.Shelf.held c.decide.new.shelf) new) [
+      files = subst (λ (held : Option Files). IsBegun outcome.filing held new) c.in-Ok.ensures.held c.publish.ensures.begun;
+      filed = λ h. subst (λ (held : Option Files). IsFiled outcome.filing held new) c.in-Ok.ensures.held (elim h as (λ z. IsFiled outcome.filing (g.S.Shelf.held c.decide.new.shelf) new) [
         | inl n ↦ c.publish.ensures.filed n
         | inr k ↦ c.publish.ensures.whole (elim k [
           | inl f ↦ inl (λ r. f (rose_after (g.S.Shelf.write_faults c.args.shelf.now) (g.S.Shelf.write_faults c.decide.new.shelf) (g.S.Shelf.write_faults c.publish.new.shelf) c.in-Ok.ensures.writes r))

@@ -7,7 +7,7 @@ use Rattle.plane.specs.Rule.Plans.{plan}
 use Rattle.delivery.specs.AreaAnswers.{plans}
 use Rattle.delivery.specs.AreaCertificates.{claims_of}
 use Rattle.delivery.specs.Verifying.{IsProvedAt}
-use Rattle.delivery.proofs.VerifyingLemmas.{broken_here, levels_more, levels_seen, one_further, proved_here, whole_take}
+use Rattle.delivery.proofs.VerifyingLemmas.{broken_here, levels_more, levels_view, one_further, proved_here, whole_take}
 use Rattle.delivery.proofs.verifying.check_all.Goals as goal
 
 pub returns-in-NotProved : goal.returns-in-NotProved
@@ -37,6 +37,6 @@ returns c =
     let g = c.loop-number.auto.number-end in
     let e : c.loop-number.number ≡ length c.args.certificates.now = omega (arith, f, g) in
     let m = length-map c.args.certificates.now view in (
-      c.loop-number.invariant.levels ∙ ap (λ (cs : List Certificate). map (λ x. x.level) cs) (whole_take c.args.certificates.now c.loop-number.number e) ∙ levels_seen c.args.certificates.now,
+      c.loop-number.invariant.levels ∙ ap (λ (cs : List Certificate). map (λ x. x.level) cs) (whole_take c.args.certificates.now c.loop-number.number e) ∙ levels_view c.args.certificates.now,
       λ k w. c.loop-number.invariant.proved k (omega (arith, w, e, m)),
     )

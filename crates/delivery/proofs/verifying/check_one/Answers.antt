@@ -6,4 +6,4 @@ use Rattle.delivery.proofs.CertificateLemmas.{claims_paired}
 use Rattle.delivery.proofs.verifying.check_one.Goals as goal
 
 pub returns : goal.returns
-returns c = subst (λ (told : Claims). IfOk c.check.result (IsVerdict (plan c.args.drawing.now) told)) (claims_paired c.args.certificate.now c.requires) c.check.ensures.verdict
+returns c = subst (λ (held : Claims). IfOk c.check.result (IsVerdict (plan c.args.drawing.now) held)) (claims_paired c.args.certificate.now c.requires) c.check.ensures.verdict

@@ -3,7 +3,7 @@ use Rattle.certificate.specs.Spelling.{views}
 use Rattle.certificate.specs.declared.notes.Certificate.{Certificate}
 use Rattle.delivery.specs.Verifying.{Spells, unspelt}
 use Rattle.delivery.proofs.Steps.{if_ok}
-use Rattle.delivery.proofs.VerifyingLemmas.{no_list, told_line}
+use Rattle.delivery.proofs.VerifyingLemmas.{no_list, bad_line_named}
 use Rattle.delivery.proofs.verifying.verify_areas.Goals as goal
 
 pub returns-in-Ok : goal.returns-in-Ok
@@ -17,4 +17,4 @@ pub returns-in_ok-line_of-in-Err : goal.returns-in_ok-line_of-in-Err
 returns-in_ok-line_of-in-Err c =
     let line = c.in_ok-line_of-in-Err.field-0 in
     let q = c.in_ok-line_of-in-Err.ensures in
-    unspelt line (λ cs s. no_list c.in-Err.fault line cs q (c.in-Err.ensures.only cs s.spelt s.same)) (told_line c.args.text.now c.in-Err.fault line c.in-Err.ensures.first_bad q) refl
+    unspelt line (λ cs s. no_list c.in-Err.fault line cs q (c.in-Err.ensures.only cs s.spelt s.same)) (bad_line_named c.args.text.now c.in-Err.fault line c.in-Err.ensures.first_bad q) refl

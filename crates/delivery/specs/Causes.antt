@@ -3,7 +3,8 @@ use Rattle.std.specs.Prelude.{◌≡◌, ◌≢◌, ℕ, true, false, List, [], 
 use Rattle.itf_reader.specs.Forms.{Row}
 use Rattle.itf_reader.specs.Readings.{Structure}
 use Rattle.table_layout.specs.Layouts.{Layout}
-use Rattle.delivery.specs.AreaAnswers.{HasFaultyArea, ArePartedAreas, AreLeftAreas, HaveStraightLines}
+use Rattle.delivery.specs.AreaAnswers.{HasFaultyArea, ArePartedAreas, AreLeftAreas}
+use Rattle.delivery.specs.AreaAnswers.{HaveStraightLines}
 use Rattle.delivery.specs.AreaLimits.{has_too_large}
 use Rattle.delivery.specs.Commands.{Command, compile, check, verify, trial}
 use Rattle.delivery.specs.FiledTexts.{IsVerified}
@@ -11,33 +12,42 @@ use Rattle.delivery.specs.Drawings.{AreDrawings}
 use Rattle.plane.specs.Rule.Plans.{Plan}
 use Rattle.delivery.specs.Gathering as gathering
 use Rattle.delivery.specs.Gathering.{Gathered}
-use Rattle.delivery.specs.Judging.{findings, IsMisbuilt, Tells, IsClean, IsChecked}
-use Rattle.delivery.specs.Outcomes.{Outcome, check_target, trial_target, unread, too_long, refused, compiled}
+use Rattle.delivery.specs.Judging.{findings, IsMisbuilt, IsTextOf, IsClean, IsChecked}
+use Rattle.delivery.specs.Outcomes.{Outcome, check_target, trial_target, unread, too_long, refused}
+use Rattle.delivery.specs.Outcomes.{compiled}
 use Rattle.delivery.specs.Verifying.{proved, not_proved, IsVerification}
 
 -- the outcome of what was read for a command
-abbrev pub Amounts : Command → Gathered → Outcome → Type 0
-Amounts c (gathering.unread f) o = o ≡ unread f
-Amounts c (gathering.too_long f) o = o ≡ too_long f
-Amounts c (gathering.refused r) o = o ≡ refused r
-Amounts (compile model) (gathering.texts l ts) o = o ≡ compiled l
-Amounts (check c) (gathering.texts l (text ∷ [])) o = IsChecked (check_target c.certificate) l text o
-Amounts (check c) (gathering.texts l ts) o = ⊥
-Amounts (verify c) (gathering.texts l (text ∷ filed ∷ [])) o = IsVerified l text filed o
-Amounts (verify c) (gathering.texts l ts) o = ⊥
-Amounts (trial n c) (gathering.texts l (text ∷ [])) o = IsChecked (trial_target n c) l text o
-Amounts (trial n c) (gathering.texts l ts) o = ⊥
+abbrev pub HasOutcome : Command → Gathered → Outcome → Type 0
+HasOutcome c (gathering.unread f) o = o ≡ unread f
+HasOutcome c (gathering.too_long f) o = o ≡ too_long f
+HasOutcome c (gathering.refused r) o = o ≡ refused r
+HasOutcome (compile model) (gathering.texts l ts) o = o ≡ compiled l
+HasOutcome (check c) (gathering.texts l (text ∷ [])) o =
+    IsChecked (check_target c.certificate) l text o
+HasOutcome (check c) (gathering.texts l ts) o = ⊥
+HasOutcome (verify c) (gathering.texts l (text ∷ filed ∷ [])) o = IsVerified l text filed o
+HasOutcome (verify c) (gathering.texts l ts) o = ⊥
+HasOutcome (trial n c) (gathering.texts l (text ∷ [])) o = IsChecked (trial_target n c) l text o
+HasOutcome (trial n c) (gathering.texts l ts) o = ⊥
 
 -- ---- the tests that the causes of the answers are made of
--- the transfer tells rows that meet the declarations, and no AREA is over its limit; and of the rows so much
+-- the transfer has rows that meet the declarations, and no AREA is over its limit; and of the
+-- rows so much
 abbrev pub HasSoundRows : Layout → List ℕ → (List (List Row) → Type 0) → Type 0
-HasSoundRows l text test = (rows : List (List Row)) × Tells l text rows × IsClean l rows × (has_too_large rows l.areas ≡ false) × test rows
+HasSoundRows l text test =
+    (rows : List (List Row)) × IsTextOf l text rows × IsClean l rows
+    × (has_too_large rows l.areas ≡ false) × test rows
 
 -- the text of certificates proves the drawings of all areas, so each is a partition
 abbrev pub AreProved : Layout → List ℕ → List (List Row) → Type 0
-AreProved l filed rows = ((ds : List Plan) × AreDrawings l rows ds × (levels : List ℕ) × IsVerification l ds filed (proved levels)) × ArePartedAreas l rows
+AreProved l filed rows =
+    ((ds : List Plan) × AreDrawings l rows ds × (levels : List ℕ)
+    × IsVerification l ds filed (proved levels))
+    × ArePartedAreas l rows
 
--- `compile`: the model has no fault. `check` and `trial`: the drawing of each AREA is a partition. `verify`: the certificates prove it, too.
+-- `compile`: the model has no fault. `check` and `trial`: the drawing of each AREA is a partition.
+-- `verify`: the certificates prove it, too.
 abbrev pub Accepts : Command → Layout → List (List ℕ) → Type 0
 Accepts (compile model) l ts = ⊤
 Accepts (check c) l (text ∷ []) = HasSoundRows l text (ArePartedAreas l)
@@ -49,7 +59,9 @@ Accepts (trial n c) l ts = ⊥
 
 -- a line of the transfer is at fault, or its rows have findings
 abbrev pub HasFault : Layout → List ℕ → Type 0
-HasFault l text = ((n : ℕ) × (code : Structure) × IsMisbuilt l text n code) ⊎ ((rows : List (List Row)) × Tells l text rows × (findings l rows ≢ []))
+HasFault l text =
+    ((n : ℕ) × (code : Structure) × IsMisbuilt l text n code)
+    ⊎ ((rows : List (List Row)) × IsTextOf l text rows × (findings l rows ≢ []))
 
 -- `check` and `trial`: or the drawing of an AREA has a fault, so that it is no partition
 abbrev pub Rejects : Command → Layout → List (List ℕ) → Type 0
@@ -61,23 +73,28 @@ Rejects (verify c) l ts = ⊥
 Rejects (trial n c) l (text ∷ []) = HasFault l text ⊎ HasSoundRows l text (HasFaultyArea l)
 Rejects (trial n c) l ts = ⊥
 
--- `check` and `trial`: the drawing of some AREA is undecided, and each other one is undecided or a partition
-abbrev pub LeavesAreas : Command → Layout → List (List ℕ) → Type 0
-LeavesAreas (compile model) l ts = ⊥
-LeavesAreas (check c) l (text ∷ []) = HasSoundRows l text (AreLeftAreas l)
-LeavesAreas (check c) l ts = ⊥
-LeavesAreas (verify c) l ts = ⊥
-LeavesAreas (trial n c) l (text ∷ []) = HasSoundRows l text (AreLeftAreas l)
-LeavesAreas (trial n c) l ts = ⊥
+-- `check` and `trial`: the drawing of some AREA is undecided, and each other one is undecided or a
+-- partition
+abbrev pub LeavesUndecided : Command → Layout → List (List ℕ) → Type 0
+LeavesUndecided (compile model) l ts = ⊥
+LeavesUndecided (check c) l (text ∷ []) = HasSoundRows l text (AreLeftAreas l)
+LeavesUndecided (check c) l ts = ⊥
+LeavesUndecided (verify c) l ts = ⊥
+LeavesUndecided (trial n c) l (text ∷ []) = HasSoundRows l text (AreLeftAreas l)
+LeavesUndecided (trial n c) l ts = ⊥
 
 -- all lines of AREAs in the transfer are straights
 abbrev pub HasStraightAreas : Command → Layout → List (List ℕ) → Type 0
 HasStraightAreas c l [] = ⊥
-HasStraightAreas c l (text ∷ ts) = (rows : List (List Row)) × Tells l text rows × HaveStraightLines l rows
+HasStraightAreas c l (text ∷ ts) =
+    (rows : List (List Row)) × IsTextOf l text rows × HaveStraightLines l rows
 
--- the filed text breaks a rule: that of its spelling, that of names, or, in the first certificate that does, one of the others
+-- the filed text breaks a rule: that of its spelling, that of names, or, in the first certificate
+-- that does, one of the others
 abbrev pub AreUnproved : Layout → List ℕ → List (List Row) → Type 0
-AreUnproved l filed rows = (ds : List Plan) × AreDrawings l rows ds × (a rule place : ℕ) × IsVerification l ds filed (not_proved a rule place)
+AreUnproved l filed rows =
+    (ds : List Plan) × AreDrawings l rows ds × (a rule place : ℕ)
+    × IsVerification l ds filed (not_proved a rule place)
 
 abbrev pub Unproves : Command → Layout → List (List ℕ) → Type 0
 Unproves (verify c) l (text ∷ filed ∷ []) = HasSoundRows l text (AreUnproved l filed)
@@ -85,7 +102,9 @@ Unproves c l ts = ⊥
 
 -- the rows meet the declarations, and an AREA is over its limit
 abbrev pub HasLargeArea : Layout → List ℕ → Type 0
-HasLargeArea l text = (rows : List (List Row)) × Tells l text rows × IsClean l rows × (has_too_large rows l.areas ≡ true)
+HasLargeArea l text =
+    (rows : List (List Row)) × IsTextOf l text rows × IsClean l rows
+    × (has_too_large rows l.areas ≡ true)
 
 abbrev pub IsOversized : Command → Layout → List (List ℕ) → Type 0
 IsOversized (compile model) l ts = ⊥

@@ -2,12 +2,12 @@ use Rattle.std.proofs.Common.{◌≡◌, ◌++◌}
 use Rattle.std.specs.Iterator.Adapters.{zip_first, zip_second}
 use Rattle.std.specs.Slice.Iter.{iter_rest}
 use Rattle.delivery.specs.AreaAnswers.{plans}
-use Rattle.delivery.specs.Outcomes.{proofs_told}
-use Rattle.delivery.proofs.outcome.proofs_told.Given as goal
+use Rattle.delivery.specs.Outcomes.{proof_answers}
+use Rattle.delivery.proofs.outcome.proof_answers.Given as goal
 
 abbrev pub invariant-loop-drawing : goal.invariant-loop-drawing
 invariant-loop-drawing l = record {
   can_next : (goal.iterator-loop-drawing).can_next l.drawing-iterator;
   is_finite : (goal.iterator-loop-drawing).is_finite l.drawing-iterator;
-  told : l.answers.items ++ proofs_told (plans (iter_rest (zip_first l.drawing-iterator))) (iter_rest (zip_second l.drawing-iterator)) ≡ proofs_told (plans l.drawings) l.levels;
+  whole : l.answers.items ++ proof_answers (plans (iter_rest (zip_first l.drawing-iterator))) (iter_rest (zip_second l.drawing-iterator)) ≡ proof_answers (plans l.drawings) l.levels;
 }
