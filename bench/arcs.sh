@@ -4,16 +4,13 @@
 # numbers is taken away. On a delivery that level 0 settles: the edge list with its tubes, the sweep
 # of the edges, the test of the corners and of the cells, all of the search. On the same one with a
 # bad pair: the search of bad pairs with a half arc. On the same one with a half arc that has no
-# tube: the levels from 0 to 5. Prints ratios, no absolute counts.
+# tube: the levels from 1 to 5. Prints ratios, no absolute counts.
 #
 # usage: bench/arcs.sh [ITFCHECK [SIZE]]    (crates/itfcheck/out/itfcheck and 10000 where none is
 #                                           given; a run takes some minutes)
-set -euo pipefail
-top=$(cd "$(dirname "${BASH_SOURCE[0]}")/.." && pwd)
-itfcheck=$(realpath "${1:-$top/crates/itfcheck/out/itfcheck}")
+. "$(dirname "${BASH_SOURCE[0]}")/begin.sh"
+itfcheck=$(built_program "$@")
 size=${2:-10000}
-work=$(mktemp -d)
-trap 'rm -rf "$work"' EXIT
 cd "$work"
 g++ -O2 -std=c++17 -o plain "$top/bench/plain_sweep.cpp"
 
@@ -82,6 +79,6 @@ for kind in cover arcs; do
     tell "$(counted bad.counts meetings::arcs::arc_meeting near_pairs::finding::least:: near_pairs::finding::pass::)" "$sweep" "bad pairs with a half arc" 0.8
     python3 "$top/bench/drawings.py" $kind-undecided $size "$work"
     count undecided.counts "$itfcheck" check model transfer certificate
-    tell "$(counted undecided.counts level_breaks::finding::first_break)" "$sweep" "all levels"
+    tell "$(counted undecided.counts area_search::levels::search_levels)" "$sweep" "bad pairs, points and levels"
     tell "$(search undecided.counts)" "$sweep" "the undecided search in all"
 done

@@ -3,14 +3,12 @@
 # that is read. Prints how much longer the large one takes, and the peak memory.
 #
 # usage: bench/bad_texts.sh [ITFCHECK]      (crates/itfcheck/out/itfcheck where none is given)
-set -euo pipefail
-top=$(cd "$(dirname "${BASH_SOURCE[0]}")/.." && pwd)
-itfcheck=$(realpath "${1:-$top/crates/itfcheck/out/itfcheck}")
-work=$(mktemp -d)
-trap 'rm -rf "$work"' EXIT
+. "$(dirname "${BASH_SOURCE[0]}")/begin.sh"
+itfcheck=$(built_program "$@")
 cd "$work"
-python3 - "$itfcheck" <<'PY'
-import os, sys
+PYTHONPATH="$top/bench" python3 - "$itfcheck" <<'PY'
+import sys
+from runs import once
 
 program = sys.argv[1]
 SMALL, FULL = 32 << 20, 256 << 20
@@ -36,14 +34,10 @@ bad = [
 
 def check():
     """The last line of the report, the CPU seconds and the peak memory in bytes."""
-    pid = os.fork()
-    if pid == 0:
-        os.dup2(os.open("report", os.O_WRONLY | os.O_CREAT | os.O_TRUNC), 1)
-        os.execv(program, [program, "check", "model", "transfer", "certificates"])
-    _, status, usage = os.wait4(pid, 0)
+    status, cpu, peak = once([program, "check", "model", "transfer", "certificates"], "report")
     with open("report") as file:
         first = file.readline().strip()
-    return first, os.WEXITSTATUS(status), usage.ru_utime + usage.ru_stime, usage.ru_maxrss * 1024
+    return first, status, cpu, peak
 
 
 for name, head, first, part in bad:

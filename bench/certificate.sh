@@ -1,22 +1,11 @@
-#!/bin/sh
+#!/usr/bin/env bash
 # Writes a certificate with a million edges and reads it again, beside a C program that only parses
 # its numbers. Builds both in a scratch folder. Usage: bench/certificate.sh [edges]
-set -eu
+. "$(dirname "${BASH_SOURCE[0]}")/begin.sh"
+. "$top/bench/scratch.sh"
 edges=${1:-1000000}
-top=$(cd "$(dirname "$0")/.." && pwd)
-work=$(mktemp -d)
-trap 'rm -rf "$work"' EXIT
-mkdir -p "$work/crates/certificate_bench/src"
-for crate in ports certificate; do
-    mkdir "$work/crates/$crate"
-    cp -r "$top/crates/$crate/src" "$top/crates/$crate/specs" "$top/crates/$crate/proofs" "$work/crates/$crate"
-done
-cat > "$work/crates.txt" <<'END'
-ports:
-certificate: ports itoa thiserror
-certificate_bench: certificate ports
-END
-cat > "$work/crates/certificate_bench/src/main.rt" <<'END'
+scratch_crate certificate_bench 'certificate ports' ports certificate
+cat > "$crate/src/main.rt" <<'END'
 // Writes a certificate where there is none, else reads it.
 #![tactic(auto)]
 
@@ -70,8 +59,7 @@ fn main(rt: HostRuntime) {
     }
 }
 END
-sed -i "s/NUMBER/$edges/" "$work/crates/certificate_bench/src/main.rt"
-{ echo; sh "$top/bench/whole_file.sh"; } >> "$work/crates/certificate_bench/src/main.rt"
+sed -i "s/NUMBER/$edges/" "$crate/src/main.rt"
 cat > "$work/numbers.c" <<'END'
 #include <stdio.h>
 #include <stdlib.h>
@@ -92,12 +80,9 @@ int main(void) {
 }
 END
 cc -O2 -o "$work/numbers" "$work/numbers.c"
-cd "$work/crates/certificate_bench"
-rt run > "$work/build.log" 2>&1 || { cat "$work/build.log"; exit 1; }
-program=$(find "$work/crates/certificate_bench/out" -type f -perm -u+x -size +20k | head -1)
-cd "$work"
+build_scratch_crate
 rm -f certificate.txt
-echo "write:"; time "$program"
-echo "read:"; time "$program"
-echo "the numbers alone, in C:"; time ./numbers
+echo "write:"; command time "$program"
+echo "read:"; command time "$program"
+echo "the numbers alone, in C:"; command time ./numbers
 ls -l certificate.txt

@@ -10,12 +10,9 @@
 # undecided ones the best of three. Prints ratios, no absolute times.
 #
 # usage: bench/check.sh [ITFCHECK]      (crates/itfcheck/out/itfcheck where none is given)
-set -euo pipefail
-top=$(cd "$(dirname "${BASH_SOURCE[0]}")/.." && pwd)
-itfcheck=$(realpath "${1:-$top/crates/itfcheck/out/itfcheck}")
+. "$(dirname "${BASH_SOURCE[0]}")/begin.sh"
 . "$top/bench/measure.sh"
-work=$(mktemp -d)
-trap 'rm -rf "$work"' EXIT
+itfcheck=$(built_program "$@")
 cd "$work"
 
 cat > parse.c <<'C'

@@ -5,11 +5,8 @@
 # measures nothing, and stops at the first picture that is wrong.
 #
 # usage: bench/draw.sh [ITFCHECK]      (crates/itfcheck/out/itfcheck where none is given)
-set -euo pipefail
-top=$(cd "$(dirname "${BASH_SOURCE[0]}")/.." && pwd)
-itfcheck=$(realpath "${1:-$top/crates/itfcheck/out/itfcheck}")
-work=$(mktemp -d)
-trap 'rm -rf "$work"' EXIT
+. "$(dirname "${BASH_SOURCE[0]}")/begin.sh"
+itfcheck=$(built_program "$@")
 cd "$work"
 
 python3 - "$itfcheck" "$top/tools/draw.py" <<'PY'

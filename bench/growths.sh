@@ -6,11 +6,8 @@
 # refusal answers, byte for byte. It measures nothing, and stops at the first run that does neither.
 #
 # usage: bench/growths.sh [ITFCHECK]      (crates/itfcheck/out/itfcheck where none is given)
-set -euo pipefail
-top=$(cd "$(dirname "${BASH_SOURCE[0]}")/.." && pwd)
-itfcheck=$(realpath "${1:-$top/crates/itfcheck/out/itfcheck}")
-work=$(mktemp -d)
-trap 'rm -rf "$work"' EXIT
+. "$(dirname "${BASH_SOURCE[0]}")/begin.sh"
+itfcheck=$(built_program "$@")
 cd "$work"
 
 cat > refuse.c <<'C'
@@ -58,8 +55,9 @@ void *realloc(void *old, size_t size) {
 C
 cc -O2 -shared -fPIC -o refuse.so refuse.c
 
-python3 - "$itfcheck" <<'PY'
+PYTHONPATH="$top/bench" python3 - "$itfcheck" <<'PY'
 import os, subprocess, sys
+from runs import held, put
 
 MODEL = """TRANSFER Rows; DOMAIN Koord = COORD2 0.000 0.000 1000.000 1000.000;
 MODEL Land TOPIC Cover =
@@ -150,22 +148,6 @@ CHECKS = [
 
 # the words of a command that names no transfer
 WORDS = {"trial": ["trial", "2", "C"]}
-
-
-def put(name, content):
-    if content is None:
-        if os.path.exists(name):
-            os.unlink(name)
-        return
-    with open(name, "wb") as file:
-        file.write(content)
-
-
-def held(name):
-    if not os.path.exists(name):
-        return None
-    with open(name, "rb") as file:
-        return file.read()
 
 
 def run(command, before, number, on):

@@ -9,15 +9,12 @@
 # text in memory.
 #
 # usage: bench/limits.sh [ITFCHECK [MIB]]     (crates/itfcheck/out/itfcheck, and texts of 64 MiB)
-set -euo pipefail
-top=$(cd "$(dirname "${BASH_SOURCE[0]}")/.." && pwd)
-itfcheck=$(realpath "${1:-$top/crates/itfcheck/out/itfcheck}")
+. "$(dirname "${BASH_SOURCE[0]}")/begin.sh"
+itfcheck=$(built_program "$@")
 size=${2:-64}
-work=$(mktemp -d)
-trap 'rm -rf "$work"' EXIT
 cd "$work"
 python3 "$top/bench/drawings.py" grid 500 .
-python3 - "$itfcheck" "$size" <<'PY'
+PYTHONPATH="$top/bench" python3 - "$itfcheck" "$size" <<'PY'
 import math, os, subprocess, sys
 
 PROGRAM, SIZE = sys.argv[1], int(sys.argv[2]) << 20
@@ -25,15 +22,7 @@ AIM_TIME, AIM_MEMORY = 10, 8
 
 
 # A process of its own, since the memory of the one that starts the program counts as the program's.
-MEASURE = """
-import os, sys
-pid = os.fork()
-if pid == 0:
-    os.dup2(os.open("report", os.O_WRONLY | os.O_CREAT | os.O_TRUNC), 1)
-    os.execv(sys.argv[1], sys.argv[1:])
-_, status, usage = os.wait4(pid, 0)
-print(os.WEXITSTATUS(status), usage.ru_utime + usage.ru_stime, usage.ru_maxrss * 1024)
-"""
+MEASURE = "import runs, sys; print(*runs.once(sys.argv[1:], 'report'))"
 
 
 def run(*words):

@@ -1,24 +1,30 @@
-# A function for the scripts beside this file, which source it.
+# Functions that measure runs of commands, with runs.py. sweep.sh, verify.sh, check.sh, text.sh,
+# values.sh, numbers.sh and worst.sh source it, after begin.sh.
+
+# CPU time in milliseconds and peak memory in KiB of one run of a command, and its status
+once() {
+    PYTHONPATH="$top/bench" python3 - "$@" <<'PY'
+import sys
+from runs import once
+status, spent, peak = once(sys.argv[1:])
+print(round(spent * 1000), peak // 1024, status)
+PY
+}
 
 # CPU time in milliseconds and peak memory in KiB of a command that ends with a status, the best
 # of three runs
 measure() {
-    python3 - "$@" <<'PY'
-import os, sys
+    PYTHONPATH="$top/bench" python3 - "$@" <<'PY'
+import sys
+from runs import once
 best, peak = None, 0
 for _ in range(3):
-    pid = os.fork()
-    if pid == 0:
-        sink = os.open(os.devnull, os.O_WRONLY)
-        os.dup2(sink, 1)
-        os.execvp(sys.argv[2], sys.argv[2:])
-    _, status, usage = os.wait4(pid, 0)
-    if os.WEXITSTATUS(status) != int(sys.argv[1]):
-        sys.exit(f"{sys.argv[2]} ended with {os.WEXITSTATUS(status)}")
-    spent = usage.ru_utime + usage.ru_stime
+    status, spent, most = once(sys.argv[2:])
+    if status != int(sys.argv[1]):
+        sys.exit(f"{sys.argv[2]} ended with {status}")
     best = spent if best is None else min(best, spent)
-    peak = max(peak, usage.ru_maxrss)
-print(round(best * 1000), peak)
+    peak = max(peak, most)
+print(round(best * 1000), peak // 1024)
 PY
 }
 
@@ -26,23 +32,18 @@ PY
 # run in five rounds, one after the other, so that what else the machine does meets all of them; the
 # best of the rounds counts. Each has to end with status 0.
 measure_in_turn() {
-    python3 - "$@" <<'PY'
-import os, shlex, sys
+    PYTHONPATH="$top/bench" python3 - "$@" <<'PY'
+import shlex, sys
+from runs import once
 commands = [shlex.split(command) for command in sys.argv[1:]]
 best, peak = [None] * len(commands), [0] * len(commands)
 for _ in range(5):
     for i, command in enumerate(commands):
-        pid = os.fork()
-        if pid == 0:
-            sink = os.open(os.devnull, os.O_WRONLY)
-            os.dup2(sink, 1)
-            os.execvp(command[0], command)
-        _, status, usage = os.wait4(pid, 0)
+        status, spent, most = once(command)
         if status:
-            sys.exit("%s ended with %d" % (command, os.WEXITSTATUS(status)))
-        spent = usage.ru_utime + usage.ru_stime
+            sys.exit("%s ended with %d" % (command, status))
         best[i] = spent if best[i] is None else min(best[i], spent)
-        peak[i] = max(peak[i], usage.ru_maxrss)
-print(*(word for i in range(len(commands)) for word in (round(best[i] * 1000), peak[i])))
+        peak[i] = max(peak[i], most)
+print(*(word for i in range(len(commands)) for word in (round(best[i] * 1000), peak[i] // 1024)))
 PY
 }

@@ -7,11 +7,8 @@
 # limit, and `check` has to leave the file of the certificates as it was.
 #
 # usage: bench/model_memory.sh [ITFCHECK]      (crates/itfcheck/out/itfcheck where none is given)
-set -euo pipefail
-top=$(cd "$(dirname "${BASH_SOURCE[0]}")/.." && pwd)
-itfcheck=$(realpath "${1:-$top/crates/itfcheck/out/itfcheck}")
-work=$(mktemp -d)
-trap 'rm -rf "$work"' EXIT
+. "$(dirname "${BASH_SOURCE[0]}")/begin.sh"
+itfcheck=$(built_program "$@")
 cd "$work"
 python3 - "$itfcheck" <<'PY'
 import os, resource, sys

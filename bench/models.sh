@@ -5,18 +5,11 @@
 # of the text's length.
 #
 # usage: bench/models.sh      (building proves both crates anew: some ten minutes)
-set -euo pipefail
-top=$(cd "$(dirname "${BASH_SOURCE[0]}")/.." && pwd)
-work=$(mktemp -d)
-trap 'rm -rf "$work"' EXIT
-for crate in ports ili_lexer ili_grammar; do
-    mkdir -p "$work/crates/$crate"
-    cp -r "$top/crates/$crate/src" "$top/crates/$crate/specs" "$top/crates/$crate/proofs" "$work/crates/$crate"
-done
-grep -E '^(ports|ili_lexer|ili_grammar):' "$top/crates.txt" > "$work/crates.txt"
-echo 'models_bench: ports ili_lexer ili_grammar' >> "$work/crates.txt"
-mkdir -p "$work/crates/models_bench/src"
-cat > "$work/crates/models_bench/src/main.rt" <<'END'
+. "$(dirname "${BASH_SOURCE[0]}")/begin.sh"
+. "$top/bench/scratch.sh"
+below='ports ili_lexer ili_grammar'
+scratch_crate models_bench "$below" $below
+cat > "$crate/src/main.rt" <<'END'
 // Lexes and parses the text of `model.ili`.
 #![tactic(auto)]
 
@@ -55,12 +48,7 @@ fn main(rt: HostRuntime) {
     }
 }
 END
-{ echo; sh "$top/bench/whole_file.sh"; } >> "$work/crates/models_bench/src/main.rt"
-
-cd "$work/crates/models_bench"
-rt run > "$work/build.log" 2>&1 < /dev/null || { tail -40 "$work/build.log"; exit 1; }
-program=$(find "$work/crates/models_bench/out" -type f -perm -u+x -size +20k | head -1)
-cd "$work"
+build_scratch_crate
 mkdir texts
 python3 - <<'PY'
 FULL = 4_194_304
@@ -106,8 +94,9 @@ for number, (name, text) in enumerate(texts):
     with open(f"texts/{number} {name}", "wb") as file:
         file.write(text)
 PY
-python3 - "$program" <<'PY'
+PYTHONPATH="$top/bench" python3 - "$program" <<'PY'
 import os, sys
+from runs import once
 
 
 def run(path):
@@ -115,21 +104,14 @@ def run(path):
     os.link(path, "model.ili")
     best = None
     for _ in range(3):
-        reader, writer = os.pipe()
-        pid = os.fork()
-        if pid == 0:
-            os.dup2(writer, 1)
-            os.execv(sys.argv[1], sys.argv[1:2])
-        os.close(writer)
-        answer = os.read(reader, 1000).decode().strip()
-        os.close(reader)
-        _, status, usage = os.wait4(pid, 0)
+        status, cpu, peak = once(sys.argv[1:2], "answer")
         if status:
             sys.exit(f"{path}: ended with {status}")
-        cpu = usage.ru_utime + usage.ru_stime
         best = cpu if best is None else min(best, cpu)
     os.unlink("model.ili")
-    return answer, best, usage.ru_maxrss * 1024
+    with open("answer", "rb") as file:
+        answer = file.read(1000).decode().strip()
+    return answer, best, peak
 
 
 first = None

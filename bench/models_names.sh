@@ -6,15 +6,12 @@
 #
 # usage: bench/models_names.sh              (the first use of ./itfcheck proves and builds it)
 #        bench/models_names.sh --texts DIR  (only writes the models there)
-set -euo pipefail
-top=$(cd "$(dirname "${BASH_SOURCE[0]}")/.." && pwd)
+. "$(dirname "${BASH_SOURCE[0]}")/begin.sh"
 if [ "${1:-}" = --texts ]; then
     texts=${2:?--texts wants a folder}
     mkdir -p "$texts"
     texts=$(cd "$texts" && pwd)
 else
-    work=$(mktemp -d)
-    trap 'rm -rf "$work"' EXIT
     texts=$work/texts
     mkdir "$texts"
 fi
@@ -98,8 +95,9 @@ cp "$texts/0 a chain of domains, 1 MB" "$work/model.ili"
 [ -x "$top/crates/itfcheck/out/itfcheck" ] || { tail -20 "$work/first.log"; exit 1; }
 rm "$work/model.ili"
 cd "$work"
-python3 - "$top/itfcheck" <<'PY'
+PYTHONPATH="$top/bench" python3 - "$top/itfcheck" <<'PY'
 import os, sys
+from runs import once
 
 
 def run(path):
@@ -107,18 +105,12 @@ def run(path):
     os.link(path, "model.ili")
     best = None
     for _ in range(3):
-        with open("answer", "wb") as answer:
-            pid = os.fork()
-            if pid == 0:
-                os.dup2(answer.fileno(), 1)
-                os.execv(sys.argv[1], [sys.argv[1], "compile", "model.ili"])
-            _, status, usage = os.wait4(pid, 0)
-        cpu = usage.ru_utime + usage.ru_stime
+        status, cpu, peak = once([sys.argv[1], "compile", "model.ili"], "answer")
         best = cpu if best is None else min(best, cpu)
     os.unlink("model.ili")
     with open("answer", "rb") as answer:
         line = answer.readline(200).decode(errors="replace").strip()
-    return os.waitstatus_to_exitcode(status), line, best, usage.ru_maxrss * 1024
+    return status, line, best, peak
 
 
 first = None

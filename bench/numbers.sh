@@ -3,12 +3,9 @@
 # C program that reads the same file and parses its numbers. Prints ratios, no absolute times.
 #
 # usage: bench/numbers.sh [OBJECTS]      (2,000,000 where none is given: about 40 MB)
-set -euo pipefail
-here=$(cd "$(dirname "${BASH_SOURCE[0]}")/.." && pwd)
+. "$(dirname "${BASH_SOURCE[0]}")/begin.sh"
+. "$top/bench/measure.sh"
 objects=${1:-2000000}
-. "$here/bench/measure.sh"
-work=$(mktemp -d)
-trap 'rm -rf "$work"' EXIT
 cd "$work"
 
 cat > model <<'MODEL'
@@ -45,11 +42,11 @@ int main(int argc, char **argv) {
 C
 cc -O2 -o plain plain.c
 
-"$here/itfcheck" check model transfer certificates > /dev/null
+"$top/itfcheck" check model transfer certificates > /dev/null
 size=$(( $(stat -c %s transfer) / 1024 ))
 read -r count_time _ <<< "$(measure 0 wc -l transfer)"
 read -r plain_time _ <<< "$(measure 0 ./plain transfer)"
-read -r check_time check_peak <<< "$(measure 0 "$here/crates/itfcheck/out/itfcheck" check model transfer certificates)"
+read -r check_time check_peak <<< "$(measure 0 "$top/crates/itfcheck/out/itfcheck" check model transfer certificates)"
 awk -v s="$size" -v w="$count_time" -v p="$plain_time" -v c="$check_time" -v m="$check_peak" -v n="$objects" 'BEGIN {
     printf "objects: %d, file: %d MiB\n", n, s / 1024
     printf "CPU time of check: %.1f times the plain C program, %.1f times wc -l\n", c / p, c / (w < 1 ? 1 : w)

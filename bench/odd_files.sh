@@ -7,11 +7,8 @@
 # full disk.
 #
 # usage: bench/odd_files.sh [ITFCHECK]      (crates/itfcheck/out/itfcheck where none is given)
-set -euo pipefail
-top=$(cd "$(dirname "${BASH_SOURCE[0]}")/.." && pwd)
-itfcheck=$(realpath "${1:-$top/crates/itfcheck/out/itfcheck}")
-work=$(mktemp -d)
-trap 'rm -rf "$work"' EXIT
+. "$(dirname "${BASH_SOURCE[0]}")/begin.sh"
+itfcheck=$(built_program "$@")
 cd "$work"
 chmod 755 .
 cp "$itfcheck" itfcheck
@@ -63,8 +60,9 @@ OPENS_AT(openat64)
 C
 cc -O2 -shared -fPIC -o change.so change.c -ldl
 
-python3 - <<'PY'
+PYTHONPATH="$top/bench" python3 - <<'PY'
 import os, subprocess, sys
+from runs import held, put
 
 CERTIFICATE_LIMIT, TRANSFER_LIMIT, MODEL_LIMIT = 1 << 30, 256 << 20, 4 << 20
 PIECE = 65536
@@ -76,21 +74,6 @@ PROVED = b"AREA Cover Parcel Form PROVED 0 4 1\nVERDICT ACCEPTED 2\n"
 OUTSIDE = TRANSFER.replace(b" 150.000 150.000", b" 300.000 300.000")
 KEPT = b"as before"
 DONE = 0
-
-
-def put(name, content):
-    if os.path.exists(name):
-        os.unlink(name)
-    if content is not None:
-        with open(name, "wb") as file:
-            file.write(content)
-
-
-def held(name):
-    if not os.path.isfile(name):
-        return None
-    with open(name, "rb") as file:
-        return file.read()
 
 
 def longer(name, content, size):

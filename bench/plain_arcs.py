@@ -25,7 +25,7 @@ import math
 import sys
 from fractions import Fraction
 
-from plain_partition import Union, meet_badly, turn
+from plain_partition import Union, by_faces, meet_badly, tell, turn
 from random_pairs import HalfArc, Straight, are_bad
 from tubes import NoTube, by_words
 
@@ -450,18 +450,8 @@ def decide(curves, points):
     if level is None:
         return ("UNDECIDED", *next(breaks(curves, LEVELS - 1)))
     cells = Cells(curves)
-    faces = [cells.face(at) for at in points]
-    outer = cells.union.root(cells.outer)
-    if outer in faces:
-        return ("OUTSIDE", faces.index(outer))
-    for first, face in enumerate(faces):
-        if face in faces[first + 1 :]:
-            return ("TWO", first, faces.index(face, first + 1))
-    for curve in range(len(curves)):
-        for face, side in zip(cells.faces_beside(curve), ("LEFT", "RIGHT")):
-            if face != outer and face not in faces:
-                return ("EMPTY", curve, side)
-    return ("PROVED", level)
+    beside = map(cells.faces_beside, range(len(curves)))
+    return by_faces(cells, points, beside, ("PROVED", level))
 
 
 def read(text):
@@ -480,10 +470,7 @@ def read(text):
 
 def main():
     with open(sys.argv[1]) as file:
-        kind, *names = decide(*read(file.read()))
-    if kind == "MEETING":
-        names = ["%d-%d" % pair for pair in names[0]]
-    print(kind, *names)
+        tell(*decide(*read(file.read())))
 
 
 if __name__ == "__main__":

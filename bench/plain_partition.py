@@ -12,6 +12,8 @@ usage: plain_partition.py DRAWING
 DRAWING has a line `S x y x y` for each straight and `P x y` for each point. Prints the answer:
 MEETING and all pairs that meet badly, ON point curve, OUTSIDE point, TWO point point, EMPTY curve
 LEFT or RIGHT, or PROVED. Curves and points are numbered from 0.
+
+plain_arcs.py, random_arcs.py and random_drawings.py import parts of it.
 """
 import sys
 from fractions import Fraction
@@ -150,6 +152,14 @@ def decide(straights, points):
             if is_on(straight, at):
                 return ("ON", point, curve)
     cells = Cells(straights)
+    return by_faces(cells, points, map(cells.sides, straights), ("PROVED",))
+
+
+def by_faces(cells, points, beside, proved):
+    """The answer where all points are off all curves, which meet in control points alone.
+
+    `beside` has the faces left and right of each curve, `proved` the answer for a partition.
+    """
     faces = [cells.face(at) for at in points]
     outer = cells.union.root(cells.outer)
     if outer in faces:
@@ -157,11 +167,18 @@ def decide(straights, points):
     for first, face in enumerate(faces):
         if face in faces[first + 1 :]:
             return ("TWO", first, faces.index(face, first + 1))
-    for curve, straight in enumerate(straights):
-        for face, side in zip(cells.sides(straight), ("LEFT", "RIGHT")):
+    for curve, sides in enumerate(beside):
+        for face, side in zip(sides, ("LEFT", "RIGHT")):
             if face != outer and face not in faces:
                 return ("EMPTY", curve, side)
-    return ("PROVED",)
+    return proved
+
+
+def tell(kind, *names):
+    """Prints an answer."""
+    if kind == "MEETING":
+        names = ["%d-%d" % pair for pair in names[0]]
+    print(kind, *names)
 
 
 def main():
@@ -174,10 +191,7 @@ def main():
                 straights.append((numbers[:2], numbers[2:]))
             elif word == "P":
                 points.append(numbers)
-    kind, *names = decide(straights, points)
-    if kind == "MEETING":
-        names = ["%d-%d" % pair for pair in names[0]]
-    print(kind, *names)
+    tell(*decide(straights, points))
 
 
 if __name__ == "__main__":

@@ -4,11 +4,8 @@
 # itself. A function that the compiler wrote into its caller counts for the caller, and so its crate.
 #
 # usage: bench/profile.sh [ITFCHECK]      (crates/itfcheck/out/itfcheck where none is given)
-set -euo pipefail
-top=$(cd "$(dirname "${BASH_SOURCE[0]}")/.." && pwd)
-itfcheck=$(realpath "${1:-$top/crates/itfcheck/out/itfcheck}")
-work=$(mktemp -d)
-trap 'rm -rf "$work"' EXIT
+. "$(dirname "${BASH_SOURCE[0]}")/begin.sh"
+itfcheck=$(built_program "$@")
 cd "$work"
 python3 "$top/bench/drawings.py" grid 500 "$work"
 for command in check verify; do

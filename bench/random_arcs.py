@@ -15,23 +15,30 @@ names: of certificates with some numbers changed, and of certificates that are w
 drawing at any level, whether it is a partition or not. It stops at the first difference, and leaves
 its files.
 """
-import collections
 import math
-import random
 import re
-import sys
-import tempfile
 
 import plain_arcs
 import plain_certificate
 import second_checker
 from plain_partition import turn
-from random_drawings import MODEL, NAMES, fail, metres, run, wanted
+from random_drawings import (
+    MODEL,
+    NAMES,
+    compare_many,
+    fail,
+    metres,
+    one_in_each_face,
+    run,
+    wanted,
+    with_objects,
+)
 from random_pairs import are_bad
 from tubes import NoTube, by_words
 
 STEPS = (60, 200, 1000, 5000, 5000, 20000, 20000, 50000)
 WINDOW = 1000000
+ARCS_TOO = MODEL.replace("(STRAIGHTS)", "(STRAIGHTS, ARCS)")
 SLIPS = ("empty", "two", "outside", "on", "cross")
 
 
@@ -376,19 +383,7 @@ def points(chance, step, curves, corners, slips):
     if plain_arcs.bad_pairs(curves) or plain_arcs.settled(curves) is None:
         return free[: chance.randrange(5)]
     cells = plain_arcs.Cells(curves)
-    outer = cells.union.root(cells.outer)
-    chosen, held = [], set()
-    for at in free:
-        face = cells.face(at)
-        if face == outer:
-            keep = "outside" in slips and chance.random() < 0.05
-        elif face in held:
-            keep = "two" in slips and chance.random() < 0.05
-        else:
-            keep = not ("empty" in slips and chance.random() < 0.2)
-            held.add(face)
-        if keep:
-            chosen.append(at)
+    chosen = one_in_each_face(chance, cells, free, slips, {"outside": 0.05, "two": 0.05})
     if "on" in slips and curves:
         chosen += filter(is_in_window, [on_curve(chance, curves)])
     chance.shuffle(chosen)
@@ -439,7 +434,7 @@ def whole_places(curve):
 def transfer(strokes, placed):
     """The transfer's text, the curves, and the lines of the curves and of the points."""
     lines = ["SCNT", "////", "MTID Bench", "MODL Bench", "TOPI Land", "TABL Parcel_Form"]
-    curves, ends, objects = [], [], []
+    curves, ends = [], []
     for number, stroke in enumerate(strokes, 1):
         lines += ["OBJE %d" % number, "STPT " + metres(stroke[0][0])]
         for line in stroke:
@@ -453,12 +448,8 @@ def transfer(strokes, placed):
                 # a vertex at the place before it draws nothing
                 lines.append("LIPT " + metres(line[-1]))
         lines.append("ELIN")
-    lines += ["ETAB", "TABL Parcel"]
-    for number, at in enumerate(placed, 1):
-        lines.append("OBJE %d %s" % (number, metres(at)))
-        objects.append(len(lines))
-    lines += ["ETAB", "ETOP", "EMOD", "ENDE", ""]
-    return "\n".join(lines), curves, ends, objects
+    text, objects = with_objects(lines, placed)
+    return text, curves, ends, objects
 
 
 def wanted_lines(answer, ends, objects):
@@ -628,16 +619,7 @@ def answer_word(answer):
 
 
 def main():
-    program, count = sys.argv[1], int(sys.argv[2])
-    chance = random.Random(int(sys.argv[3]) if len(sys.argv) > 3 else 1)
-    folder = tempfile.mkdtemp()
-    with open(folder + "/M", "w") as file:
-        file.write(MODEL.replace("(STRAIGHTS)", "(STRAIGHTS, ARCS)"))
-    tally = collections.Counter()
-    for _ in range(count):
-        compare(program, folder, chance, tally)
-    for what, times in sorted(tally.items()):
-        print(what, times)
+    compare_many(compare, ARCS_TOO)
 
 
 if __name__ == "__main__":

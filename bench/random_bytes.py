@@ -9,17 +9,14 @@ Of a changed transfer `check` has to accept, reject or leave undecided, and it h
 of the certificates exactly where it accepts; `verify` has to accept that file then. A changed model
 has to be compiled or refused. It stops at the first difference, and leaves its files.
 """
-import collections
 import os
-import random
 import subprocess
-import sys
-import tempfile
 
 import random_arcs
 import second_checker
-from random_drawings import MODEL, NAMES, fail
+from random_drawings import NAMES, compare_many, fail
 
+MODEL = random_arcs.ARCS_TOO.encode()
 BYTES = b"0123456789 .-@\\_:;=()[]*>,/!ABCDEILMNOPRSTV\n\r\t\x00\xff"
 # a circle with a square in the tube of its first half arc, and a square with a straight within
 ROUND = [[((510000, 500000), (500000, 510000), (490000, 500000)),
@@ -105,24 +102,21 @@ def judge_model(program, folder, text):
     return "model, status %d" % status
 
 
+def compare(program, folder, chance, tally):
+    strokes, placed = chance.choice(DELIVERIES)
+    text, curves, _, _ = random_arcs.transfer(strokes, placed)
+    put(folder, "M", MODEL)
+    put(folder, "T", text.encode())
+    if run(program, folder, "check", "M", "T", "C")[0] != 0:
+        fail(folder, "check", "not accepted", "a partition")
+    filed, areas = held(folder, "C"), [(NAMES, curves, placed)]
+    tally[compare_certificate(program, folder, areas, changed(chance, filed))] += 1
+    tally[judge_transfer(program, folder, changed(chance, text.encode()))] += 1
+    tally[judge_model(program, folder, changed(chance, MODEL))] += 1
+
+
 def main():
-    program, count = sys.argv[1], int(sys.argv[2])
-    chance = random.Random(int(sys.argv[3]) if len(sys.argv) > 3 else 1)
-    folder, tally = tempfile.mkdtemp(), collections.Counter()
-    model = MODEL.replace("(STRAIGHTS)", "(STRAIGHTS, ARCS)").encode()
-    for _ in range(count):
-        strokes, placed = chance.choice(DELIVERIES)
-        text, curves, _, _ = random_arcs.transfer(strokes, placed)
-        put(folder, "M", model)
-        put(folder, "T", text.encode())
-        if run(program, folder, "check", "M", "T", "C")[0] != 0:
-            fail(folder, "check", "not accepted", "a partition")
-        filed, areas = held(folder, "C"), [(NAMES, curves, placed)]
-        tally[compare_certificate(program, folder, areas, changed(chance, filed))] += 1
-        tally[judge_transfer(program, folder, changed(chance, text.encode()))] += 1
-        tally[judge_model(program, folder, changed(chance, model))] += 1
-    for what, times in sorted(tally.items()):
-        print(what, times)
+    compare_many(compare, random_arcs.ARCS_TOO)
 
 
 if __name__ == "__main__":

@@ -9,6 +9,8 @@ a point, one with two, a point outside or on a line, two lines that cross. `chec
 answer of plain_partition.py by the lines of the transfer; second_checker.py has to find each
 certificate proved; and of certificates with some numbers changed `verify` has to name the rule and
 the place that second_checker.py names. It stops at the first difference, and leaves its files.
+
+random_arcs.py and random_bytes.py import parts of it.
 """
 import collections
 import os
@@ -81,22 +83,31 @@ def points(chance, size, straights, slips):
     if plain_partition.bad_pairs(straights):
         return free[: chance.randrange(3)]
     cells = plain_partition.Cells(straights)
+    chosen = one_in_each_face(chance, cells, free, slips, {"outside": 0.01, "two": 0.02})
+    if "on" in slips and straights:
+        chosen.append(chance.choice(straights)[0])
+    chance.shuffle(chosen)
+    return chosen
+
+
+def one_in_each_face(chance, cells, free, slips, parts):
+    """Of places off all curves one in each bounded face; a slip takes or leaves some of them.
+
+    `parts` has the part of the places outside, and of further ones in a face, that a slip takes.
+    """
     outer = cells.union.root(cells.outer)
     chosen, held = [], set()
     for at in free:
         face = cells.face(at)
         if face == outer:
-            keep = "outside" in slips and chance.random() < 0.01
+            keep = "outside" in slips and chance.random() < parts["outside"]
         elif face in held:
-            keep = "two" in slips and chance.random() < 0.02
+            keep = "two" in slips and chance.random() < parts["two"]
         else:
             keep = not ("empty" in slips and chance.random() < 0.2)
             held.add(face)
         if keep:
             chosen.append(at)
-    if "on" in slips and straights:
-        chosen.append(chance.choice(straights)[0])
-    chance.shuffle(chosen)
     return chosen
 
 
@@ -107,16 +118,21 @@ def metres(place):
 def transfer(straights, placed):
     """The transfer's text, and the lines of the straights and of the points."""
     lines = ["SCNT", "////", "MTID Bench", "MODL Bench", "TOPI Land", "TABL Parcel_Form"]
-    curves, objects = [], []
+    curves = []
     for number, (start, end) in enumerate(straights, 1):
         lines += ["OBJE %d" % number, "STPT " + metres(start), "LIPT " + metres(end), "ELIN"]
         curves.append(len(lines) - 1)
-    lines += ["ETAB", "TABL Parcel"]
+    text, objects = with_objects(lines, placed)
+    return text, curves, objects
+
+
+def with_objects(lines, placed):
+    """The text of a transfer that begins with these lines, and the lines of the points."""
+    lines, objects = lines + ["ETAB", "TABL Parcel"], []
     for number, at in enumerate(placed, 1):
         lines.append("OBJE %d %s" % (number, metres(at)))
         objects.append(len(lines))
-    lines += ["ETAB", "ETOP", "EMOD", "ENDE", ""]
-    return "\n".join(lines), curves, objects
+    return "\n".join(lines + ["ETAB", "ETOP", "EMOD", "ENDE", ""]), objects
 
 
 # ---- comparing
@@ -202,17 +218,22 @@ def compare(program, folder, chance, tally):
             file.write(certificate)
 
 
-def main():
+def compare_many(compare_one, model):
+    """Compares as often as the arguments say, in a folder with the model; tells what came out."""
     program, count = sys.argv[1], int(sys.argv[2])
     chance = random.Random(int(sys.argv[3]) if len(sys.argv) > 3 else 1)
     folder = tempfile.mkdtemp()
     with open(folder + "/M", "w") as file:
-        file.write(MODEL)
+        file.write(model)
     tally = collections.Counter()
     for _ in range(count):
-        compare(program, folder, chance, tally)
+        compare_one(program, folder, chance, tally)
     for what, times in sorted(tally.items()):
         print(what, times)
+
+
+def main():
+    compare_many(compare, MODEL)
 
 
 if __name__ == "__main__":

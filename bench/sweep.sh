@@ -5,21 +5,12 @@
 # `meetings` is built in a scratch folder. Prints ratios, no absolute times.
 #
 # usage: bench/sweep.sh      (building proves `plane` and the crates above it: some minutes)
-set -euo pipefail
-top=$(cd "$(dirname "${BASH_SOURCE[0]}")/.." && pwd)
+. "$(dirname "${BASH_SOURCE[0]}")/begin.sh"
 . "$top/bench/measure.sh"
-work=$(mktemp -d)
-trap 'rm -rf "$work"' EXIT
+. "$top/bench/scratch.sh"
 below='ports plane straight_predicates arc_predicates line_sweep near_pairs meetings'
-for crate in $below; do
-    mkdir -p "$work/crates/$crate"
-    cp -r "$top/crates/$crate/src" "$top/crates/$crate/specs" "$top/crates/$crate/proofs" "$work/crates/$crate" 2> /dev/null || true
-done
-for crate in $below; do grep -E "^$crate:" "$top/crates.txt"; done > "$work/crates.txt"
-echo 'sweep_bench: ports plane straight_predicates arc_predicates line_sweep near_pairs meetings slab' >> "$work/crates.txt"
-bench="$work/crates/sweep_bench"
-mkdir -p "$bench/src"
-cat > "$bench/src/main.rt" <<'END'
+scratch_crate sweep_bench "$below slab" $below
+cat > "$crate/src/main.rt" <<'END'
 // Reads straights as 32-bit numbers and tells whether two of them meet badly; with any word it only
 // draws them.
 #![tactic(auto)]
@@ -34,47 +25,10 @@ use ports::{Memory, RealShelf, Shelf};
 use std::alloc::Global;
 use std::env::Env;
 
-const LEAST: i64 = -2_147_483_648;
-const GREATEST: i64 = 2_147_483_647;
-const WINDOW: Window2 = Window2 {
-    low: Point { x: LEAST, y: LEAST },
-    high: Point { x: GREATEST, y: GREATEST },
-};
-
-/// The number that four bytes spell, the lowest first.
-fn number(bytes: Option<&[u8]>) -> i64 {
-    match bytes {
-        Some([a, b, c, d]) => i32::from_le_bytes([*a, *b, *c, *d]) as i64,
-        _ => 0,
-    }
-}
-
-fn is_inside(window: &Window2, p: Point) -> bool
-    ensures { IsTrue result → IsInside window.now.low window.now.high p }
-{
-    if window.low.x <= p.x
-        && p.x <= window.high.x
-        && window.low.y <= p.y
-        && p.y <= window.high.y
-    {
-        return true;
-    }
-    false
-}
-
-fn add_straight(drawing: &mut Drawing, from: Point, to: Point)
-    requires { AreStraights drawing.old.curves.items }
-    ensures { AreStraights drawing.new.curves.items }
-{
-    if from != to
-        && drawing.curves.len() < 1_000_000
-        && is_inside(&drawing.window, from)
-        && is_inside(&drawing.window, to)
-    {
-        let _ = drawing.add_straight(from, to, 0);
-    }
-}
-
+END
+sh "$top/bench/straights.sh" 'requires { AreStraights drawing.old.curves.items }' \
+    'ensures { AreStraights drawing.new.curves.items }' >> "$crate/src/main.rt"
+cat >> "$crate/src/main.rt" <<'END'
 fn drawing_of(alloc: Global, bytes: &[u8]) -> Drawing
     ensures { AreStraights result.curves.items }
 {
@@ -113,9 +67,8 @@ fn main(rt: HostRuntime) {
     }
 }
 END
-{ echo; sh "$top/bench/whole_file.sh"; } >> "$bench/src/main.rt"
-mkdir -p "$bench/proofs/drawing_of"
-cat > "$bench/proofs/drawing_of/Invariants.antt" <<'END'
+mkdir -p "$crate/proofs/drawing_of"
+cat > "$crate/proofs/drawing_of/Invariants.antt" <<'END'
 use Rattle.std.proofs.Common.{◌≡◌, ℕ}
 use Rattle.meetings.specs.StraightEdges.{AreStraights}
 use Rattle.sweep_bench.proofs.drawing_of.Given as goal
@@ -126,10 +79,7 @@ invariant-loop-line l =
     × (goal.iterator-loop-line).is_finite l.line-iterator
     × AreStraights l.drawing.curves.items
 END
-cd "$bench"
-rt run > "$work/build.log" 2>&1 < /dev/null || { tail -40 "$work/build.log"; exit 1; }
-program="$bench/out/sweep_bench"
-cd "$work"
+build_scratch_crate
 g++ -O2 -std=c++17 -o plain "$top/bench/plain_sweep.cpp"
 for drawing in 'grid 500' 'parcels 100000'; do
     python3 "$top/bench/drawings.py" $drawing "$work"

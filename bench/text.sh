@@ -6,12 +6,9 @@
 # programs run in turn, the best of five counts. Prints ratios within one run.
 #
 # usage: bench/text.sh [ITFCHECK]      (crates/itfcheck/out/itfcheck where none is given)
-set -euo pipefail
-top=$(cd "$(dirname "${BASH_SOURCE[0]}")/.." && pwd)
-itfcheck=$(realpath "${1:-$top/crates/itfcheck/out/itfcheck}")
+. "$(dirname "${BASH_SOURCE[0]}")/begin.sh"
 . "$top/bench/measure.sh"
-work=$(mktemp -d)
-trap 'rm -rf "$work"' EXIT
+itfcheck=$(built_program "$@")
 cd "$work"
 
 cat > parse.c <<'C'

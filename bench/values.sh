@@ -4,12 +4,9 @@
 # wrong in each row, at two sizes. Prints ratios, no absolute times.
 #
 # usage: bench/values.sh [OBJECTS]      (1,000,000 where none is given: about 40 MB)
-set -euo pipefail
-here=$(cd "$(dirname "${BASH_SOURCE[0]}")/.." && pwd)
+. "$(dirname "${BASH_SOURCE[0]}")/begin.sh"
+. "$top/bench/measure.sh"
 objects=${1:-1000000}
-. "$here/bench/measure.sh"
-work=$(mktemp -d)
-trap 'rm -rf "$work"' EXIT
 cd "$work"
 
 cat > model <<'MODEL'
@@ -85,9 +82,9 @@ int main(int argc, char **argv) {
 C
 cc -O2 -o plain plain.c
 
-program="$here/crates/itfcheck/out/itfcheck"
+program="$top/crates/itfcheck/out/itfcheck"
 delivery "$objects" good > transfer
-"$here/itfcheck" check model transfer certificates > /dev/null
+"$top/itfcheck" check model transfer certificates > /dev/null
 size=$(( $(stat -c %s transfer) / 1024 ))
 read -r plain_time _ <<< "$(measure 0 ./plain transfer)"
 read -r check_time check_peak <<< "$(measure 0 "$program" check model transfer certificates)"

@@ -11,22 +11,14 @@
 #
 # usage: bench/verify.sh [ITFCHECK]      (building proves `certificate_checker` and the crates below
 #                                         it: some minutes)
-set -euo pipefail
-top=$(cd "$(dirname "${BASH_SOURCE[0]}")/.." && pwd)
-itfcheck=${1:+$(realpath "$1")}
+. "$(dirname "${BASH_SOURCE[0]}")/begin.sh"
 . "$top/bench/measure.sh"
-work=$(mktemp -d)
-trap 'rm -rf "$work"' EXIT
-below='ports plane half_edges straight_predicates event_mesh tubes certificate certificate_checker'
-for crate in $below; do
-    mkdir -p "$work/crates/$crate"
-    cp -r "$top/crates/$crate/src" "$top/crates/$crate/specs" "$top/crates/$crate/proofs" "$work/crates/$crate" 2> /dev/null || true
-    grep -E "^$crate:" "$top/crates.txt" >> "$work/crates.txt"
-done
-echo 'verify_bench: ports plane certificate certificate_checker' >> "$work/crates.txt"
-bench="$work/crates/verify_bench"
-mkdir -p "$bench/src"
-cat > "$bench/src/main.rt" <<'END'
+. "$top/bench/scratch.sh"
+itfcheck=${1:+$(realpath "$1")}
+scratch_crate verify_bench 'ports plane certificate certificate_checker' \
+    ports plane half_edges straight_predicates arc_predicates event_mesh tubes certificate \
+    certificate_checker
+cat > "$crate/src/main.rt" <<'END'
 // Reads straights and points as 32-bit numbers and a certificate, and checks it. With a word that
 // begins with r it only reads; with one that begins with w it opens the files `held` and `go` before
 // it checks, which are pipes that stop it there.
@@ -42,44 +34,9 @@ use ports::{Memory, RealShelf, Shelf};
 use std::alloc::Global;
 use std::env::Env;
 
-const LEAST: i64 = -2_147_483_648;
-const GREATEST: i64 = 2_147_483_647;
-const WINDOW: Window2 = Window2 {
-    low: Point { x: LEAST, y: LEAST },
-    high: Point { x: GREATEST, y: GREATEST },
-};
-
-/// The number that four bytes spell, the lowest first.
-fn number(bytes: Option<&[u8]>) -> i64 {
-    match bytes {
-        Some([a, b, c, d]) => i32::from_le_bytes([*a, *b, *c, *d]) as i64,
-        _ => 0,
-    }
-}
-
-fn is_inside(window: &Window2, p: Point) -> bool
-    ensures { IsTrue result → IsInside window.now.low window.now.high p }
-{
-    if window.low.x <= p.x
-        && p.x <= window.high.x
-        && window.low.y <= p.y
-        && p.y <= window.high.y
-    {
-        return true;
-    }
-    false
-}
-
-fn add_straight(drawing: &mut Drawing, from: Point, to: Point) {
-    if from != to
-        && drawing.curves.len() < 1_000_000
-        && is_inside(&drawing.window, from)
-        && is_inside(&drawing.window, to)
-    {
-        let _ = drawing.add_straight(from, to, 0);
-    }
-}
-
+END
+sh "$top/bench/straights.sh" >> "$crate/src/main.rt"
+cat >> "$crate/src/main.rt" <<'END'
 fn add_point(drawing: &mut Drawing, at: Point) {
     if drawing.points.len() < 1_000_000 && is_inside(&drawing.window, at) {
         let _ = drawing.add_point(at, 0);
@@ -152,11 +109,7 @@ fn main(rt: HostRuntime) {
     }
 }
 END
-{ echo; sh "$top/bench/whole_file.sh"; } >> "$bench/src/main.rt"
-cd "$bench"
-rt run > "$work/build.log" 2>&1 < /dev/null || { tail -40 "$work/build.log"; exit 1; }
-program="$bench/out/verify_bench"
-cd "$work"
+build_scratch_crate
 g++ -O2 -std=c++17 -o plain "$top/bench/plain_sweep.cpp"
 mkfifo held go
 

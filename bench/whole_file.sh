@@ -1,5 +1,5 @@
 #!/bin/sh
-# Prints the function with which the measuring programs read their file.
+# Prints the function with which the measuring programs read their file. scratch.sh runs it.
 cat <<'END'
 /// The bytes of a file up to 400 MB, none where there is none.
 fn whole_file(alloc: Global, shelf: &mut RealShelf, name: &str) -> Result<Vec<u8>, Memory> {

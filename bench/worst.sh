@@ -5,28 +5,12 @@
 # time beside that of the parcels.
 #
 # usage: bench/worst.sh [ITFCHECK]      (crates/itfcheck/out/itfcheck where none is given)
-set -euo pipefail
-top=$(cd "$(dirname "${BASH_SOURCE[0]}")/.." && pwd)
-itfcheck=$(realpath "${1:-$top/crates/itfcheck/out/itfcheck}")
-work=$(mktemp -d)
-trap 'rm -rf "$work"' EXIT
+. "$(dirname "${BASH_SOURCE[0]}")/begin.sh"
+. "$top/bench/measure.sh"
+itfcheck=$(built_program "$@")
 cd "$work"
 
-# CPU time in milliseconds and peak memory in KiB of one run, and its status
-once() {
-    python3 - "$@" <<'PY'
-import os, sys
-pid = os.fork()
-if pid == 0:
-    sink = os.open(os.devnull, os.O_WRONLY)
-    os.dup2(sink, 1)
-    os.execvp(sys.argv[1], sys.argv[1:])
-_, status, usage = os.wait4(pid, 0)
-print(round((usage.ru_utime + usage.ru_stime) * 1000), usage.ru_maxrss, os.WEXITSTATUS(status))
-PY
-}
-
-# the same of `check` and `verify` of a drawing, and how large its transfer is
+# What `check` and `verify` of a drawing take, and how large its transfer is
 both() {
     python3 "$top/bench/drawings.py" "$1" "$2" "$work"
     read -r check check_peak check_status <<< "$(once "$itfcheck" check model transfer certificate)"
