@@ -1,5 +1,6 @@
--- The fault that counts, among some and then more.
-use Rattle.std.proofs.Common.{◌≡◌, ℕ, suc, ◌+◌, ◌<◌, List, [], ◌∷◌, ◌++◌, length, drop, get_or, Option, refl, ap, sym, ◌∙◌, add-one, drop-cons}
+-- Lists that are gone over from their front: the fault that counts so far, and what is gathered.
+use Rattle.std.proofs.Common.{◌≡◌, ℕ, suc, ◌+◌, ◌<◌, ◌≤◌, List, [], ◌∷◌, ◌++◌, map, length, drop, get_or, Option, refl, ap, sym, ◌∙◌, add-one, drop-cons, append_assoc, append-nil}
+use Rattle.std.proofs.lemmas.List.{map-append, at_drop_all}
 use Rattle.resolver.specs.Faults.{Fault, earlier, first_from}
 
 pub first_append : (best : Option Fault) (fs gs : List Fault) → first_from best (fs ++ gs) ≡ first_from (first_from best fs) gs
@@ -24,3 +25,27 @@ told_over {X} part i xs read x here before after step r lt at e =
     ∙ sym (first_append before here (part rest))
     ∙ ap (first_from before) (sym (step rest))
     ∙ ap (λ (l : List X). first_from before (part l)) (sym behind)
+
+-- one more is gathered of a list
+pub next_pushed : {X Z : Type 0} (part : List X → List Z) (i : ℕ) (xs read : List X) (x : X) (done more : List Z) (z : Z)
+    → ((rest : List X) → part (x ∷ rest) ≡ z ∷ part rest) → read ≡ xs → i < length read → x ≡ get_or read i x → more ≡ done ++ (z ∷ [])
+    → more ++ part (drop (i + 1) xs) ≡ done ++ part (drop i xs)
+next_pushed {X} {Z} part i xs read x done more z step r lt at e =
+    let rest : List X = drop (i + 1) xs in
+    ap (λ (l : List Z). l ++ part rest) e
+    ∙ append_assoc done (z ∷ []) (part rest)
+    ∙ ap (λ (l : List Z). done ++ l) (sym (step rest))
+    ∙ ap (λ (l : List X). done ++ part l) (sym (list_from i xs read x r lt at))
+
+-- the same, where what is gathered is seen by `view`
+pub next_viewed : {X W Z : Type 0} (part : List X → List Z) (view : W → Z) (i : ℕ) (xs read : List X) (x : X) (done more : List W) (w : W) (z : Z)
+    → ((rest : List X) → part (x ∷ rest) ≡ z ∷ part rest) → read ≡ xs → i < length read → x ≡ get_or read i x → more ≡ done ++ (w ∷ []) → view w ≡ z
+    → map view more ++ part (drop (i + 1) xs) ≡ map view done ++ part (drop i xs)
+next_viewed {X} {W} {Z} part view i xs read x done more w z step r lt at e same =
+    next_pushed part i xs read x (map view done) (map view more) z step r lt at
+    (ap (map view) e ∙ map-append view done (w ∷ []) ∙ ap (λ (k : Z). map view done ++ (k ∷ [])) same)
+
+-- all of a list is
+pub all_pushed : {X Z : Type 0} (part : List X → List Z) (i : ℕ) (xs : List X) (done : List Z) → part [] ≡ [] → length xs ≤ i
+    → done ++ part (drop i xs) ≡ part xs → done ≡ part xs
+all_pushed {X} {Z} part i xs done none le e = sym (ap (λ (l : List Z). done ++ l) (at_drop_all part xs i le ∙ none) ∙ append-nil done) ∙ e

@@ -1,11 +1,9 @@
 -- What holds of the types of all visible domains holds of what a name or a type stands for.
-use Rattle.std.proofs.Common.{◌≡◌, ℕ, suc, zero, Bool, true, false, cond, List, [], ◌∷◌, slice_get, Option, Some, None, sym, subst, arith}
+use Rattle.std.proofs.Common.{ℕ, suc, zero, Bool, true, false, cond, List, [], ◌∷◌, slice_get, Option, Some, None, arith}
 use Rattle.std.specs.List.{All}
 use Rattle.std.specs.Option.{IfSome, option_map, option_map_or, option_and_then}
 use Rattle.ili_grammar.specs.Syntax.{Ident, TypeSyntax, DomainSyntax}
-use Rattle.resolver.specs.declared.scope.Meaning as meanings
 use Rattle.resolver.specs.Scopes.{Scope, Meaning, place, is_among, names_of, name_alone, last_type, outside, written, followed, meaning_outside, meaning, meant, reached, leads, longest}
-use Rattle.resolver.specs.ScopeViews.{meaning_of}
 
 abbrev Kept : (TypeSyntax → Type 0) → Option Meaning → Type 0
 Kept P o = IfSome o (λ m. P m.kind)
@@ -77,8 +75,3 @@ meaning_scoped Q s name a q = by_test (is_among name (names_of s.above))
 
 pub meant_scoped : (Q : Scope → Type 0) (s : Scope) (t : TypeSyntax) → Q (outside s.above) → Q s → Scoped Q (meant s t)
 meant_scoped Q s t a q = written_scoped Q (meaning s) s t (λ name. meaning_scoped Q s name a q) q
-
--- what holds of a meaning holds of the one that the code finds
-pub found_kept : (P : Meaning → Type 0) (found : Option meanings.Meaning) (m : Option Meaning) → option_map meaning_of found ≡ m → IfSome m P → IfSome found (λ f. P (meaning_of f))
-found_kept P None m e k = tt
-found_kept P (Some f) m e k = subst (λ (o : Option Meaning). IfSome o P) (sym e) k

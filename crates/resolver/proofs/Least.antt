@@ -10,10 +10,6 @@ use Rattle.resolver.proofs.Members.{In, in_contained, contains}
 comes : (f g : Fault) → ComesBefore f g → is_before f g ≡ true
 comes f g h = grind (arith, nat_tests, h)
 
--- one that is not before another stands before nothing before which that one does not stand
-not_before : (f best g : Fault) → is_before f best ≡ false → ComesBefore g best → ComesBefore g f
-not_before f best g e h = grind (arith, nat_tests, e, h)
-
 before_itself : (f : Fault) → ComesBefore f f → ⊥
 before_itself f h = grind (arith, h)
 

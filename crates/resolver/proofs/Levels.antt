@@ -1,12 +1,11 @@
 -- Lists of domains, as the code goes over them.
-use Rattle.std.proofs.Common.{◌≡◌, ℕ, zero, suc, ◌+◌, ◌<◌, Bool, true, false, cond, List, [], ◌∷◌, ◌++◌, map, length, drop, get_or, slice_get, Option, Some, None, refl, ap, sym, subst, ◌∙◌, add-one, drop-cons, append_assoc, arith, true≢false}
-use Rattle.std.proofs.lemmas.List.{map-append, length-map, get_or_default}
+use Rattle.std.proofs.Common.{◌≡◌, ℕ, ◌+◌, ◌<◌, Bool, true, false, cond, List, [], ◌∷◌, map, length, drop, get_or, slice_get, Option, Some, None, refl, ap, sym, subst, ◌∙◌, arith}
+use Rattle.std.proofs.lemmas.List.{length-map, get_or_default}
 use Rattle.std.proofs.lemmas.Option.{slice_get-map}
 use Rattle.std.specs.Borrow.{Bor}
-use Rattle.std.specs.List.{position_from, All}
-use Rattle.std.specs.Option.{option_map, option_and_then, unwrap_or, IfSome, is_some}
+use Rattle.std.specs.List.{position_from}
+use Rattle.std.specs.Option.{option_map, option_and_then, unwrap_or, IfSome}
 use Rattle.ili_grammar.specs.declared.syntax.DomainSyntax as domain
-use Rattle.ili_grammar.specs.declared.syntax.Ident as ident
 use Rattle.ili_grammar.specs.Syntax.{Ident, TypeSyntax, DomainSyntax}
 use Rattle.ili_grammar.specs.Values.{ident_of, type_of, domain_of}
 use Rattle.resolver.specs.declared.scope.domain_scope.DomainScope.{DomainScope}
@@ -15,25 +14,10 @@ use Rattle.resolver.specs.declared.faults.ModelCode.TheVariants as code
 use Rattle.resolver.specs.Faults.{Fault, first_from, fault_if}
 use Rattle.resolver.specs.Rules.{cycle_faults}
 use Rattle.resolver.proofs.Folds.{first_append, list_from}
-use Rattle.resolver.specs.Indexed.{idents}
 use Rattle.resolver.specs.Aliases.{step_in, StepsWithin, AreCyclic}
 use Rattle.resolver.specs.Steps.{domains_at, step_of, steps_of}
 use Rattle.resolver.specs.NameIndexes.{names_in}
-use Rattle.ili_grammar.specs.Limits.{IsSmallDomain, IsSmallType}
 use Rattle.resolver.specs.DomainScopes.{domains_in, target_in}
-
--- one more name is read
-pub names_step : (ds : List (Bor domain.DomainSyntax)) (i : ℕ) (ns more : List (Bor ident.Ident)) (d : Bor domain.DomainSyntax) (n : Bor ident.Ident)
-    → i < length ds → d ≡ get_or ds i d → more ≡ ns ++ (n ∷ []) → ident_of n.now ≡ ident_of d.now.name
-    → idents more ++ domain_names (domains_at (drop (i + 1) ds)) ≡ idents ns ++ domain_names (domains_at (drop i ds))
-names_step ds i ns more d n lt at e same_name =
-    let rest : List (Bor domain.DomainSyntax) = drop (i + 1) ds in
-    let here : drop i ds ≡ d ∷ rest = drop-cons ds i d lt ∙ ap (λ (x : Bor domain.DomainSyntax). x ∷ drop (suc i) ds) (sym at) ∙ ap (λ (q : ℕ). d ∷ drop q ds) (sym (add-one i)) in
-    ap (λ (l : List (Bor ident.Ident)). idents l ++ domain_names (domains_at rest)) e
-    ∙ ap (λ (l : List Ident). l ++ domain_names (domains_at rest)) (map-append (λ (m : Bor ident.Ident). ident_of m.now) ns (n ∷ []))
-    ∙ append_assoc (idents ns) (ident_of n.now ∷ []) (domain_names (domains_at rest))
-    ∙ ap (λ (m : Ident). idents ns ++ (m ∷ domain_names (domains_at rest))) same_name
-    ∙ ap (λ (l : List (Bor domain.DomainSyntax)). idents ns ++ domain_names (domains_at l)) (sym here)
 
 pub steps_map : (above own : List (List ℕ)) (ds : List (Bor domain.DomainSyntax))
     → map (step_of above own) (domains_at ds) ≡ map (λ d. option_and_then (declared_in above own) (name_alone (type_of d.now.kind))) ds
@@ -104,16 +88,6 @@ last_is l name p read ends t r f e k =
     sym k ∙ ap (λ (ds : List (Bor domain.DomainSyntax)). option_map (λ d. d.kind) (slice_get (domains_at ds) (get_or ends p 0))) r
     ∙ ap (λ (i : ℕ). option_map (λ d. d.kind) (slice_get (domains_in l) i)) far
     ∙ ap (λ (o : Option ℕ). option_and_then (target_in l) o) found
-
-pub short_in : (ds : List DomainSyntax) (i : ℕ) (t : TypeSyntax) → All IsSmallDomain ds → option_map (λ d. d.kind) (slice_get ds i) ≡ Some t → IsSmallType t
-short_in [] i t h e = absurd (true≢false (ap (λ (o : Option TypeSyntax). is_some o) (sym e)))
-short_in (d ∷ ds) zero t h e = subst (λ (o : Option TypeSyntax). IfSome o IsSmallType) e (h 0 d (omega arith))
-short_in (d ∷ ds) (suc i) t h e = short_in ds i t (λ k x lt. h (suc k) x (omega (arith, lt))) e
-
--- the types of short domains are short
-pub short_at : (read ds : List (Bor domain.DomainSyntax)) (i : ℕ) (t : TypeSyntax) → read ≡ ds → All IsSmallDomain (domains_at ds)
-    → option_map (λ d. d.kind) (slice_get (domains_at read) i) ≡ Some t → IsSmallType t
-short_at read ds i t r h e = short_in (domains_at ds) i t h (ap (λ (l : List (Bor domain.DomainSyntax)). option_map (λ d. d.kind) (slice_get (domains_at l) i)) (sym r) ∙ e)
 
 pub within_some : (steps read : List (Option ℕ)) (i k : ℕ) → read ≡ steps → StepsWithin read → step_in steps i ≡ Some k → k < length steps
 within_some steps read i k r w e =

@@ -4,8 +4,8 @@ pub mod Repeats
 pub mod Reaching
 pub mod Levels
 pub mod Meanings
-pub mod Collecting
 pub mod Types
+pub mod Named
 pub mod Circles
 pub mod DomainRules
 pub mod Keys
@@ -14,7 +14,7 @@ pub mod Bounds
 pub mod Powers
 pub mod CountedLeaves
 pub mod Kept
-pub mod Modest
+pub mod Bounded
 pub mod Pushed
 pub mod Viewed
 pub mod NoFault
@@ -39,6 +39,10 @@ pub mod FaultParts
 pub mod ListedRules
 pub mod BrokenRules
 pub mod RuleLaws
+pub mod BrokenNames
+pub mod SpeltNames
+pub mod TokenPlaces
+pub mod OneFirstBroken
 pub mod BoundValues
 pub mod NumberTokens
 pub mod NumberTypes

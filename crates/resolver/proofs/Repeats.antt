@@ -1,5 +1,5 @@
 -- Names that are declared twice, one name after the other.
-use Rattle.std.proofs.Common.{◌≡◌, ℕ, suc, ◌+◌, ◌<◌, Bool, List, [], ◌∷◌, ◌++◌, map, length, take, drop, get_or, Option, sym, ap, ◌∙◌, add-one, drop-cons, append_assoc, take-suc, subst}
+use Rattle.std.proofs.Common.{◌≡◌, ℕ, ◌+◌, ◌<◌, Bool, List, [], ◌∷◌, ◌++◌, map, length, take, drop, get_or, Option, sym, ap, ◌∙◌, add-one, append_assoc, take-suc, subst}
 use Rattle.std.proofs.lemmas.List.{length-map}
 use Rattle.std.proofs.Math.ListN.{get_or-map}
 use Rattle.std.specs.Borrow.{Bor}
@@ -12,10 +12,7 @@ use Rattle.resolver.specs.Scopes.{is_among}
 use Rattle.resolver.specs.Scopes.{texts}
 use Rattle.resolver.specs.Rules.{twice, entry, Entry}
 use Rattle.resolver.specs.Indexed.{idents}
-use Rattle.resolver.proofs.Folds.{first_append}
-
-pub names_behind : (i : ℕ) (ns : List (Bor ident.Ident)) (n : Bor ident.Ident) → i < length ns → n ≡ get_or ns i n → drop i ns ≡ n ∷ drop (i + 1) ns
-names_behind i ns n lt at = drop-cons ns i n lt ∙ ap (λ (x : Bor ident.Ident). x ∷ drop (suc i) ns) (sym at) ∙ ap (λ (q : ℕ). n ∷ drop q ns) (sym (add-one i))
+use Rattle.resolver.proofs.Folds.{first_append, list_behind}
 
 pub names_before : (i : ℕ) (ns : List (Bor ident.Ident)) (n : Bor ident.Ident) → i < length ns → n ≡ get_or ns i n
     → take (i + 1) (texts (idents ns)) ≡ take i (texts (idents ns)) ++ (n.now.text ∷ [])
@@ -26,24 +23,19 @@ names_before i ns n lt at =
     get_or-map (λ (m : Ident). m.text) (idents ns) i (ident_of n.now) ∙ ap (λ (m : Ident). m.text) (get_or-map (λ (m : Bor ident.Ident). ident_of m.now) ns i n) ∙ ap (λ (m : Bor ident.Ident). m.now.text) (sym at) in
     ap (λ (q : ℕ). take q ts) (add-one i) ∙ take-suc ts i n.now.text (subst (λ (q : ℕ). i < q) (sym long) lt) ∙ ap (λ (x : List ℕ). take i ts ++ (x ∷ [])) here
 
-pub twice_step : (above : List (List ℕ)) (i : ℕ) (ns : List (Bor ident.Ident)) (n : Bor ident.Ident) (best after : Option Fault) (again : Bool)
-    → i < length ns → n ≡ get_or ns i n → again ≡ is_among n.now.text (above ++ take i (texts (idents ns)))
-    → after ≡ first_from best (fault_if again code.Twice (ident_of n.now))
-    → first_from after (twice (above ++ take (i + 1) (texts (idents ns))) (map entry (idents (drop (i + 1) ns)))) ≡ first_from best (twice (above ++ take i (texts (idents ns))) (map entry (idents (drop i ns))))
-twice_step above i ns n best after again lt at a e =
-    let before : List (List ℕ) = above ++ take i (texts (idents ns)) in
-    let rest : List Entry = map entry (idents (drop (i + 1) ns)) in
-    let more : above ++ take (i + 1) (texts (idents ns)) ≡ before ++ (n.now.text ∷ []) = ap (λ (l : List (List ℕ)). above ++ l) (names_before i ns n lt at) ∙ sym (append_assoc above (take i (texts (idents ns))) (n.now.text ∷ [])) in
-    ap (λ (l : List (List ℕ)). first_from after (twice l rest)) more
-    ∙ ap (λ (b : Option Fault). first_from b (twice (before ++ (n.now.text ∷ [])) rest)) (e ∙ ap (λ (t : Bool). first_from best (fault_if t code.Twice (ident_of n.now))) a)
-    ∙ sym (first_append best (fault_if (is_among n.now.text before) code.Twice (ident_of n.now)) (twice (before ++ (n.now.text ∷ [])) rest))
-    ∙ ap (λ (l : List (Bor ident.Ident)). first_from best (twice before (map entry (idents l)))) (sym (names_behind i ns n lt at))
-
--- the same, where the names are gone over as another list that is equal
+-- one more name is gone over, of a list that is read as another that is equal
 pub twice_over : (above : List (List ℕ)) (i : ℕ) (items ns : List (Bor ident.Ident)) (n : Bor ident.Ident) (best after : Option Fault) (again : Bool) (key : List ℕ)
     → items ≡ ns → i < length items → n ≡ get_or items i n → key ≡ n.now.text → again ≡ is_among key (above ++ take i (texts (idents ns)))
     → after ≡ first_from best (fault_if again code.Twice (ident_of n.now))
     → first_from after (twice (above ++ take (i + 1) (texts (idents ns))) (map entry (idents (drop (i + 1) ns)))) ≡ first_from best (twice (above ++ take i (texts (idents ns))) (map entry (idents (drop i ns))))
-twice_over above i items ns n best after again key s lt at k a e =
-    twice_step above i ns n best after again (subst (λ (l : List (Bor ident.Ident)). i < length l) s lt) (at ∙ ap (λ (l : List (Bor ident.Ident)). get_or l i n) s)
-    (a ∙ ap (λ (b : List ℕ). is_among b (above ++ take i (texts (idents ns)))) k) e
+twice_over above i items ns n best after again key s less found k a e =
+    let lt : i < length ns = subst (λ (l : List (Bor ident.Ident)). i < length l) s less in
+    let at : n ≡ get_or ns i n = found ∙ ap (λ (l : List (Bor ident.Ident)). get_or l i n) s in
+    let before : List (List ℕ) = above ++ take i (texts (idents ns)) in
+    let rest : List Entry = map entry (idents (drop (i + 1) ns)) in
+    let known : again ≡ is_among n.now.text before = a ∙ ap (λ (b : List ℕ). is_among b before) k in
+    let more : above ++ take (i + 1) (texts (idents ns)) ≡ before ++ (n.now.text ∷ []) = ap (λ (l : List (List ℕ)). above ++ l) (names_before i ns n lt at) ∙ sym (append_assoc above (take i (texts (idents ns))) (n.now.text ∷ [])) in
+    ap (λ (l : List (List ℕ)). first_from after (twice l rest)) more
+    ∙ ap (λ (b : Option Fault). first_from b (twice (before ++ (n.now.text ∷ [])) rest)) (e ∙ ap (λ (t : Bool). first_from best (fault_if t code.Twice (ident_of n.now))) known)
+    ∙ sym (first_append best (fault_if (is_among n.now.text before) code.Twice (ident_of n.now)) (twice (before ++ (n.now.text ∷ [])) rest))
+    ∙ ap (λ (l : List (Bor ident.Ident)). first_from best (twice before (map entry (idents l)))) (sym (list_behind i ns n lt at))

@@ -3,12 +3,15 @@ use Rattle.std.proofs.Common.{◌≡◌, List, [], Option, Some, None, refl, sym
 use Rattle.std.specs.Prelude.{Contains}
 use Rattle.std.proofs.lemmas.List.Elements.{All-contains}
 use Rattle.ili_grammar.specs.Limits.{IsWithinLimits}
-use Rattle.resolver.specs.Limits.{HasFewDomains}
-use Rattle.resolver.proofs.Within.{few_everywhere, few_in_topics}
+use Rattle.resolver.specs.Limits.{IsBoundedTopic}
+use Rattle.resolver.proofs.Within.{bounded_everywhere, bounded_topics}
 use Rattle.ili_grammar.specs.Syntax.{Ident, ModelSyntax}
+use Rattle.ili_grammar.specs.Values.{ident_of}
 use Rattle.resolver.specs.declared.faults.ModelCode.{ModelCode}
-use Rattle.resolver.specs.Faults.{Fault}
-use Rattle.resolver.specs.First.{IsLeast, IsFirstBroken, BreaksNone}
+use Rattle.resolver.specs.declared.faults.ModelFault.{ModelFault}
+use Rattle.resolver.specs.declared.faults.ModelFault.TheVariants.{At, Memory}
+use Rattle.resolver.specs.Faults.{Fault, NamesFault}
+use Rattle.resolver.specs.First.{IsLeast, IsFirstBroken, BreaksNone, NamesFirstBroken}
 use Rattle.resolver.specs.Rules.{faults, first_fault}
 use Rattle.resolver.specs.Scopes.{Scope, longest, everywhere, inside}
 use Rattle.resolver.specs.Occurring.{IsScope, of_model, of_topic}
@@ -35,6 +38,11 @@ first_broken m f short e =
     let w : IsLeast (faults m) f = least (faults m) f e in
     record { broken = listed_is_broken m f.code f.name short w.listed; first = λ g b c. w.first g (broken_is_listed m g.code g.name short b) c }
 
+-- an answer that names the fault that counts names the first broken rule
+pub first_named : (m : ModelSyntax) (f : ModelFault) → AreAllShort m → NamesFault f (first_fault m) → NamesFirstBroken m f
+first_named m (At code name) short e = first_broken m (record { code = code; name = ident_of name }) short e
+first_named m Memory short e = tt
+
 pub none_is_broken : (m : ModelSyntax) → AreAllShort m → first_fault m ≡ None → BreaksNone m
 none_is_broken m short e f b = none_listed f (subst (λ (l : List Fault). Contains l f) (none_broken (faults m) e) (broken_is_listed m f.code f.name short b))
   where
@@ -50,9 +58,9 @@ none_counts m short none = by_fault (first_fault m) refl
 
 short_one : (m : ModelSyntax) (s : Scope) → IsWithinLimits m → IsScope m s → AreShort s
 unfolding longest
-short_one m _ w (of_model s e) = subst AreShort (sym e) (record { above = omega arith; own = few_everywhere m w })
+short_one m _ w (of_model s e) = subst AreShort (sym e) (record { above = omega arith; own = (bounded_everywhere m w).few })
 short_one m _ w (of_topic s t c e) =
-    subst AreShort (sym e) (record { above = few_everywhere m w; own = All-contains HasFewDomains m.topics t (few_in_topics m w) c })
+    subst AreShort (sym e) (record { above = (bounded_everywhere m w).few; own = (All-contains IsBoundedTopic m.topics t (bounded_topics m w) c).domains.few })
 
 pub all_short : (m : ModelSyntax) → IsWithinLimits m → AreAllShort m
 all_short m w s is = short_one m s w is

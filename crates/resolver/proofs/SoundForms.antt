@@ -11,12 +11,12 @@ use Rattle.resolver.specs.Lines.{is_long_overlap, suits}
 use Rattle.resolver.specs.Models.{no_limits, limits, form, form_of_meaning, reference, value, window_in, vertex_kind}
 use Rattle.resolver.specs.Rules.{reference_faults, content_faults, type_name_faults, meaning_faults, vertex_faults}
 use Rattle.resolver.specs.Scopes.{Scope, Meaning, is_among, is_visible, meant, meaning}
-use Rattle.resolver.specs.Sound.{IsNarrow, IsWithin}
+use Rattle.resolver.specs.Sound.{IsNarrow, RefersWithin}
 use Rattle.resolver.proofs.NoFault.{none_behind, not_broken, or-left_false, or-right_false}
 use Rattle.resolver.proofs.PlacedNames.{place_is_below}
 
 -- no type is a reference
-pub type_within : (tables : ℕ) (t : TypeSyntax) → IsWithin tables (form t)
+pub type_within : (tables : ℕ) (t : TypeSyntax) → RefersWithin tables (form t)
 type_within tables (syntax.Named n) = tt
 type_within tables (syntax.Coord2 c) = tt
 type_within tables (syntax.Coord3 c) = tt
@@ -35,7 +35,7 @@ type_within tables (syntax.Polyline l) = tt
 type_within tables (syntax.Surface l) = tt
 type_within tables (syntax.Area l) = tt
 
-pub meaning_within : (tables : ℕ) (o : Option Meaning) → IsWithin tables (form_of_meaning o)
+pub meaning_within : (tables : ℕ) (o : Option Meaning) → RefersWithin tables (form_of_meaning o)
 meaning_within tables None = tt
 meaning_within tables (Some m) = type_within tables m.kind
 
@@ -47,10 +47,10 @@ names_table s n e = among (is_among n.text s.tables) e
     among true h = refl
     among false h = absurd (true≢false (not_broken true (cond (is_visible s n.text) code.NotTable code.Unknown) n h))
 
-pub reference_within : (tables : ℕ) (s : Scope) (n : Ident) → length s.tables ≤ tables → reference_faults s n ≡ [] → IsWithin tables (reference s n)
+pub reference_within : (tables : ℕ) (s : Scope) (n : Ident) → length s.tables ≤ tables → reference_faults s n ≡ [] → RefersWithin tables (reference s n)
 reference_within tables s n le e = omega (arith, le, place_is_below n.text s.tables (names_table s n e))
 
-pub value_within : (tables : ℕ) (s : Scope) (owner : Ident) (c : Content) → length s.tables ≤ tables → content_faults s owner c ≡ [] → IsWithin tables (value s c)
+pub value_within : (tables : ℕ) (s : Scope) (owner : Ident) (c : Content) → length s.tables ≤ tables → content_faults s owner c ≡ [] → RefersWithin tables (value s c)
 value_within tables s owner (syntax.Value t) le e = meaning_within tables (meant s t)
 value_within tables s owner (syntax.Reference n) le e = reference_within tables s n le e
 

@@ -7,10 +7,10 @@ use Rattle.ili_grammar.specs.declared.syntax.Element.TheFolds.{fold_out-Element}
 use Rattle.ili_grammar.specs.declared.syntax.AttributeSyntax as attribute
 use Rattle.ili_grammar.specs.declared.syntax.LineSyntax as line
 use Rattle.ili_grammar.specs.declared.syntax.IdentList as list
-use Rattle.ili_grammar.specs.declared.syntax.Content.TheViews.{out-LineSyntax}
-use Rattle.ili_grammar.specs.declared.syntax.Content.TheFolds.{fold_out-LineSyntax}
-use Rattle.ili_grammar.specs.Syntax.{Ident, Element, an_element, Content, TypeSyntax, AttributeSyntax, LineSyntax, a_line}
-use Rattle.ili_grammar.specs.Values.{ident_of, decimal_of, element_of, elements_of, element_step, line_of, attribute_of, attributes_of, lists_of, content_step, type_step, attribute_step, line_step}
+use Rattle.ili_grammar.specs.declared.syntax.Content.TheViews.{out-AttributeSyntax, out-LineSyntax}
+use Rattle.ili_grammar.specs.declared.syntax.Content.TheFolds.{fold_out-AttributeSyntax, fold_out-LineSyntax}
+use Rattle.ili_grammar.specs.Syntax.{Ident, Element, an_element, Content, TypeSyntax, AttributeSyntax, an_attribute, LineSyntax, a_line}
+use Rattle.ili_grammar.specs.Values.{ident_of, decimal_of, element_of, elements_of, element_step, line_of, attribute_of, attributes_of, lists_of, content_of, content_step, type_step, attribute_step, line_step}
 use Rattle.resolver.specs.declared.shape.Shape.{Shape}
 use Rattle.resolver.specs.Faults.{Fault, first_from}
 use Rattle.resolver.specs.Scopes.{Scope}
@@ -20,6 +20,9 @@ use Rattle.resolver.proofs.Folds.{first_append, list_from}
 
 pub element_out : (e : element.Element) → element_of e ≡ an_element (ident_of (out-Element e).name) (elements_of (out-Element e).parts.items)
 element_out = fold_out-Element Element element_step
+
+pub attribute_out : (a : attribute.AttributeSyntax) → attribute_of a ≡ an_attribute (ident_of (out-AttributeSyntax a).name) (out-AttributeSyntax a).optional (content_of (out-AttributeSyntax a).content)
+attribute_out = fold_out-AttributeSyntax Content TypeSyntax AttributeSyntax LineSyntax content_step type_step attribute_step line_step
 
 pub line_out : (l : line.LineSyntax) → line_of l ≡ a_line (record { straights = (out-LineSyntax l).straights; arcs = (out-LineSyntax l).arcs; vertex = ident_of (out-LineSyntax l).vertex; overlap = option_map decimal_of (out-LineSyntax l).overlap }) (attributes_of (out-LineSyntax l).attributes.items) (lists_of (out-LineSyntax l).idents.items)
 line_out = fold_out-LineSyntax Content TypeSyntax AttributeSyntax LineSyntax content_step type_step attribute_step line_step

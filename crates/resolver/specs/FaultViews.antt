@@ -17,6 +17,10 @@ fault_in e = option_map fault_of e.best
 abbrev pub Reports : Earliest → Earliest → List Fault → Type 0
 Reports before after fs = fault_in after ≡ first_from (fault_in before) fs
 
+-- of all faults these are not reported yet
+abbrev pub Leaves : Earliest → Earliest → List Fault → List Fault → Type 0
+Leaves before now all rest = first_from (fault_in now) rest ≡ first_from (fault_in before) all
+
 -- names are declared after others: each that is known is reported, and all of them are known to
 -- the names that come after them
 abbrev pub Declares : Earliest → Earliest → List (List ℕ) → List (List ℕ) → List Entry → Type 0

@@ -1,7 +1,10 @@
 -- The fault that counts, by the order and the rules alone.
-use Rattle.std.specs.Prelude.{◌≡◌, ◌⊎◌, ◌<◌, List, Contains}
+use Rattle.std.specs.Prelude.{◌≡◌, ◌⊎◌, ◌<◌, List, Contains, ⊤}
 use Rattle.ili_grammar.specs.Syntax.{Ident, ModelSyntax}
+use Rattle.ili_grammar.specs.Values.{ident_of}
 use Rattle.resolver.specs.declared.faults.ModelCode.{ModelCode}
+use Rattle.resolver.specs.declared.faults.ModelFault.{ModelFault}
+use Rattle.resolver.specs.declared.faults.ModelFault.TheVariants.{At, Memory}
 use Rattle.resolver.specs.Faults.{Fault, rank}
 use Rattle.resolver.specs.Rules.{faults}
 use Rattle.resolver.specs.Breaking.{Breaks}
@@ -29,3 +32,9 @@ pub record IsFirstBroken (m : ModelSyntax) (f : Fault) : Type 0 where
 
 abbrev pub BreaksNone : ModelSyntax → Type 0
 BreaksNone m = (f : Fault) → Breaks m f.code f.name → ⊥
+
+-- the answer names a rule that is broken, and none is broken before it; out of memory says nothing
+abbrev pub NamesFirstBroken : ModelSyntax → ModelFault → Type 0
+NamesFirstBroken m (At code name) =
+    IsFirstBroken m (record { code = code; name = ident_of name })
+NamesFirstBroken m Memory = ⊤

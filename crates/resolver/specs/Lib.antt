@@ -1,6 +1,7 @@
 pub mod Faults
 pub mod FaultViews
 pub mod Indexed
+pub mod Named
 pub mod NameIndexes
 pub mod Numbers
 pub mod Scopes

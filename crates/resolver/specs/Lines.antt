@@ -2,10 +2,10 @@
 use Rattle.std.specs.Prelude.{Bool, true, false, ◌&&◌, Option}
 use Rattle.std.specs.Option.{option_map_or}
 use Rattle.ili_grammar.specs.Syntax.{Decimal, TypeSyntax, Coord2, Coord3, Polyline, Surface, Area}
-use Rattle.ili_grammar.specs.Syntax.{Content, Value, Reference}
+use Rattle.ili_grammar.specs.Syntax.{Content}
 use Rattle.resolver.specs.declared.shape.Shape.{Shape}
 use Rattle.resolver.specs.declared.shape.Shape.TheVariants as shape
-use Rattle.resolver.specs.Scopes.{Scope, meant}
+use Rattle.resolver.specs.Scopes.{Scope, value_meant}
 use Rattle.resolver.specs.Numbers.{scale_of, is_long}
 
 abbrev pub is_area : Shape → Bool
@@ -47,5 +47,4 @@ is_boundary _ = false
 -- what an attribute stands for passes a test of types; a reference, or a chain that ends at no
 -- type, does not
 abbrev pub stands_for : (TypeSyntax → Bool) → Scope → Content → Bool
-stands_for test s (Value t) = option_map_or (λ m. test m.kind) (meant s t) false
-stands_for test s (Reference n) = false
+stands_for test s c = option_map_or (λ m. test m.kind) (value_meant s c) false

@@ -116,16 +116,20 @@ line_attribute_faults s (and_attribute a as_) =
     line_attribute_fault s a ++ line_attribute_faults s as_
 
 -- ---- types: `owner` is the name of the attribute or domain at which the type is written
+
+-- a type that is no line: coordinates and numbers by their bounds; dates and alignments have none
+abbrev pub plain_faults : Scope → Ident → TypeSyntax → List Fault
+plain_faults s owner (Named n) = type_name_faults s n
+plain_faults s owner (Text d) = fault_if (not (is_text_length d)) code.Bounds owner
+plain_faults s owner (Enumeration es) = twice_in (element_names es) ++ parts_faults es
+plain_faults s owner t = numbers_faults owner t
+
 abbrev mutual
   pub type_faults : Scope → Ident → TypeSyntax → List Fault
-  type_faults s owner (Named n) = type_name_faults s n
-  type_faults s owner (Text d) = fault_if (not (is_text_length d)) code.Bounds owner
-  type_faults s owner (Enumeration es) = twice_in (element_names es) ++ parts_faults es
   type_faults s owner (Polyline l) = line_faults s owner shapes.Polyline l
   type_faults s owner (Surface l) = line_faults s owner shapes.Surface l
   type_faults s owner (Area l) = line_faults s owner shapes.Area l
-  -- coordinates and numbers by their bounds; a date and an alignment have none
-  type_faults s owner t = numbers_faults owner t
+  type_faults s owner t = plain_faults s owner t
 
   pub line_faults : Scope → Ident → Shape → LineSyntax → List Fault
   line_faults s owner shape (a_line head as_ lists) =

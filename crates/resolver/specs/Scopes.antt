@@ -4,8 +4,8 @@ use Rattle.std.specs.Prelude.{nat_eq, slice_get, Option, Some, None}
 use Rattle.std.specs.List.{list_any, position_from}
 use Rattle.std.specs.Option.{unwrap_or, option_map, option_map_or, option_and_then}
 use Rattle.std.specs.Cmp.Lexicographic.{pointwise}
-use Rattle.ili_grammar.specs.Syntax.{Ident, TypeSyntax, Named, DomainSyntax, TableSyntax}
-use Rattle.ili_grammar.specs.Syntax.{TopicSyntax, ModelSyntax}
+use Rattle.ili_grammar.specs.Syntax.{Ident, TypeSyntax, Named, Content, Value, Reference}
+use Rattle.ili_grammar.specs.Syntax.{DomainSyntax, TableSyntax, TopicSyntax, ModelSyntax}
 
 abbrev pub same : List ℕ → List ℕ → Bool
 same = pointwise nat_eq
@@ -118,3 +118,8 @@ meaning s name =
 -- what a type stands for
 abbrev pub meant : Scope → TypeSyntax → Option Meaning
 meant s t = written (meaning s) s t
+
+-- what the content of an attribute stands for, where it is a value
+abbrev pub value_meant : Scope → Content → Option Meaning
+value_meant s (Value t) = meant s t
+value_meant s (Reference n) = None

@@ -48,9 +48,9 @@ pub record IsNarrow (w : Window) : Type 0 where
   pub y : (w.y.high -ℤ w.y.low) <ℤ pos (2 ^ 40)
 
 -- a reference names one of so many tables
-abbrev pub IsWithin : ℕ → Form → Type 0
-IsWithin tables (Reference k) = k < tables
-IsWithin tables f = Unit {0}
+abbrev pub RefersWithin : ℕ → Form → Type 0
+RefersWithin tables (Reference k) = k < tables
+RefersWithin tables f = Unit {0}
 
 -- the IDENT lists name attributes by numbers below so many
 abbrev pub ArePlaces : ℕ → List (List ℕ) → Type 0
@@ -58,7 +58,7 @@ ArePlaces n lists = All (All (λ i. i < n)) lists
 
 -- an attribute of a boundary's lines is no line itself
 abbrev pub IsLineAttribute : ℕ → Attribute → Type 0
-IsLineAttribute tables (an_attribute n o (Value f)) = IsWithin tables f
+IsLineAttribute tables (an_attribute n o (Value f)) = RefersWithin tables f
 IsLineAttribute tables (an_attribute n o (Polyline l)) = ⊥
 IsLineAttribute tables (an_attribute n o (Surface l p)) = ⊥
 IsLineAttribute tables (an_attribute n o (Area l p)) = ⊥
@@ -71,7 +71,7 @@ pub record IsSoundPart (tables : ℕ) (own : List Attribute) (lists : List (List
 
 -- an attribute of a topic with so many tables; the window of an AREA is narrow
 abbrev pub IsSoundAttribute : ℕ → Attribute → Type 0
-IsSoundAttribute tables (an_attribute n o (Value f)) = IsWithin tables f
+IsSoundAttribute tables (an_attribute n o (Value f)) = RefersWithin tables f
 IsSoundAttribute tables (an_attribute n o (Polyline l)) = Unit {0}
 IsSoundAttribute tables (an_attribute n o (Surface l (a_part own lists))) =
     IsSoundPart tables (listed own) lists

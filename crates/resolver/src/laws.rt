@@ -3,11 +3,15 @@ ghost use Rattle.std.specs.Prelude.{◌≡◌, ◌↔◌, ℕ, ◌≤◌, ℤ, L
 ghost use Rattle.decimals.specs.Numerals.{Numeral, Spells};
 ghost use Rattle.decimals.specs.Scaled.{HasValue};
 ghost use Rattle.ili_lexer.specs.Fronts.{front_of};
-ghost use Rattle.ili_lexer.specs.declared.fronts.Front.TheVariants.{Token};
+ghost use Rattle.ili_lexer.specs.declared.fronts.Front.TheVariants.{Token as FrontToken};
 ghost use Rattle.ili_lexer.specs.declared.tokens.Kind.TheVariants.{Number};
+ghost use Rattle.ili_lexer.specs.declared.tokens.Token.{Token};
+ghost use Rattle.ili_lexer.specs.Tokens.{AreTokens};
 ghost use Rattle.ili_grammar.specs.Syntax.{Ident, ModelSyntax};
 ghost use Rattle.ili_grammar.specs.Limits.{IsWithinLimits};
 ghost use Rattle.ili_grammar.specs.Numbers.{decimal};
+ghost use Rattle.ili_grammar.specs.Models.{Spells as IsSpelt};
+ghost use Rattle.ili_grammar.specs.Slices.{toks};
 ghost use Rattle.ili_grammar.specs.Tokens.{Info};
 ghost use Rattle.resolver.specs.declared.faults.ModelCode.{ModelCode};
 ghost use Rattle.resolver.specs.Faults.{Fault};
@@ -54,10 +58,18 @@ pub fn first_broken_counts()
     ensures none { (m : ModelSyntax) → IsWithinLimits m → (first_fault m ≡ None) ↔ BreaksNone m }
 {}
 
+/// A rule is broken at a name that is written, and no two names of a text stand at one place. So a
+/// model that a text spells has one first broken rule at most.
+pub fn one_first_broken()
+    ensures { (text : List ℕ) (ts : List Token) (m : ModelSyntax) (f g : Fault)
+        → AreTokens text ts → IsSpelt m (toks text ts) → IsFirstBroken m f → IsFirstBroken m g
+        → f ≡ g }
+{}
+
 /// The bytes of each number token spell a number. The text of a bound that spells one, read as a
 /// value at the scale of its type, is that bound, and no other value is.
 pub fn bounds_are_values()
-    ensures spelt { (text : List ℕ) (n : ℕ) → front_of text ≡ Token Number n
+    ensures spelt { (text : List ℕ) (n : ℕ) → front_of text ≡ FrontToken Number n
         → (m : Numeral) × Spells (take n text) m }
     ensures value { (i : Info) (n : Numeral) (scale : ℕ) (bound : ℤ) → Spells i.text n
         → IsBound scale (decimal i) bound → HasValue i.text scale bound }

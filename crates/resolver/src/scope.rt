@@ -8,11 +8,12 @@ pub mod aliases;
 pub mod declared;
 pub mod domain_scope;
 pub mod name_index;
+pub mod named;
 pub mod topic_scope;
 
 use aliases::alias_of;
 use domain_scope::DomainScope;
-use ili_grammar::TypeSyntax;
+use ili_grammar::{Content, TypeSyntax};
 use name_index::NameIndex;
 
 /// The domains that are declared further out, if any are, those that are declared here, and the
@@ -34,15 +35,14 @@ pub struct Meaning<'s, 'a> {
 }
 
 impl<'s, 'a> Scope<'s, 'a> {
-    ghost use Rattle.std.specs.Prelude.{◌≡◌, [], None, All, IfSome};
-    ghost use Rattle.ili_grammar.specs.Limits.{IsSmallDomain, IsSmallType};
-    ghost use Rattle.resolver.specs.Limits.{IsSmallScope};
+    ghost use Rattle.std.specs.Prelude.{◌≡◌, [], None};
     ghost use Rattle.std.specs.Option.{option_map};
-    ghost use Rattle.ili_grammar.specs.Values.{type_of};
+    ghost use Rattle.ili_grammar.specs.Values.{content_of, type_of};
     ghost use Rattle.resolver.specs.DomainScopes.{domains_in, StepsFrom};
     ghost use Rattle.resolver.specs.NameIndexes.{names_if};
     ghost use Rattle.resolver.specs.Scopes.{domain_names, is_among, is_visible, names_of};
     ghost use Rattle.resolver.specs.Scopes.{outside, written, meaning_outside, meaning, meant};
+    ghost use Rattle.resolver.specs.Scopes.{value_meant};
     ghost use Rattle.resolver.specs.ScopeViews.{scope_of, meaning_of};
 
     /// The scope outside the topics.
@@ -61,10 +61,7 @@ impl<'s, 'a> Scope<'s, 'a> {
     pub fn names_above(&self) -> Option<&'s NameIndex<'a>>
         ensures { names_if result ≡ domain_names (scope_of self.now).above }
     {
-        match self.above {
-            Some(above) => Some(above.names()),
-            None => None,
-        }
+        Some(self.above?.names())
     }
 
     // Whether a domain of that name is declared further out.
@@ -87,10 +84,8 @@ impl<'s, 'a> Scope<'s, 'a> {
         kind: &'a TypeSyntax,
     ) -> Option<Meaning<'s, 'a>>
         requires { StepsFrom [] domains.now }
-        ensures found { option_map meaning_of result
+        ensures { option_map meaning_of result
             ≡ written (λ _. None) (outside (domains_in domains.now)) (type_of kind.now) }
-        ensures short { IsSmallType (type_of kind.now)
-            → IfSome result (λ m. IsSmallType (type_of m.kind.now)) }
     {
         match alias_of(kind) {
             Some(_) => None,
@@ -104,38 +99,26 @@ impl<'s, 'a> Scope<'s, 'a> {
     // What a name stands for outside the topics.
     fn resolve_outside(domains: &'s DomainScope<'a>, name: &[u8]) -> Option<Meaning<'s, 'a>>
         requires { StepsFrom [] domains.now }
-        ensures found { option_map meaning_of result
+        ensures { option_map meaning_of result
             ≡ meaning_outside (domains_in domains.now) name.now }
-        ensures short { All IsSmallDomain (domains_in domains.now)
-            → IfSome result (λ m. IsSmallType (type_of m.kind.now)) }
     {
-        match domains.target(name) {
-            Some(kind) => Scope::resolve_type_outside(domains, kind),
-            None => None,
-        }
+        let kind = domains.target(name)?;
+        Scope::resolve_type_outside(domains, kind)
     }
 
     // What a name that is declared further out stands for.
     fn resolve_above(&self, name: &[u8]) -> Option<Meaning<'s, 'a>>
-        ensures found { option_map meaning_of result
+        ensures { option_map meaning_of result
             ≡ meaning_outside (scope_of self.now).above name.now }
-        ensures short { All IsSmallDomain (scope_of self.now).above
-            → IfSome result (λ m. IsSmallType (type_of m.kind.now)) }
     {
-        match self.above {
-            Some(above) => Scope::resolve_outside(above, name),
-            None => None,
-        }
+        Scope::resolve_outside(self.above?, name)
     }
 
     // What a type here stands for, where its name, if it is one alone, is declared further out.
     fn resolve_end(&self, kind: &'a TypeSyntax) -> Option<Meaning<'s, 'a>>
-        ensures found { option_map meaning_of result
+        ensures { option_map meaning_of result
             ≡ written (meaning_outside (scope_of self.now).above) (scope_of self.now)
             (type_of kind.now) }
-        ensures short { All IsSmallDomain (scope_of self.now).above
-            → IsSmallType (type_of kind.now)
-            → IfSome result (λ m. IsSmallType (type_of m.kind.now)) }
     {
         match alias_of(kind) {
             Some(name) => self.resolve_above(name.text.bytes()),
@@ -145,17 +128,13 @@ impl<'s, 'a> Scope<'s, 'a> {
 
     /// What a name stands for.
     pub fn resolve_name(&self, name: &[u8]) -> Option<Meaning<'s, 'a>>
-        ensures found { option_map meaning_of result ≡ meaning (scope_of self.now) name.now }
-        ensures short { IsSmallScope (scope_of self.now)
-            → IfSome result (λ m. IsSmallType (type_of m.kind.now)) }
+        ensures { option_map meaning_of result ≡ meaning (scope_of self.now) name.now }
     {
         if self.is_above(name) {
             return self.resolve_above(name);
         }
-        match self.own.target(name) {
-            Some(kind) => self.resolve_end(kind),
-            None => None,
-        }
+        let kind = self.own.target(name)?;
+        self.resolve_end(kind)
     }
 
     /// What a type stands for.
@@ -165,6 +144,17 @@ impl<'s, 'a> Scope<'s, 'a> {
         match alias_of(kind) {
             Some(name) => self.resolve_name(name.text.bytes()),
             None => Some(Meaning { scope: *self, kind }),
+        }
+    }
+
+    /// What the content of an attribute stands for, if it is a value.
+    pub fn resolve_value(&self, content: &'a Content) -> Option<Meaning<'s, 'a>>
+        ensures { option_map meaning_of result
+            ≡ value_meant (scope_of self.now) (content_of content.now) }
+    {
+        match content {
+            Content::Value(kind) => self.resolve_type(kind),
+            Content::Reference(_) => None,
         }
     }
 }

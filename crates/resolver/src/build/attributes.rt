@@ -3,10 +3,8 @@ ghost use Rattle.std.specs.Prelude.{◌≡◌, ◌≤◌, IfOk};
 ghost use Rattle.ili_grammar.specs.Limits.{IsSmallLine, line_names};
 ghost use Rattle.ili_grammar.specs.Values.{attribute_of, attributes_of, content_of, lists_of};
 ghost use Rattle.ili_grammar.specs.Values.{type_of, line_of};
-ghost use Rattle.resolver.specs.NameIndexes.{names_in};
-ghost use Rattle.resolver.specs.Limits.{AreModest, IsModest, IsModestAttribute, IsModestContent};
-ghost use Rattle.resolver.specs.Limits.{IsModestScope};
-ghost use Rattle.resolver.specs.Rules.{attribute_names};
+ghost use Rattle.resolver.specs.Limits.{AreBounded, IsBounded, IsBoundedAttribute};
+ghost use Rattle.resolver.specs.Limits.{IsBoundedContent, IsBoundedScope};
 ghost use Rattle.resolver.specs.ScopeViews.{scope_of};
 ghost use Rattle.resolver.specs.Models.{places, line_attribute, line_attributes, line_form};
 ghost use Rattle.resolver.specs.Models.{line_part, type_form, content_form};
@@ -18,46 +16,38 @@ ghost use Rattle.resolver.specs.Values.{part_of, places_of};
 
 use super::forms::form;
 use super::line_forms::line_form;
-use super::values::{places, resolve_type, table_number, value};
+use super::values::{places, table_number, value};
 use crate::models::{Attribute, AttributeForm, Form, LineForm, LinePart, Places};
 use crate::scope::Scope;
-use crate::scope::declared::attribute_names;
 use crate::scope::name_index::NameIndex;
 use ili_grammar::{AttributeSyntax, Content, Ident, IdentList, LineSyntax, TypeSyntax};
 use ports::{Memory, Name};
 use std::alloc::Global;
 
-// The names of some attributes.
-fn name_index<'a>(alloc: Global, attributes: &'a [AttributeSyntax]) -> Result<NameIndex<'a>, Memory>
-    ensures { IfOk result (λ d. names_in d ≡ attribute_names (attributes_of attributes.now)) }
-{
-    NameIndex::new(alloc, attribute_names(alloc, attributes)?)
-}
-
 /// The numbers of the attributes in IDENT lists.
-#[tactic(auto, using(crate::proofs::Modest::few_named))]
+#[tactic(auto, using(crate::proofs::Bounded::few_named, crate::proofs::Named::attributes_read))]
 pub fn ident_places(
     alloc: Global,
     attributes: &[AttributeSyntax],
     lists: &[IdentList],
 ) -> Result<Vec<Places>, Memory>
-    requires { AreModest (attributes_of attributes.now) }
+    requires { AreBounded (attributes_of attributes.now) }
     ensures { IfOk result (λ ps. places_of ps.items
         ≡ places (attributes_of attributes.now) (lists_of lists.now)) }
 {
-    let names = name_index(alloc, attributes)?;
+    let names = NameIndex::of(alloc, attributes)?;
     places(alloc, &names, lists)
 }
 
 // What an attribute of a boundary's lines stands for.
-#[tactic(auto, using(crate::proofs::Modest::modest_content, crate::proofs::Collecting::attribute_out))]
+#[tactic(auto, using(crate::proofs::Bounded::bounded_content, crate::proofs::Types::attribute_out))]
 fn line_attribute<'a>(
     alloc: Global,
     scope: &Scope<'_, 'a>,
     attribute: &'a AttributeSyntax,
 ) -> Result<Attribute, Memory>
-    requires scope { IsModestScope (scope_of scope.now) }
-    requires attribute { IsModestAttribute (attribute_of attribute.now) }
+    requires scope { IsBoundedScope (scope_of scope.now) }
+    requires attribute { IsBoundedAttribute (attribute_of attribute.now) }
     ensures { IfOk result (λ a. resolved_attribute a
         ≡ line_attribute (scope_of scope.now) (attribute_of attribute.now)) }
 {
@@ -75,8 +65,8 @@ fn line_attributes<'a>(
     scope: &Scope<'_, 'a>,
     attributes: &'a [AttributeSyntax],
 ) -> Result<Vec<Attribute>, Memory>
-    requires scope { IsModestScope (scope_of scope.now) }
-    requires attributes { AreModest (attributes_of attributes.now) }
+    requires scope { IsBoundedScope (scope_of scope.now) }
+    requires attributes { AreBounded (attributes_of attributes.now) }
     ensures { IfOk result (λ done. resolved_attributes done.items
         ≡ line_attributes (scope_of scope.now) (attributes_of attributes.now)) }
 {
@@ -93,7 +83,7 @@ fn line_part<'a>(
     scope: &Scope<'_, 'a>,
     line: &'a LineSyntax,
 ) -> Result<LinePart, Memory>
-    requires scope { IsModestScope (scope_of scope.now) }
+    requires scope { IsBoundedScope (scope_of scope.now) }
     requires numbers { IsSmallLine (line_of line.now) }
     requires names { line_names (line_of line.now) ≤ 4194304 }
     ensures { IfOk result (λ p. part_of p ≡ line_part (scope_of scope.now) (line_of line.now)) }
@@ -105,7 +95,6 @@ fn line_part<'a>(
 }
 
 // What the lines of a boundary stand for, and what they have of their own.
-#[tactic(auto, using(crate::proofs::Modest::small_scope))]
 fn boundary<'a>(
     alloc: Global,
     scope: &Scope<'_, 'a>,
@@ -113,7 +102,7 @@ fn boundary<'a>(
     optional: bool,
     line: &'a LineSyntax,
 ) -> Result<(LineForm, LinePart), Memory>
-    requires scope { IsModestScope (scope_of scope.now) }
+    requires scope { IsBoundedScope (scope_of scope.now) }
     requires numbers { IsSmallLine (line_of line.now) }
     requires names { line_names (line_of line.now) ≤ 4194304 }
     ensures form { IfOk result (λ b. resolved_line b.0
@@ -127,7 +116,6 @@ fn boundary<'a>(
 }
 
 // What the type of an attribute of that name stands for, in the scope where it is written.
-#[tactic(auto, using(crate::proofs::Modest::small_scope))]
 fn type_form<'a>(
     alloc: Global,
     scope: &Scope<'_, 'a>,
@@ -135,8 +123,8 @@ fn type_form<'a>(
     optional: bool,
     kind: &'a TypeSyntax,
 ) -> Result<AttributeForm, Memory>
-    requires scope { IsModestScope (scope_of scope.now) }
-    requires kind { IsModest (type_of kind.now) }
+    requires scope { IsBoundedScope (scope_of scope.now) }
+    requires kind { IsBounded (type_of kind.now) }
     ensures { IfOk result (λ f. resolved_content f
         ≡ type_form name.now.text optional (scope_of scope.now) (type_of kind.now)) }
 {
@@ -158,6 +146,7 @@ fn type_form<'a>(
 }
 
 // What the content of an attribute of that name stands for.
+#[tactic(auto, using(crate::proofs::Bounded::scope_bounded))]
 fn content_form<'a>(
     alloc: Global,
     scope: &Scope<'_, 'a>,
@@ -165,13 +154,13 @@ fn content_form<'a>(
     optional: bool,
     content: &'a Content,
 ) -> Result<AttributeForm, Memory>
-    requires scope { IsModestScope (scope_of scope.now) }
-    requires content { IsModestContent (content_of content.now) }
+    requires scope { IsBoundedScope (scope_of scope.now) }
+    requires content { IsBoundedContent (content_of content.now) }
     ensures { IfOk result (λ f. resolved_content f
         ≡ content_form (scope_of scope.now) name.now.text optional (content_of content.now)) }
 {
     match content {
-        Content::Value(kind) => match resolve_type(scope, kind) {
+        Content::Value(kind) => match scope.resolve_type(kind) {
             Some(meaning) => type_form(alloc, &meaning.scope, name, optional, meaning.kind),
             None => Ok(AttributeForm::Value(Form::Date)),
         },
@@ -183,14 +172,14 @@ fn content_form<'a>(
 }
 
 // What an attribute of a table stands for.
-#[tactic(auto, using(crate::proofs::Modest::modest_content, crate::proofs::Collecting::attribute_out))]
+#[tactic(auto, using(crate::proofs::Bounded::bounded_content, crate::proofs::Types::attribute_out))]
 fn attribute<'a>(
     alloc: Global,
     scope: &Scope<'_, 'a>,
     written: &'a AttributeSyntax,
 ) -> Result<Attribute, Memory>
-    requires scope { IsModestScope (scope_of scope.now) }
-    requires written { IsModestAttribute (attribute_of written.now) }
+    requires scope { IsBoundedScope (scope_of scope.now) }
+    requires written { IsBoundedAttribute (attribute_of written.now) }
     ensures { IfOk result (λ a. resolved_attribute a
         ≡ attribute (scope_of scope.now) (attribute_of written.now)) }
 {
@@ -208,8 +197,8 @@ pub fn attributes<'a>(
     scope: &Scope<'_, 'a>,
     written: &'a [AttributeSyntax],
 ) -> Result<Vec<Attribute>, Memory>
-    requires scope { IsModestScope (scope_of scope.now) }
-    requires written { AreModest (attributes_of written.now) }
+    requires scope { IsBoundedScope (scope_of scope.now) }
+    requires written { AreBounded (attributes_of written.now) }
     ensures { IfOk result (λ done. resolved_attributes done.items
         ≡ attributes (scope_of scope.now) (attributes_of written.now)) }
 {

@@ -26,7 +26,6 @@ pub fn no_limits() -> Limits
 }
 
 /// A number of at most 18 digits in units of a scale, further decimals dropped towards zero.
-#[tactic(auto, using(crate::proofs::Bounds::in_units_above, crate::proofs::Bounds::in_units_below))]
 pub fn bound(number: Decimal, scale: u8) -> i64
     requires short { IsSmall (decimal_of number) }
     requires scale { scale ≤ 9 }

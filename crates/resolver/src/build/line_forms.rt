@@ -5,7 +5,7 @@ ghost use Rattle.ili_grammar.specs.Syntax.{Coord3, Date};
 ghost use Rattle.ili_grammar.specs.Limits.{IsSmall, IsSmallSpan, IsSmallType, IsSmallLine};
 ghost use Rattle.ili_grammar.specs.Values.{decimal_of, corners3_of, type_of};
 ghost use Rattle.ili_grammar.specs.Values.{line_of as written_line};
-ghost use Rattle.resolver.specs.Limits.{IsSmallScope, IsSmallOverlap};
+ghost use Rattle.resolver.specs.Limits.{IsBoundedScope, IsSmallOverlap};
 ghost use Rattle.resolver.specs.Scopes.{meaning};
 ghost use Rattle.resolver.specs.ScopeViews.{scope_of};
 ghost use Rattle.resolver.specs.Models.{window_in, heights_in, vertex_scale, vertex_kind};
@@ -85,8 +85,9 @@ fn vertices_nowhere() -> Vertices
 }
 
 // Vertices of the type for which a name stands.
+#[tactic(auto, using(crate::proofs::Bounded::name_small))]
 fn vertices_of(scope: &Scope<'_, '_>, vertex: &Ident) -> Vertices
-    requires { IsSmallScope (scope_of scope.now) }
+    requires { IsBoundedScope (scope_of scope.now) }
     ensures window { window_of result.window
         ≡ window_in (vertex_kind (meaning (scope_of scope.now) vertex.now.text)) }
     ensures heights { option_map limits_of result.heights
@@ -132,7 +133,7 @@ pub fn line_form(
     optional: bool,
     line: &LineSyntax,
 ) -> Result<LineForm, Memory>
-    requires scope { IsSmallScope (scope_of scope.now) }
+    requires scope { IsBoundedScope (scope_of scope.now) }
     requires line { IsSmallLine (written_line line.now) }
     ensures { IfOk result (λ f. line_of f
         ≡ line_form name.now.text optional (scope_of scope.now) (written_line line.now)) }

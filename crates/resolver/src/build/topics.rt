@@ -3,8 +3,8 @@ ghost use Rattle.std.specs.Prelude.{◌≡◌, [], All, map, IfOk};
 ghost use Rattle.ili_grammar.specs.Limits.{IsWithinLimits};
 ghost use Rattle.ili_grammar.specs.Values.{model_of, table_of, tables_of, topic_of, topics_of};
 ghost use Rattle.resolver.specs.DomainScopes.{domains_in, StepsFrom};
-ghost use Rattle.resolver.specs.Limits.{IsModestDomain, IsModestScope, IsModestTable};
-ghost use Rattle.resolver.specs.Limits.{IsModestTopic};
+ghost use Rattle.resolver.specs.Limits.{AreBoundedDomains, IsBoundedScope, IsBoundedTable};
+ghost use Rattle.resolver.specs.Limits.{IsBoundedTopic};
 ghost use Rattle.resolver.specs.Scopes.{everywhere};
 ghost use Rattle.resolver.specs.ScopeViews.{scope_of};
 ghost use Rattle.resolver.specs.Models.{table, topic, topic_in, resolved_model};
@@ -27,8 +27,8 @@ fn table<'a>(
     scope: &Scope<'_, 'a>,
     written: &'a TableSyntax,
 ) -> Result<ModelTable, Memory>
-    requires scope { IsModestScope (scope_of scope.now) }
-    requires written { IsModestTable (table_of written.now) }
+    requires scope { IsBoundedScope (scope_of scope.now) }
+    requires written { IsBoundedTable (table_of written.now) }
     ensures { IfOk result (λ t. built_table t ≡ table (scope_of scope.now) (table_of written.now)) }
 {
     Ok(ModelTable {
@@ -44,8 +44,8 @@ fn tables<'a>(
     scope: &Scope<'_, 'a>,
     written: &'a [TableSyntax],
 ) -> Result<Vec<ModelTable>, Memory>
-    requires scope { IsModestScope (scope_of scope.now) }
-    requires written { All IsModestTable (tables_of written.now) }
+    requires scope { IsBoundedScope (scope_of scope.now) }
+    requires written { All IsBoundedTable (tables_of written.now) }
     ensures { IfOk result (λ ts. built_tables ts.items
         ≡ map (table (scope_of scope.now)) (tables_of written.now)) }
 {
@@ -62,8 +62,8 @@ fn topic_in<'a>(
     scope: &Scope<'_, 'a>,
     written: &'a TopicSyntax,
 ) -> Result<Topic, Memory>
-    requires scope { IsModestScope (scope_of scope.now) }
-    requires written { IsModestTopic (topic_of written.now) }
+    requires scope { IsBoundedScope (scope_of scope.now) }
+    requires written { IsBoundedTopic (topic_of written.now) }
     ensures { IfOk result (λ t. built_topic t
         ≡ topic_in (scope_of scope.now) (topic_of written.now)) }
 {
@@ -80,8 +80,8 @@ fn topic<'a>(
     written: &'a TopicSyntax,
 ) -> Result<Topic, Memory>
     requires steps { StepsFrom [] above.now }
-    requires above { All IsModestDomain (domains_in above.now) }
-    requires written { IsModestTopic (topic_of written.now) }
+    requires above { AreBoundedDomains (domains_in above.now) }
+    requires written { IsBoundedTopic (topic_of written.now) }
     ensures { IfOk result
         (λ t. built_topic t ≡ topic (domains_in above.now) (topic_of written.now)) }
 {
@@ -96,8 +96,8 @@ fn topics<'a>(
     written: &'a [TopicSyntax],
 ) -> Result<Vec<Topic>, Memory>
     requires steps { StepsFrom [] above.now }
-    requires above { All IsModestDomain (domains_in above.now) }
-    requires written { All IsModestTopic (topics_of written.now) }
+    requires above { AreBoundedDomains (domains_in above.now) }
+    requires written { All IsBoundedTopic (topics_of written.now) }
     ensures { IfOk result (λ ts. built_topics ts.items
         ≡ map (topic (domains_in above.now)) (topics_of written.now)) }
 {

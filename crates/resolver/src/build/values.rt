@@ -1,32 +1,21 @@
 // What values and references stand for, and the numbers of names.
-ghost use Rattle.std.specs.Prelude.{◌≡◌, ◌≤◌, length, map, IfOk, IfSome};
-ghost use Rattle.std.specs.Option.{option_map, unwrap_or};
-ghost use Rattle.ili_grammar.specs.Values.{content_of, lists_of, names_of, type_of};
+ghost use Rattle.std.specs.Prelude.{◌≡◌, ◌≤◌, length, map, IfOk};
+ghost use Rattle.std.specs.Option.{unwrap_or};
+ghost use Rattle.ili_grammar.specs.Values.{content_of, lists_of, names_of};
 ghost use Rattle.resolver.specs.NameIndexes.{names_in};
-ghost use Rattle.resolver.specs.Limits.{IsModest, IsModestContent, IsModestScope};
-ghost use Rattle.resolver.specs.Scopes.{meant, place, texts};
-ghost use Rattle.resolver.specs.ScopeViews.{meaning_of, scope_of};
+ghost use Rattle.resolver.specs.Limits.{IsBoundedContent, IsBoundedScope};
+ghost use Rattle.resolver.specs.Scopes.{place, texts};
+ghost use Rattle.resolver.specs.ScopeViews.{scope_of};
 ghost use Rattle.resolver.specs.Models.{numbers, value};
 ghost use Rattle.resolver.specs.Values.{form_of, places_of};
 
 use super::forms::form;
 use crate::models::{Form, Places};
+use crate::scope::Scope;
 use crate::scope::name_index::NameIndex;
-use crate::scope::{Meaning, Scope};
-use ili_grammar::{Content, IdentList, TypeSyntax};
+use ili_grammar::{Content, IdentList};
 use ports::Memory;
 use std::alloc::Global;
-
-/// What a type stands for in a scope.
-pub fn resolve_type<'s, 'a>(scope: &Scope<'s, 'a>, kind: &'a TypeSyntax) -> Option<Meaning<'s, 'a>>
-    requires scope { IsModestScope (scope_of scope.now) }
-    requires kind { IsModest (type_of kind.now) }
-    ensures found { option_map meaning_of result ≡ meant (scope_of scope.now) (type_of kind.now) }
-    ensures scope { IfSome result (λ m. IsModestScope (scope_of m.scope)) }
-    ensures modest { IfSome result (λ m. IsModest (type_of m.kind.now)) }
-{
-    scope.resolve_type(kind)
-}
 
 /// The number of a name among few, from 0; 0 where it is none of them.
 pub fn number(names: &NameIndex<'_>, name: &[u8]) -> u32
@@ -41,7 +30,7 @@ pub fn number(names: &NameIndex<'_>, name: &[u8]) -> u32
 
 /// The number of the table of that name, from 0; 0 where there is none.
 pub fn table_number(scope: &Scope<'_, '_>, name: &[u8]) -> u32
-    requires { IsModestScope (scope_of scope.now) }
+    requires { IsBoundedScope (scope_of scope.now) }
     ensures { result ≡ unwrap_or (place name.now (scope_of scope.now).tables) 0 }
 {
     match scope.tables {
@@ -52,12 +41,12 @@ pub fn table_number(scope: &Scope<'_, '_>, name: &[u8]) -> u32
 
 /// What a value or a reference stands for.
 pub fn value<'a>(scope: &Scope<'_, 'a>, content: &'a Content) -> Form
-    requires scope { IsModestScope (scope_of scope.now) }
-    requires content { IsModestContent (content_of content.now) }
+    requires scope { IsBoundedScope (scope_of scope.now) }
+    requires content { IsBoundedContent (content_of content.now) }
     ensures { form_of result ≡ value (scope_of scope.now) (content_of content.now) }
 {
     match content {
-        Content::Value(kind) => match resolve_type(scope, kind) {
+        Content::Value(kind) => match scope.resolve_type(kind) {
             Some(meaning) => form(meaning.kind),
             None => Form::Date,
         },

@@ -3,8 +3,7 @@ ghost use Rattle.std.specs.Prelude.{All, flat_map, OnOk};
 ghost use Rattle.resolver.specs.FaultViews.{Reports};
 ghost use Rattle.resolver.specs.ScopeViews.{scope_of};
 ghost use Rattle.resolver.specs.Steps.{domains_at};
-ghost use Rattle.ili_grammar.specs.Limits.{IsSmallDomain};
-ghost use Rattle.resolver.specs.Limits.{AreFew, IsSmallScope};
+ghost use Rattle.resolver.specs.Limits.{IsBounded, IsBoundedScope};
 ghost use Rattle.resolver.specs.Rules.{domain_faults, domains_faults};
 
 use super::types::check_type;
@@ -21,8 +20,8 @@ fn check_types<'a>(
     domains: &[&'a DomainSyntax],
     earliest: &mut Earliest<'a>,
 ) -> Result<(), Memory>
-    requires scope { IsSmallScope (scope_of scope.now) }
-    requires domains { All IsSmallDomain (domains_at domains.now) }
+    requires scope { IsBoundedScope (scope_of scope.now) }
+    requires domains { All (λ d. IsBounded d.kind) (domains_at domains.now) }
     ensures { OnOk result (Reports earliest.old earliest.new
         (flat_map (domain_faults (scope_of scope.now)) (domains_at domains.now))) }
 {
@@ -38,8 +37,7 @@ pub fn check_domains<'a>(
     scope: &Scope<'_, 'a>,
     earliest: &mut Earliest<'a>,
 ) -> Result<(), Memory>
-    requires scope { IsSmallScope (scope_of scope.now) }
-    requires few { AreFew (scope_of scope.now).own }
+    requires { IsBoundedScope (scope_of scope.now) }
     ensures { OnOk result (Reports earliest.old earliest.new
         (domains_faults (scope_of scope.now))) }
 {

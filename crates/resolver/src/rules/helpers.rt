@@ -43,7 +43,7 @@ fn check_key<'a>(
 }
 
 // Reports the helper table of an attribute, if it gives its table one.
-#[tactic(auto, using(crate::proofs::Collecting::attribute_out))]
+#[tactic(auto, using(crate::proofs::Types::attribute_out))]
 fn check_helper<'a>(
     alloc: Global,
     scope: &Scope<'_, 'a>,

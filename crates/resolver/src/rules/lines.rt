@@ -18,20 +18,17 @@ use ili_grammar::{Content, Decimal, TypeSyntax};
 pub fn is_line(kind: &TypeSyntax) -> bool
     ensures { result ≡ is_line (type_of kind.now) }
 {
-    match kind {
-        TypeSyntax::Polyline(_) | TypeSyntax::Surface(_) | TypeSyntax::Area(_) => true,
-        _ => false,
-    }
+    matches!(
+        kind,
+        TypeSyntax::Polyline(_) | TypeSyntax::Surface(_) | TypeSyntax::Area(_)
+    )
 }
 
 /// Whether a type is a line that gives its table a helper table.
 pub fn is_boundary(kind: &TypeSyntax) -> bool
     ensures { result ≡ is_boundary (type_of kind.now) }
 {
-    match kind {
-        TypeSyntax::Surface(_) | TypeSyntax::Area(_) => true,
-        _ => false,
-    }
+    matches!(kind, TypeSyntax::Surface(_) | TypeSyntax::Area(_))
 }
 
 /// Whether vertices of this type suit a line.
@@ -75,24 +72,16 @@ pub fn is_long_overlap(overlap: Option<Decimal>, kind: &TypeSyntax) -> bool
 pub fn stands_for_line<'a>(scope: &Scope<'_, 'a>, content: &'a Content) -> bool
     ensures { result ≡ stands_for is_line (scope_of scope.now) (content_of content.now) }
 {
-    match content {
-        Content::Value(kind) => match scope.resolve_type(kind) {
-            Some(meaning) => is_line(meaning.kind),
-            None => false,
-        },
-        Content::Reference(_) => false,
-    }
+    scope
+        .resolve_value(content)
+        .is_some_and(|meaning| is_line(meaning.kind))
 }
 
 /// Whether an attribute is a line that gives its table a helper table.
 pub fn stands_for_boundary<'a>(scope: &Scope<'_, 'a>, content: &'a Content) -> bool
     ensures { result ≡ stands_for is_boundary (scope_of scope.now) (content_of content.now) }
 {
-    match content {
-        Content::Value(kind) => match scope.resolve_type(kind) {
-            Some(meaning) => is_boundary(meaning.kind),
-            None => false,
-        },
-        Content::Reference(_) => false,
-    }
+    scope
+        .resolve_value(content)
+        .is_some_and(|meaning| is_boundary(meaning.kind))
 }

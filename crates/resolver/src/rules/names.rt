@@ -1,21 +1,20 @@
 // The rules on names: of domains and tables, of attributes, of elements, and in IDENT lists.
-ghost use Rattle.std.specs.Prelude.{◌≡◌, flat_map, IfOk, OnOk};
-ghost use Rattle.ili_grammar.specs.Values.{ident_of, names_of, lists_of, element_of, elements_of};
-ghost use Rattle.ili_grammar.specs.Values.{attributes_of, content_of};
+ghost use Rattle.std.specs.Prelude.{◌≡◌, map, flat_map, IfOk, OnOk};
+ghost use Rattle.ili_grammar.specs.Values.{ident_of, names_of, lists_of, elements_of};
+ghost use Rattle.ili_grammar.specs.Values.{attributes_of};
 ghost use Rattle.resolver.specs.FaultViews.{Reports};
-ghost use Rattle.resolver.specs.Indexed.{idents};
 ghost use Rattle.resolver.specs.NameIndexes.{names_in};
 ghost use Rattle.resolver.specs.Scopes.{texts};
 ghost use Rattle.resolver.specs.ScopeViews.{scope_of};
 ghost use Rattle.resolver.specs.Rules.{type_name_faults, reference_faults, twice_in, element_names};
-ghost use Rattle.resolver.specs.Rules.{attribute_names, no_attribute, list_faults, lists_faults};
+ghost use Rattle.resolver.specs.Rules.{no_attribute, list_faults, lists_faults};
 ghost use Rattle.resolver.specs.Rules.{names_faults};
 
 use crate::earliest::Earliest;
 use crate::faults::ModelCode;
 use crate::scope::Scope;
-use crate::scope::declared::attribute_names;
 use crate::scope::name_index::NameIndex;
+use crate::scope::named::Named;
 use ili_grammar::{AttributeSyntax, Element, Ident, IdentList};
 use ports::Memory;
 use std::alloc::Global;
@@ -45,44 +44,23 @@ pub fn check_reference<'a>(scope: &Scope<'_, 'a>, name: &'a Ident, earliest: &mu
     earliest.report(true, code, name);
 }
 
-// The names of some elements.
-fn element_names<'a>(alloc: Global, elements: &'a [Element]) -> Result<Vec<&'a Ident>, Memory>
-    ensures { IfOk result (λ names. idents names.items ≡ element_names (elements_of elements.now)) }
-{
-    let mut names = Vec::new(alloc);
-    for element in elements {
-        names.push(&element.name)?;
-    }
-    Ok(names)
-}
-
-// The names of an IDENT list.
-fn listed_names<'a>(alloc: Global, list: &'a IdentList) -> Result<Vec<&'a Ident>, Memory>
-    ensures { IfOk result (λ names. idents names.items ≡ names_of list.now) }
-{
-    let mut names = Vec::new(alloc);
-    for name in &list.names {
-        names.push(name)?;
-    }
-    Ok(names)
-}
-
 /// Reports each name that stands among those before it.
-pub fn check_unique<'a>(
+pub fn check_unique<'a, T: Named>(
     alloc: Global,
-    names: Vec<&'a Ident>,
+    items: &'a [T],
     earliest: &mut Earliest<'a>,
 ) -> Result<NameIndex<'a>, Memory>
     ensures reported { OnOk result (Reports earliest.old earliest.new
-        (twice_in (idents names.entry.items))) }
-    ensures names { IfOk result (λ d. names_in d ≡ idents names.entry.items) }
+        (twice_in (map T.name_of items.now))) }
+    ensures names { IfOk result (λ d. names_in d ≡ map T.name_of items.now) }
 {
-    let names = NameIndex::new(alloc, names)?;
+    let names = NameIndex::of(alloc, items)?;
     names.check_unique(None, earliest);
     Ok(names)
 }
 
 /// Reports each element of a list that has the name of an earlier one.
+#[tactic(auto, using(crate::proofs::Named::elements_read))]
 pub fn check_elements<'a>(
     alloc: Global,
     elements: &'a [Element],
@@ -91,23 +69,8 @@ pub fn check_elements<'a>(
     ensures { OnOk result (Reports earliest.old earliest.new
         (twice_in (element_names (elements_of elements.now)))) }
 {
-    let names = element_names(alloc, elements)?;
-    check_unique(alloc, names, earliest)?;
+    check_unique(alloc, elements, earliest)?;
     Ok(())
-}
-
-// Reports each attribute that has the name of an earlier one.
-fn check_attribute_names<'a>(
-    alloc: Global,
-    attributes: &'a [AttributeSyntax],
-    earliest: &mut Earliest<'a>,
-) -> Result<NameIndex<'a>, Memory>
-    ensures reported { OnOk result (Reports earliest.old earliest.new
-        (twice_in (attribute_names (attributes_of attributes.now)))) }
-    ensures names { IfOk result (λ d. names_in d ≡ attribute_names (attributes_of attributes.now)) }
-{
-    let names = attribute_names(alloc, attributes)?;
-    check_unique(alloc, names, earliest)
 }
 
 // Reports a name of an IDENT list that is no attribute.
@@ -144,8 +107,7 @@ fn check_list<'a>(
     ensures { OnOk result (Reports earliest.old earliest.new
         (list_faults (texts (names_in attributes.now)) (names_of list.now))) }
 {
-    let names = listed_names(alloc, list)?;
-    check_unique(alloc, names, earliest)?;
+    check_unique(alloc, &list.names, earliest)?;
     check_listed_names(attributes, list, earliest);
     Ok(())
 }
@@ -168,7 +130,7 @@ fn check_lists<'a>(
 
 /// Reports each attribute that has the name of an earlier one, and what is wrong in the IDENT
 /// lists.
-#[tactic(auto, using(crate::proofs::Folds::first_append))]
+#[tactic(auto, using(crate::proofs::Folds::first_append, crate::proofs::Named::attributes_read))]
 pub fn check_names<'a>(
     alloc: Global,
     attributes: &'a [AttributeSyntax],
@@ -178,6 +140,6 @@ pub fn check_names<'a>(
     ensures { OnOk result (Reports earliest.old earliest.new
         (names_faults (attributes_of attributes.now) (lists_of lists.now))) }
 {
-    let names = check_attribute_names(alloc, attributes, earliest)?;
+    let names = check_unique(alloc, attributes, earliest)?;
     check_lists(alloc, &names, lists, earliest)
 }

@@ -3,8 +3,8 @@ ghost use Rattle.std.specs.Prelude.{All, OnOk};
 ghost use Rattle.ili_grammar.specs.Values.{attributes_of, table_of, tables_of};
 ghost use Rattle.resolver.specs.FaultViews.{Reports};
 ghost use Rattle.resolver.specs.ScopeViews.{scope_of};
-ghost use Rattle.ili_grammar.specs.Limits.{IsSmallTable, AreSmallAttributes};
-ghost use Rattle.resolver.specs.Limits.{IsSmallScope};
+ghost use Rattle.ili_grammar.specs.Limits.{AreSmallAttributes};
+ghost use Rattle.resolver.specs.Limits.{IsBoundedScope, IsBoundedTable};
 ghost use Rattle.resolver.specs.Rules.{attributes_faults, table_faults, tables_faults};
 
 use super::helpers::check_table_names;
@@ -24,7 +24,7 @@ fn check_attributes<'a>(
     attributes: &'a [AttributeSyntax],
     earliest: &mut Earliest<'a>,
 ) -> Result<(), Memory>
-    requires scope { IsSmallScope (scope_of scope.now) }
+    requires scope { IsBoundedScope (scope_of scope.now) }
     requires attributes { AreSmallAttributes (attributes_of attributes.now) }
     ensures { OnOk result (Reports earliest.old earliest.new
         (attributes_faults (scope_of scope.now) (attributes_of attributes.now))) }
@@ -43,8 +43,8 @@ fn check_table<'a>(
     table: &'a TableSyntax,
     earliest: &mut Earliest<'a>,
 ) -> Result<(), Memory>
-    requires scope { IsSmallScope (scope_of scope.now) }
-    requires table { IsSmallTable (table_of table.now) }
+    requires scope { IsBoundedScope (scope_of scope.now) }
+    requires table { IsBoundedTable (table_of table.now) }
     ensures { OnOk result (Reports earliest.old earliest.new
         (table_faults (scope_of scope.now) (table_of table.now))) }
 {
@@ -60,8 +60,8 @@ pub fn check_tables<'a>(
     tables: &'a [TableSyntax],
     earliest: &mut Earliest<'a>,
 ) -> Result<(), Memory>
-    requires scope { IsSmallScope (scope_of scope.now) }
-    requires tables { All IsSmallTable (tables_of tables.now) }
+    requires scope { IsBoundedScope (scope_of scope.now) }
+    requires tables { All IsBoundedTable (tables_of tables.now) }
     ensures { OnOk result (Reports earliest.old earliest.new
         (tables_faults (scope_of scope.now) (tables_of tables.now))) }
 {

@@ -1,12 +1,11 @@
 // The rules on the topics of a model.
-ghost use Rattle.std.specs.Prelude.{◌≡◌, ◌++◌, [], All, map, flat_map, IfOk, OnOk};
+ghost use Rattle.std.specs.Prelude.{◌≡◌, ◌++◌, [], All, map, flat_map, OnOk};
 ghost use Rattle.ili_grammar.specs.Values.{tables_of, topic_of, topics_of};
 ghost use Rattle.resolver.specs.FaultViews.{Reports};
 ghost use Rattle.resolver.specs.ScopeViews.{scope_of};
-ghost use Rattle.resolver.specs.Indexed.{idents};
 ghost use Rattle.resolver.specs.DomainScopes.{domains_in, StepsFrom};
-ghost use Rattle.ili_grammar.specs.Limits.{IsSmallDomain, IsSmallTable, IsSmallTopic};
-ghost use Rattle.resolver.specs.Limits.{AreFew, IsSmallScope, HasFewDomains};
+ghost use Rattle.resolver.specs.Limits.{AreBoundedDomains, IsBoundedScope, IsBoundedTable};
+ghost use Rattle.resolver.specs.Limits.{IsBoundedTopic};
 ghost use Rattle.resolver.specs.Rules.{domains_faults, tables_faults, topic_faults, twice_in};
 
 use super::domains::check_domains;
@@ -16,7 +15,7 @@ use crate::earliest::Earliest;
 use crate::scope::Scope;
 use crate::scope::domain_scope::DomainScope;
 use crate::scope::topic_scope::TopicScope;
-use ili_grammar::{Ident, TableSyntax, TopicSyntax};
+use ili_grammar::{TableSyntax, TopicSyntax};
 use ports::Memory;
 use std::alloc::Global;
 
@@ -28,9 +27,8 @@ fn check_parts<'a>(
     tables: &'a [TableSyntax],
     earliest: &mut Earliest<'a>,
 ) -> Result<(), Memory>
-    requires scope { IsSmallScope (scope_of scope.now) }
-    requires few { AreFew (scope_of scope.now).own }
-    requires tables { All IsSmallTable (tables_of tables.now) }
+    requires scope { IsBoundedScope (scope_of scope.now) }
+    requires tables { All IsBoundedTable (tables_of tables.now) }
     ensures { OnOk result (Reports earliest.old earliest.new
         (domains_faults (scope_of scope.now)
         ++ tables_faults (scope_of scope.now) (tables_of tables.now))) }
@@ -47,25 +45,13 @@ fn check_topic<'a>(
     earliest: &mut Earliest<'a>,
 ) -> Result<(), Memory>
     requires steps { StepsFrom [] above.now }
-    requires above { All IsSmallDomain (domains_in above.now) }
-    requires topic { IsSmallTopic (topic_of topic.now) }
-    requires few { HasFewDomains (topic_of topic.now) }
+    requires above { AreBoundedDomains (domains_in above.now) }
+    requires topic { IsBoundedTopic (topic_of topic.now) }
     ensures { OnOk result (Reports earliest.old earliest.new
         (topic_faults (domains_in above.now) (topic_of topic.now))) }
 {
     let own = TopicScope::new(alloc, above, topic)?;
     check_parts(alloc, &own.scope(), &topic.tables, earliest)
-}
-
-// The names of some topics.
-fn topic_names<'a>(alloc: Global, topics: &'a [TopicSyntax]) -> Result<Vec<&'a Ident>, Memory>
-    ensures { IfOk result (λ names. idents names.items ≡ map (λ t. t.name) (topics_of topics.now)) }
-{
-    let mut names = Vec::new(alloc);
-    for topic in topics {
-        names.push(&topic.name)?;
-    }
-    Ok(names)
 }
 
 // Checks each of some topics.
@@ -76,9 +62,8 @@ fn check_each<'a>(
     earliest: &mut Earliest<'a>,
 ) -> Result<(), Memory>
     requires steps { StepsFrom [] above.now }
-    requires above { All IsSmallDomain (domains_in above.now) }
-    requires topics { All IsSmallTopic (topics_of topics.now) }
-    requires few { All HasFewDomains (topics_of topics.now) }
+    requires above { AreBoundedDomains (domains_in above.now) }
+    requires topics { All IsBoundedTopic (topics_of topics.now) }
     ensures { OnOk result (Reports earliest.old earliest.new
         (flat_map (topic_faults (domains_in above.now)) (topics_of topics.now))) }
 {
@@ -90,7 +75,7 @@ fn check_each<'a>(
 
 /// Checks the topics of a model, where the domains of `above` are declared
 /// outside.
-#[tactic(auto, using(crate::proofs::Folds::first_append))]
+#[tactic(auto, using(crate::proofs::Folds::first_append, crate::proofs::Named::topics_read))]
 pub fn check_topics<'a>(
     alloc: Global,
     above: &DomainScope<'a>,
@@ -98,14 +83,12 @@ pub fn check_topics<'a>(
     earliest: &mut Earliest<'a>,
 ) -> Result<(), Memory>
     requires steps { StepsFrom [] above.now }
-    requires above { All IsSmallDomain (domains_in above.now) }
-    requires topics { All IsSmallTopic (topics_of topics.now) }
-    requires few { All HasFewDomains (topics_of topics.now) }
+    requires above { AreBoundedDomains (domains_in above.now) }
+    requires topics { All IsBoundedTopic (topics_of topics.now) }
     ensures { OnOk result (Reports earliest.old earliest.new
         (twice_in (map (λ t. t.name) (topics_of topics.now))
         ++ flat_map (topic_faults (domains_in above.now)) (topics_of topics.now))) }
 {
-    let names = topic_names(alloc, topics)?;
-    check_unique(alloc, names, earliest)?;
+    check_unique(alloc, topics, earliest)?;
     check_each(alloc, above, topics, earliest)
 }

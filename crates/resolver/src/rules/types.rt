@@ -7,11 +7,11 @@ ghost use Rattle.resolver.specs.FaultViews.{Reports};
 ghost use Rattle.resolver.specs.ScopeViews.{scope_of};
 ghost use Rattle.ili_grammar.specs.Limits.{IsSmallType, IsSmallLine, IsSmallAttribute};
 ghost use Rattle.ili_grammar.specs.Limits.{AreSmallAttributes};
-ghost use Rattle.resolver.specs.Limits.{IsSmallOverlap, IsSmallScope};
+ghost use Rattle.resolver.specs.Limits.{IsBoundedScope, IsSmallOverlap};
 ghost use Rattle.resolver.specs.Rules.{kind_faults, vertex_faults, element_names, twice_in};
 ghost use Rattle.resolver.specs.Rules.{element_faults, parts_faults, line_attribute_fault};
-ghost use Rattle.resolver.specs.Rules.{line_attribute_faults, type_faults, line_faults};
-ghost use Rattle.resolver.specs.Rules.{attribute_faults};
+ghost use Rattle.resolver.specs.Rules.{line_attribute_faults, plain_faults, type_faults};
+ghost use Rattle.resolver.specs.Rules.{attribute_faults, line_faults};
 
 use super::lines::{is_long_overlap, stands_for_line, suits};
 use super::names::{check_elements, check_names, check_reference, check_type_name};
@@ -48,7 +48,7 @@ fn check_vertex_type<'a>(
 }
 
 // Checks the vertices of a line.
-#[tactic(auto, using(crate::proofs::Folds::first_append))]
+#[tactic(auto, using(crate::proofs::Folds::first_append, crate::proofs::Bounded::name_small))]
 fn check_vertex<'a>(
     scope: &Scope<'_, 'a>,
     owner: &'a Ident,
@@ -57,21 +57,20 @@ fn check_vertex<'a>(
     overlap: Option<Decimal>,
     earliest: &mut Earliest<'a>,
 )
-    requires scope { IsSmallScope (scope_of scope.now) }
+    requires scope { IsBoundedScope (scope_of scope.now) }
     requires overlap { IsSmallOverlap (option_map decimal_of overlap) }
     ensures { Reports earliest.old earliest.new
         (vertex_faults (scope_of scope.now) (ident_of owner.now) shape (ident_of vertex.now)
         (option_map decimal_of overlap)) }
 {
     check_type_name(scope, vertex, earliest);
-    match scope.resolve_name(vertex.text.bytes()) {
-        Some(meaning) => check_vertex_type(meaning.kind, owner, shape, vertex, overlap, earliest),
-        None => {}
+    if let Some(meaning) = scope.resolve_name(vertex.text.bytes()) {
+        check_vertex_type(meaning.kind, owner, shape, vertex, overlap, earliest);
     }
 }
 
 // Reports an attribute of a line that is a line.
-#[tactic(auto, using(crate::proofs::Collecting::attribute_out))]
+#[tactic(auto, using(crate::proofs::Types::attribute_out))]
 fn check_line_attribute<'a>(
     scope: &Scope<'_, 'a>,
     attribute: &'a AttributeSyntax,
@@ -132,6 +131,29 @@ fn check_enumeration<'a>(
     Ok(())
 }
 
+// Checks a type that is no line.
+fn check_plain_type<'a>(
+    kind: &'a TypeSyntax,
+    owner: &'a Ident,
+    alloc: Global,
+    scope: &Scope<'_, 'a>,
+    earliest: &mut Earliest<'a>,
+) -> Result<(), Memory>
+    requires { IsSmallType (type_of kind.now) }
+    ensures { OnOk result (Reports earliest.old earliest.new
+        (plain_faults (scope_of scope.now) (ident_of owner.now) (type_of kind.now))) }
+{
+    match kind {
+        TypeSyntax::Enumeration(elements) => return check_enumeration(elements, alloc, earliest),
+        TypeSyntax::Named(name) => check_type_name(scope, name, earliest),
+        TypeSyntax::Text(length) => {
+            earliest.report(!is_text_length(*length), ModelCode::Bounds, owner);
+        }
+        _ => check_numbers(owner, kind, earliest),
+    }
+    Ok(())
+}
+
 /// Checks a type that is written at the attribute or domain `owner`.
 #[cycle(rules)]
 pub fn check_type<'a>(
@@ -142,7 +164,7 @@ pub fn check_type<'a>(
     earliest: &mut Earliest<'a>,
 ) -> Result<(), Memory>
     requires kind { IsSmallType (type_of kind.now) }
-    requires scope { IsSmallScope (scope_of scope.now) }
+    requires scope { IsBoundedScope (scope_of scope.now) }
     ensures { OnOk result (Reports earliest.old earliest.new
         (type_faults (scope_of scope.now) (ident_of owner.now) (type_of kind.now))) }
 {
@@ -154,19 +176,7 @@ pub fn check_type<'a>(
             check_line(line, owner, Shape::Surface, alloc, scope, earliest)
         }
         TypeSyntax::Area(line) => check_line(line, owner, Shape::Area, alloc, scope, earliest),
-        TypeSyntax::Enumeration(elements) => check_enumeration(elements, alloc, earliest),
-        TypeSyntax::Named(name) => {
-            check_type_name(scope, name, earliest);
-            Ok(())
-        }
-        TypeSyntax::Text(length) => {
-            earliest.report(!is_text_length(*length), ModelCode::Bounds, owner);
-            Ok(())
-        }
-        _ => {
-            check_numbers(owner, kind, earliest);
-            Ok(())
-        }
+        _ => check_plain_type(kind, owner, alloc, scope, earliest),
     }
 }
 
@@ -182,7 +192,7 @@ fn check_line<'a>(
     earliest: &mut Earliest<'a>,
 ) -> Result<(), Memory>
     requires line { IsSmallLine (line_of line.now) }
-    requires scope { IsSmallScope (scope_of scope.now) }
+    requires scope { IsBoundedScope (scope_of scope.now) }
     ensures { OnOk result (Reports earliest.old earliest.new
         (line_faults (scope_of scope.now) (ident_of owner.now) shape (line_of line.now))) }
 {
@@ -204,7 +214,7 @@ pub fn check_attribute<'a>(
     earliest: &mut Earliest<'a>,
 ) -> Result<(), Memory>
     requires attribute { IsSmallAttribute (attribute_of attribute.now) }
-    requires scope { IsSmallScope (scope_of scope.now) }
+    requires scope { IsBoundedScope (scope_of scope.now) }
     ensures { OnOk result (Reports earliest.old earliest.new
         (attribute_faults (scope_of scope.now) (attribute_of attribute.now))) }
 {

@@ -112,8 +112,6 @@ fn target_type<'a>(domains: &[&'a DomainSyntax], targets: &[usize], place: usize
 }
 
 impl<'a> DomainScope<'a> {
-    ghost use Rattle.std.specs.Prelude.{All, IfSome};
-    ghost use Rattle.ili_grammar.specs.Limits.{IsSmallDomain, IsSmallType};
     ghost use Rattle.resolver.specs.DomainScopes.{domains_in, StepsFrom, target_in};
     ghost use Rattle.std.specs.Prelude.{◌≤◌, OnOk};
     ghost use Rattle.resolver.specs.FaultViews.{Reports};
@@ -148,11 +146,9 @@ impl<'a> DomainScope<'a> {
 
     /// The type at the end of the chain of the domain of that name.
     pub fn target(&self, name: &[u8]) -> Option<&'a TypeSyntax>
-        ensures target { option_map (λ k. type_of k.now) result
+        ensures { option_map (λ k. type_of k.now) result
             ≡ option_and_then (target_in self.now)
             (place name.now (names_of (domains_in self.now))) }
-        ensures short { All IsSmallDomain (domains_in self.now)
-            → IfSome result (λ k. IsSmallType (type_of k.now)) }
     {
         let place = self.names.place(name)?;
         Some(target_type(&self.domains, &self.targets, place))

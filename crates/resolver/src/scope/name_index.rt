@@ -1,9 +1,10 @@
 // Names in the order of the text, each with the place of the first that has it.
-ghost use Rattle.std.specs.Prelude.{◌≡◌, nat_eq, IfOk};
+ghost use Rattle.std.specs.Prelude.{◌≡◌, map, nat_eq, IfOk};
 ghost use Rattle.std.specs.Cmp.Lexicographic.{pointwise};
 ghost use Rattle.indexmap.specs.IndexMap.{get};
 ghost use Rattle.resolver.specs.Indexed.{IsIndex, idents};
 
+use super::named::Named;
 use crate::earliest::Earliest;
 use crate::faults::ModelCode;
 use ili_grammar::Ident;
@@ -17,6 +18,17 @@ pub struct NameIndex<'a> {
     names: Vec<&'a Ident>,
     places: IndexMap<Key<'a>, usize>,
     ghost indexed: { IsIndex (get (pointwise nat_eq) places) (idents names.items) },
+}
+
+// The names of some things.
+fn names<T: Named>(alloc: Global, items: &[T]) -> Result<Vec<&Ident>, Memory>
+    ensures { IfOk result (λ names. idents names.items ≡ map T.name_of items.now) }
+{
+    let mut names = Vec::new(alloc);
+    for item in items {
+        names.push(item.name())?;
+    }
+    Ok(names)
 }
 
 fn key_of(name: &Ident) -> Key<'_>
@@ -52,6 +64,13 @@ impl<'a> NameIndex<'a> {
         Ok(NameIndex { names, places })
     }
 
+    /// The names of some things.
+    pub fn of<T: Named>(alloc: Global, items: &'a [T]) -> Result<NameIndex<'a>, Memory>
+        ensures { IfOk result (λ d. names_in d ≡ map T.name_of items.now) }
+    {
+        NameIndex::new(alloc, names(alloc, items)?)
+    }
+
     /// The place of the first name with these bytes, from 0.
     pub fn place(&self, name: &[u8]) -> Option<usize>
         ensures { result ≡ place name.now (texts (names_in self.now)) }
@@ -68,13 +87,11 @@ impl<'a> NameIndex<'a> {
     }
 
     // Whether one of the first names has these bytes.
+    #[tactic(auto, using(crate::proofs::Indexes::among_first))]
     fn has_before(&self, name: &[u8], end: usize) -> bool
         ensures { result ≡ is_among name.now (take end (texts (names_in self.now))) }
     {
-        match self.place(name) {
-            Some(place) => place < end,
-            None => false,
-        }
+        self.place(name).is_some_and(|place| place < end)
     }
 
     // Whether a name of `above` or one of the first names here has these bytes.
@@ -101,9 +118,6 @@ impl<'a> NameIndex<'a> {
     pub fn is_in(names: Option<&NameIndex<'a>>, name: &[u8]) -> bool
         ensures { result ≡ is_among name.now (texts (names_if names.entry)) }
     {
-        match names {
-            Some(names) => names.has(name),
-            None => false,
-        }
+        names.is_some_and(|names| names.has(name))
     }
 }

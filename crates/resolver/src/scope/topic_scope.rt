@@ -1,15 +1,14 @@
 // The domains of a topic and the names of its tables, for the scope of the topic.
 ghost use Rattle.std.specs.Prelude.{◌≡◌, [], IfOk};
-ghost use Rattle.ili_grammar.specs.Values.{domains_of, tables_of};
+ghost use Rattle.ili_grammar.specs.Values.{domains_of};
 ghost use Rattle.resolver.specs.DomainScopes.{domains_in, StepsFrom};
-ghost use Rattle.resolver.specs.NameIndexes.{names_in};
-ghost use Rattle.resolver.specs.Scopes.{domain_names, names_of, table_names, texts};
+ghost use Rattle.resolver.specs.Scopes.{domain_names, names_of, texts};
 
 use super::Scope;
-use super::declared::{push_domains, table_names};
+use super::declared::push_domains;
 use super::domain_scope::DomainScope;
 use super::name_index::NameIndex;
-use ili_grammar::{DomainSyntax, TableSyntax, TopicSyntax};
+use ili_grammar::{DomainSyntax, TopicSyntax};
 use ports::Memory;
 use std::alloc::Global;
 
@@ -37,13 +36,6 @@ fn topic_domains<'a>(
     DomainScope::new(alloc, Some(above.names()), all)
 }
 
-// The names of some tables, each with its place.
-fn table_index<'a>(alloc: Global, tables: &'a [TableSyntax]) -> Result<NameIndex<'a>, Memory>
-    ensures { IfOk result (λ d. names_in d ≡ table_names (tables_of tables.now)) }
-{
-    NameIndex::new(alloc, table_names(alloc, tables)?)
-}
-
 impl<'s, 'a> TopicScope<'s, 'a> {
     ghost use Rattle.ili_grammar.specs.Values.{topic_of};
     ghost use Rattle.resolver.specs.Scopes.{inside};
@@ -59,7 +51,7 @@ impl<'s, 'a> TopicScope<'s, 'a> {
         ensures { IfOk result
             (λ s. topic_scope_of s ≡ inside (domains_in above.now) (topic_of topic.now)) }
     {
-        let tables = table_index(alloc, &topic.tables)?;
+        let tables = NameIndex::of(alloc, &topic.tables)?;
         let own = topic_domains(alloc, above, &topic.domains)?;
         Ok(TopicScope { above, own, tables })
     }

@@ -1,17 +1,17 @@
-use Rattle.std.proofs.Common.{◌≡◌, ◌++◌, List, Option, None, map, ap, sym, subst, ◌∙◌, arith}
+use Rattle.std.proofs.Common.{◌≡◌, ◌++◌, List, Option, None, map, ap, sym, subst, ◌∙◌}
 use Rattle.std.specs.List.{All, flat_map}
 use Rattle.ili_grammar.specs.declared.syntax.TopicSyntax as topic
 use Rattle.ili_grammar.specs.Syntax.{DomainSyntax, TopicSyntax, ModelSyntax}
-use Rattle.ili_grammar.specs.Limits.{IsSmallDomain, IsSmallTopic}
 use Rattle.ili_grammar.specs.Values.{model_of, topics_of}
 use Rattle.resolver.specs.Faults.{Fault, first_from}
 use Rattle.resolver.specs.FaultViews.{fault_in}
 use Rattle.resolver.specs.Scopes.{Scope, everywhere, outside}
 use Rattle.resolver.specs.DomainScopes.{domains_in}
-use Rattle.resolver.specs.Limits.{AreFew, HasFewDomains, IsSmallScope}
+use Rattle.resolver.specs.Limits.{AreBoundedDomains, IsBoundedScope, IsBoundedTopic}
 use Rattle.resolver.specs.Rules.{domains_faults, topic_faults, twice_in, first_fault}
 use Rattle.resolver.proofs.Folds.{first_append}
-use Rattle.resolver.proofs.Within.{small_everywhere, few_everywhere, few_in_topics}
+use Rattle.resolver.proofs.Bounded.{bounded_outside}
+use Rattle.resolver.proofs.Within.{bounded_everywhere, bounded_topics}
 use Rattle.resolver.proofs.rules.first_fault.Goals as goal
 
 -- what is wrong outside the topics was fault_in, and then what is wrong in them
@@ -25,23 +25,16 @@ all_told m above topics none outer all a t n o e =
     ∙ ap (λ (b : Option Fault). first_from b (here (everywhere m) m.topics)) (o ∙ ap (λ (l : List DomainSyntax). first_from none (domains_faults (outside l))) a ∙ ap (λ (b : Option Fault). first_from b (domains_faults (outside (everywhere m)))) n)
     ∙ sym (first_append None (domains_faults (outside (everywhere m))) (here (everywhere m) m.topics))
 
-small_outside : (ds : List DomainSyntax) → All IsSmallDomain ds → IsSmallScope (outside ds)
-small_outside ds h = (λ i d lt. absurd (omega (arith, lt)), h)
+pub check_domains-requires : goal.check_domains-requires
+check_domains-requires c =
+    subst IsBoundedScope (sym c.outside.ensures)
+    (bounded_outside (domains_in c.args.above.now) (subst AreBoundedDomains (sym c.requires.domains) (bounded_everywhere (model_of c.args.syntax.now) c.requires.within)))
 
-pub check_domains-requires-clause-scope : goal.check_domains-requires-clause-scope
-check_domains-requires-clause-scope c =
-    subst IsSmallScope (sym c.outside.ensures)
-    (small_outside (domains_in c.args.above.now) (subst (All IsSmallDomain) (sym c.requires.domains) (small_everywhere (model_of c.args.syntax.now) c.requires.within)))
-
-pub check_domains-requires-clause-few : goal.check_domains-requires-clause-few
-check_domains-requires-clause-few c =
-    subst (λ (s : Scope). AreFew s.own) (sym c.outside.ensures) (subst AreFew (sym c.requires.domains) (few_everywhere (model_of c.args.syntax.now) c.requires.within))
+pub check_topics-requires-clause-above : goal.check_topics-requires-clause-above
+check_topics-requires-clause-above c = subst AreBoundedDomains (sym c.requires.domains) (bounded_everywhere (model_of c.args.syntax.now) c.requires.within)
 
 pub check_topics-requires-clause-topics : goal.check_topics-requires-clause-topics
-check_topics-requires-clause-topics c = subst (λ (l : List topic.TopicSyntax). All IsSmallTopic (topics_of l)) (sym c.deref.ensures.value) c.requires.within.numbers.topics
-
-pub check_topics-requires-clause-few : goal.check_topics-requires-clause-few
-check_topics-requires-clause-few c = subst (λ (l : List topic.TopicSyntax). All HasFewDomains (topics_of l)) (sym c.deref.ensures.value) (few_in_topics (model_of c.args.syntax.now) c.requires.within)
+check_topics-requires-clause-topics c = subst (λ (l : List topic.TopicSyntax). All IsBoundedTopic (topics_of l)) (sym c.deref.ensures.value) (bounded_topics (model_of c.args.syntax.now) c.requires.within)
 
 pub returns : goal.returns
 returns c =

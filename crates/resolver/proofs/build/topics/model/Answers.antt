@@ -3,18 +3,18 @@ use Rattle.std.specs.List.{All}
 use Rattle.ili_grammar.specs.declared.syntax.TopicSyntax as topic
 use Rattle.ili_grammar.specs.Syntax.{DomainSyntax}
 use Rattle.ili_grammar.specs.Values.{codes_of, model_of, topics_of}
-use Rattle.resolver.specs.Limits.{IsModestDomain, IsModestTopic}
+use Rattle.resolver.specs.Limits.{AreBoundedDomains, IsBoundedTopic}
 use Rattle.resolver.specs.Scopes.{everywhere}
 use Rattle.resolver.specs.Models.{topic as spec_topic}
 use Rattle.resolver.specs.Values.{topics_of as built_topics}
-use Rattle.resolver.proofs.Within.{modest_topics, modest_everywhere}
+use Rattle.resolver.proofs.Within.{bounded_topics, bounded_everywhere}
 use Rattle.resolver.proofs.build.topics.model.Goals as goal
 
 pub topics-requires-clause-above : goal.topics-requires-clause-above
-topics-requires-clause-above c = subst (All IsModestDomain) (sym c.requires.domains) (modest_everywhere (model_of c.args.written.now) c.requires.within)
+topics-requires-clause-above c = subst AreBoundedDomains (sym c.requires.domains) (bounded_everywhere (model_of c.args.written.now) c.requires.within)
 
 pub topics-requires-clause-written : goal.topics-requires-clause-written
-topics-requires-clause-written c = subst (λ (l : List topic.TopicSyntax). All IsModestTopic (topics_of l)) (sym c.deref.ensures.value) (modest_topics (model_of c.args.written.now) c.requires.within)
+topics-requires-clause-written c = subst (λ (l : List topic.TopicSyntax). All IsBoundedTopic (topics_of l)) (sym c.deref.ensures.value) (bounded_topics (model_of c.args.written.now) c.requires.within)
 
 pub returns : goal.returns
 returns c =

@@ -1,7 +1,6 @@
-use Rattle.std.proofs.Common.{◌≡◌, drop}
+use Rattle.std.proofs.Common.{drop}
 use Rattle.ili_grammar.specs.Values.{lists_of}
-use Rattle.resolver.specs.Faults.{first_from}
-use Rattle.resolver.specs.FaultViews.{fault_in}
+use Rattle.resolver.specs.FaultViews.{Leaves}
 use Rattle.resolver.specs.NameIndexes.{names_in}
 use Rattle.resolver.specs.Scopes.{texts}
 use Rattle.resolver.specs.Rules.{lists_faults}
@@ -9,5 +8,4 @@ use Rattle.resolver.proofs.rules.names.check_lists.Given as goal
 
 abbrev pub invariant-loop-list : goal.invariant-loop-list
 invariant-loop-list l =
-    first_from (fault_in l.earliest) (lists_faults (texts (names_in l.attributes)) (lists_of (drop l.list-index l.lists)))
-    ≡ first_from (fault_in l.fn.earliest) (lists_faults (texts (names_in l.attributes)) (lists_of l.lists))
+    Leaves l.fn.earliest l.earliest (lists_faults (texts (names_in l.attributes)) (lists_of l.lists)) (lists_faults (texts (names_in l.attributes)) (lists_of (drop l.list-index l.lists)))

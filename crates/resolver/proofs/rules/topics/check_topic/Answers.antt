@@ -3,17 +3,16 @@ use Rattle.ili_grammar.specs.declared.syntax.TableSyntax as table
 use Rattle.ili_grammar.specs.Values.{tables_of, topic_of}
 use Rattle.resolver.specs.Faults.{first_from}
 use Rattle.resolver.specs.FaultViews.{fault_in}
-use Rattle.resolver.specs.Limits.{AreFew, IsSmallScope}
+use Rattle.resolver.specs.Limits.{IsBoundedScope}
 use Rattle.resolver.specs.Scopes.{Scope, inside}
 use Rattle.resolver.specs.DomainScopes.{domains_in}
 use Rattle.resolver.specs.Rules.{domains_faults, tables_faults}
+use Rattle.resolver.proofs.Bounded.{bounded_inside}
 use Rattle.resolver.proofs.rules.topics.check_topic.Goals as goal
 
 pub check_parts-requires-clause-scope : goal.check_parts-requires-clause-scope
-check_parts-requires-clause-scope c = subst IsSmallScope (sym (c.scope.ensures ∙ c.in_ok-own.ensures)) (c.requires.above, c.requires.topic.0)
-
-pub check_parts-requires-clause-few : goal.check_parts-requires-clause-few
-check_parts-requires-clause-few c = subst (λ (s : Scope). AreFew s.own) (sym (c.scope.ensures ∙ c.in_ok-own.ensures)) c.requires.few
+check_parts-requires-clause-scope c =
+    subst IsBoundedScope (sym (c.scope.ensures ∙ c.in_ok-own.ensures)) (bounded_inside (domains_in c.args.above.now) (topic_of c.args.topic.now) c.requires.above c.requires.topic)
 
 pub returns : goal.returns
 returns c =

@@ -1,9 +1,8 @@
 use Rattle.std.proofs.Common.{List, ◌∙◌, refl}
 use Rattle.ili_grammar.specs.declared.syntax.Element as element
-use Rattle.ili_grammar.specs.declared.syntax.Element.TheViews.{out-Element}
-use Rattle.ili_grammar.specs.Values.{element_of, elements_of}
+use Rattle.ili_grammar.specs.Values.{elements_of}
 use Rattle.resolver.specs.FaultViews.{fault_in}
-use Rattle.resolver.specs.Rules.{element_faults, parts_faults}
+use Rattle.resolver.specs.Rules.{parts_faults}
 use Rattle.resolver.proofs.Folds.{told_over}
 use Rattle.resolver.proofs.Types.{parts_begin}
 use Rattle.resolver.proofs.rules.types.+check_parts.Goals as goal
@@ -13,7 +12,5 @@ loop-part-init t c = parts_begin c.args.element.now c.deref.result.now (fault_in
 
 pub loop-part-preserved : goal.loop-part-preserved
 loop-part-preserved t c =
-    told_over (λ (l : List element.Element). parts_faults (elements_of l)) c.loop-part.part-index (out-Element c.args.element.now).parts.items c.deref-part-items.result.now c.part-item.result
-    (element_faults (element_of c.part-item.result)) (fault_in c.loop-part.earliest) (fault_in c.check_parts.new.earliest)
-    (λ rest. refl) c.deref-part-items.ensures.value c.loop-part-test.true c.part-item.is c.in_ok-check_parts.ensures
+    told_over (λ (l : List element.Element). parts_faults (elements_of l)) _ _ _ _ _ _ _ (λ rest. refl) c.deref-part-items.ensures.value c.loop-part-test.true c.part-item.is c.in_ok-check_parts.ensures
     ∙ c.loop-part.invariant

@@ -1,10 +1,9 @@
 use Rattle.std.proofs.Common.{List, ◌∙◌, refl}
 use Rattle.ili_grammar.specs.declared.syntax.AttributeSyntax as attribute
-use Rattle.ili_grammar.specs.declared.syntax.Content.TheViews.{out-LineSyntax}
-use Rattle.ili_grammar.specs.Values.{ident_of, attribute_of, attributes_of}
+use Rattle.ili_grammar.specs.Values.{ident_of, attributes_of}
 use Rattle.resolver.specs.FaultViews.{fault_in}
 use Rattle.resolver.specs.ScopeViews.{scope_of}
-use Rattle.resolver.specs.Rules.{attribute_faults, attributes_faults}
+use Rattle.resolver.specs.Rules.{attributes_faults}
 use Rattle.resolver.proofs.Folds.{told_over}
 use Rattle.resolver.proofs.Types.{line_begin, short_behind, short_read}
 use Rattle.resolver.proofs.rules.types.+rules.Goals as goal
@@ -20,9 +19,7 @@ check_line-loop-attribute-init t c = record {
 pub check_line-loop-attribute-preserved : goal.check_line-loop-attribute-preserved
 check_line-loop-attribute-preserved t c = record {
   reported =
-      told_over (λ (l : List attribute.AttributeSyntax). attributes_faults (scope_of c.args.scope.now) (attributes_of l)) c.loop-attribute.attribute-index (out-LineSyntax c.args.line.now).attributes.items c.deref-attribute-items.result.now c.attribute-item.result
-      (attribute_faults (scope_of c.args.scope.now) (attribute_of c.attribute-item.result)) (fault_in c.loop-attribute.earliest) (fault_in c.check_attribute.new.earliest)
-      (λ rest. refl) c.deref-attribute-items.ensures.value c.loop-attribute-test.true c.attribute-item.is c.in_ok-check_attribute.ensures
+      told_over (λ (l : List attribute.AttributeSyntax). attributes_faults (scope_of c.args.scope.now) (attributes_of l)) _ _ _ _ _ _ _ (λ rest. refl) c.deref-attribute-items.ensures.value c.loop-attribute-test.true c.attribute-item.is c.in_ok-check_attribute.ensures
       ∙ c.loop-attribute.invariant.reported;
   short = (short_behind c.loop-attribute.attribute-index c.deref-attribute-items.result.now c.deref-attribute-items.result.now c.attribute-item.result
       refl c.loop-attribute-test.true c.attribute-item.is c.loop-attribute.invariant.short).1;

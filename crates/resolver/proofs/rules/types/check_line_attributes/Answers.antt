@@ -1,15 +1,12 @@
 use Rattle.std.proofs.Common.{List, ◌∙◌, refl}
 use Rattle.ili_grammar.specs.declared.syntax.AttributeSyntax as attribute
-use Rattle.ili_grammar.specs.Values.{attribute_of, attributes_of}
-use Rattle.resolver.specs.FaultViews.{fault_in}
+use Rattle.ili_grammar.specs.Values.{attributes_of}
 use Rattle.resolver.specs.ScopeViews.{scope_of}
-use Rattle.resolver.specs.Rules.{line_attribute_fault, line_attribute_faults}
+use Rattle.resolver.specs.Rules.{line_attribute_faults}
 use Rattle.resolver.proofs.Folds.{told_over}
 use Rattle.resolver.proofs.rules.types.check_line_attributes.Goals as goal
 
 pub loop-attribute-preserved : goal.loop-attribute-preserved
 loop-attribute-preserved c =
-    told_over (λ (l : List attribute.AttributeSyntax). line_attribute_faults (scope_of c.args.scope.now) (attributes_of l)) c.loop-attribute.attribute-index c.args.attributes.now c.args.attributes.now c.attribute-item.result
-    (line_attribute_fault (scope_of c.args.scope.now) (attribute_of c.attribute-item.result)) (fault_in c.loop-attribute.earliest) (fault_in c.check_line_attribute.new.earliest)
-    (λ rest. refl) refl c.loop-attribute-test.true c.attribute-item.is c.check_line_attribute.ensures
+    told_over (λ (l : List attribute.AttributeSyntax). line_attribute_faults (scope_of c.args.scope.now) (attributes_of l)) _ _ _ _ _ _ _ (λ rest. refl) refl c.loop-attribute-test.true c.attribute-item.is c.check_line_attribute.ensures
     ∙ c.loop-attribute.invariant

@@ -1,12 +1,10 @@
-use Rattle.std.proofs.Common.{◌≡◌, drop}
+use Rattle.std.proofs.Common.{drop}
 use Rattle.ili_grammar.specs.Values.{attributes_of}
-use Rattle.resolver.specs.Faults.{first_from}
-use Rattle.resolver.specs.FaultViews.{fault_in}
+use Rattle.resolver.specs.FaultViews.{Leaves}
 use Rattle.resolver.specs.ScopeViews.{scope_of}
 use Rattle.resolver.specs.Rules.{line_attribute_faults}
 use Rattle.resolver.proofs.rules.types.check_line_attributes.Given as goal
 
 abbrev pub invariant-loop-attribute : goal.invariant-loop-attribute
 invariant-loop-attribute l =
-    first_from (fault_in l.earliest) (line_attribute_faults (scope_of l.scope) (attributes_of (drop l.attribute-index l.attributes)))
-    ≡ first_from (fault_in l.fn.earliest) (line_attribute_faults (scope_of l.scope) (attributes_of l.attributes))
+    Leaves l.fn.earliest l.earliest (line_attribute_faults (scope_of l.scope) (attributes_of l.attributes)) (line_attribute_faults (scope_of l.scope) (attributes_of (drop l.attribute-index l.attributes)))

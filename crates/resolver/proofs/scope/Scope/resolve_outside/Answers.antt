@@ -1,14 +1,16 @@
-use Rattle.std.proofs.Common.{[], Some, None, ◌∙◌}
+use Rattle.std.proofs.Common.{[], Some, None, ap, ◌∙◌}
+use Rattle.std.specs.Option.{option_map}
 use Rattle.ili_grammar.specs.Values.{type_of}
 use Rattle.resolver.specs.Scopes.{outside}
 use Rattle.resolver.specs.DomainScopes.{domains_in}
+use Rattle.resolver.specs.ScopeViews.{meaning_of}
 use Rattle.resolver.proofs.Meanings.{followed_is}
 use Rattle.resolver.proofs.scope.Scope.resolve_outside.Goals as goal
 
-pub returns-in-Some-clause-found : goal.returns-in-Some-clause-found
-returns-in-Some-clause-found c =
-    c.resolve_type_outside.ensures.found
-    ∙ followed_is [] c.args.domains.now (λ _. None) (outside (domains_in c.args.domains.now)) c.args.name.now (Some (type_of c.in-Some.kind.now)) c.requires c.in-Some.ensures.target
+pub returns : goal.returns
+returns c =
+    c.resolve_type_outside.ensures
+    ∙ followed_is [] c.args.domains.now (λ _. None) (outside (domains_in c.args.domains.now)) c.args.name.now (Some (type_of c.in_ok-kind.kind.now)) c.requires c.in_ok-kind.ensures
 
-pub returns-in-None-clause-found : goal.returns-in-None-clause-found
-returns-in-None-clause-found c = followed_is [] c.args.domains.now (λ _. None) (outside (domains_in c.args.domains.now)) c.args.name.now None c.requires c.in-None.ensures.target
+pub returns-in_err-kind : goal.returns-in_err-kind
+returns-in_err-kind c = ap (option_map meaning_of) c.from_residual.ensures ∙ followed_is [] c.args.domains.now (λ _. None) (outside (domains_in c.args.domains.now)) c.args.name.now None c.requires c.in_err-kind.ensures

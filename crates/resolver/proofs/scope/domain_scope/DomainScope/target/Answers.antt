@@ -1,6 +1,6 @@
 use Rattle.std.proofs.Common.{◌≡◌, ◌<◌, List, ℕ, length, ap, arith}
 use Rattle.ili_grammar.specs.Values.{type_of}
-use Rattle.resolver.proofs.Levels.{level_place, last_is, short_at}
+use Rattle.resolver.proofs.Levels.{level_place, last_is}
 use Rattle.resolver.proofs.scope.domain_scope.DomainScope.target.Goals as goal
 
 pub target_type-requires-clause-place : goal.target_type-requires-clause-place
@@ -9,10 +9,7 @@ target_type-requires-clause-place c =
     let long : length c.deref-2.result.now ≡ length c.args.self.now.targets.items = ap (λ (l : List ℕ). length l) c.deref-2.ensures.value in
     omega (arith, below, long, c.args.self.now.landed.long)
 
-pub returns-clause-target : goal.returns-clause-target
-returns-clause-target c =
+pub returns : goal.returns
+returns c =
     last_is c.args.self.now c.args.name.now c.in_ok-place.place c.deref.result.now c.deref-2.result.now (type_of c.target_type.result.now)
     c.deref.ensures.value c.deref-2.ensures.value c.in_ok-place.ensures c.target_type.ensures
-
-pub returns-clause-short : goal.returns-clause-short
-returns-clause-short c = λ h. short_at c.deref.result.now c.args.self.now.domains.items _ _ c.deref.ensures.value h c.target_type.ensures
