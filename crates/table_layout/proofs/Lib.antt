@@ -10,3 +10,4 @@ pub mod Validity
 pub mod Rows
 pub mod Named
 pub mod OwnNames
+pub mod References

@@ -1,22 +1,27 @@
--- A model without faults has different names.
-use Rattle.std.proofs.Common.{◌≡◌, ◌≤◌, ◌+◌, ℕ, List, [], ◌∷◌, ◌++◌, length, map, Bool, true, false, cond, Option, Some, None, refl, ◌∙◌, sym, ap, subst, arith, nat_eq, append_assoc, append-nil}
-use Rattle.std.specs.List.{All, flat_map}
-use Rattle.std.specs.Option.{option_map_or}
+-- A model that breaks no rule has different names.
+use Rattle.std.proofs.Common.{◌≡◌, ◌≤◌, ◌+◌, inl, inr, ℕ, List, [], ◌∷◌, ◌++◌, length, map, Bool, true, false, cond, refl, ◌∙◌, sym, ap, subst, arith, nat_eq, append_assoc, append-nil}
+use Rattle.std.specs.Prelude.{Contains}
+use Rattle.std.specs.List.{All, AllZip, flat_map}
 use Rattle.std.specs.Cmp.Lexicographic.{pointwise}
 use Rattle.std.proofs.lemmas.Bool.{true≢false, or_parts}
 use Rattle.std.proofs.lemmas.Slice.Eq.{bytes_eq-Decides}
 use Rattle.std.proofs.lemmas.List.Sums.{sum_by-cons, sum_by-append}
 use Rattle.std.proofs.lemmas.List.Elements.{All-nil, All-cons}
-use Rattle.ili_grammar.specs.Syntax.{Ident, Attributes, no_attributes, and_attribute, AttributeSyntax, an_attribute, Value, Reference, TypeSyntax, Named, Coord2, Coord3, Dim1, Dim2, Radians, Grads, Degrees, Range, Text, Date, Enumeration, HAlignment, VAlignment, Polyline, Surface, Area, DomainSyntax, TableSyntax, TopicSyntax, ModelSyntax}
+use Rattle.ili_grammar.specs.Syntax.{Ident, Attributes, no_attributes, and_attribute, an_attribute, Content, Value, Reference, TypeSyntax, Named, Coord2, Coord3, Dim1, Dim2, Radians, Grads, Degrees, Range, Text, Date, Enumeration, HAlignment, VAlignment, Polyline, Surface, Area, DomainSyntax, TableSyntax, TopicSyntax, ModelSyntax}
 use Rattle.resolver.specs.declared.faults.ModelCode.TheVariants as code
+use Rattle.resolver.specs.Breaking.{StandsAgain, AreHelpers, AreTableNames, topic_twice, table_twice}
 use Rattle.resolver.specs.Faults.{Fault, fault_if}
+use Rattle.resolver.specs.First.{BreaksNone}
 use Rattle.resolver.specs.Lines.{is_boundary}
-use Rattle.resolver.specs.Models.{type_form, meaning_form, attribute, attributes, table, topic, resolved_model}
 use Rattle.resolver.specs.Resolved as resolved
-use Rattle.resolver.specs.Resolved.{ModelTable, Topic}
-use Rattle.resolver.specs.Rules.{Entry, entry, twice, twice_in, helper, helpers, table_entries, table_faults, domains_faults, topic_faults, faults, helper_name}
-use Rattle.resolver.specs.Scopes.{Scope, Meaning, is_among, same, everywhere, outside, inside, meant}
+use Rattle.resolver.specs.Resolved.{ModelTable, Topic, ResolvedModel}
+use Rattle.resolver.specs.Rules.{Entry, entry, twice, helper_name}
+use Rattle.resolver.specs.Scopes.{Scope, Meaning, is_among, same, everywhere, inside}
 use Rattle.resolver.specs.Sound.{listed}
+use Rattle.resolver.specs.Standing.{IsTypeForm, IsContent, AreAttributes, IsTable, IsTopic, IsModel}
+use Rattle.resolver.proofs.FaultParts.{told_again}
+use Rattle.resolver.proofs.Members.{In, contains}
+use Rattle.resolver.proofs.OneStanding.{one_meaning}
 use Rattle.table_layout.specs.Names.{times, AreDifferent, helper_names, names_taken, topic_names_taken, HasOwnNames}
 use Rattle.table_layout.specs.Tables.{topic_names_of}
 
@@ -79,79 +84,128 @@ different before (x ∷ es) all e =
 no_names : AreDifferent []
 no_names name = omega arith
 
+-- names of which none stands again are not told twice
+not_twice : (before : List (List ℕ)) (es : List Entry) → ((n : Ident) → StandsAgain before es n → ⊥) → twice before es ≡ []
+not_twice before es none = go (twice before es) refl
+  where
+    go : (fs : List Fault) → twice before es ≡ fs → twice before es ≡ []
+    go [] e = e
+    go (f ∷ fs) e = absurd (none f.name (told_again before es f (subst (λ (l : List Fault). In l f) (sym e) (inl refl))).1)
+
+different_names : (es : List Entry) → ((n : Ident) → StandsAgain [] es n → ⊥) → AreDifferent (keys es)
+different_names es none = different [] es no_names (not_twice [] es none)
+
 -- ---- the names that tables take are those that the rule compares
 keys_append : (es fs : List Entry) → keys (es ++ fs) ≡ keys es ++ keys fs
 keys_append [] fs = refl
 keys_append (e ∷ es) fs = ap (λ (xs : List (List ℕ)). e.key ∷ xs) (keys_append es fs)
 
--- the name of a helper table, if there is one
-abbrev told : List ℕ → Ident → Bool → List (List ℕ)
-told t n b = keys (cond b (record { key = helper_name t n.text; name = n } ∷ []) [])
+-- an attribute has a helper table where its type is a SURFACE or an AREA
+abbrev Decided : List ℕ → List ℕ → Bool → Bool → resolved.AttributeForm → Type 0
+Decided table name o b f = helper_names table (resolved.an_attribute name o f) ≡ cond b (helper_name table name ∷ []) []
 
-helper_keys : (s : Scope) (t : List ℕ) (a : AttributeSyntax) → keys (helper s t a) ≡ helper_names t (attribute s a)
-helper_keys s t (an_attribute n o (Reference r)) = refl
-helper_keys s t (an_attribute n o (Value k)) = go (meant s k)
+by_kind : (table name : List ℕ) (o : Bool) (s : Scope) (k : TypeSyntax) (f : resolved.AttributeForm) → IsTypeForm name o s k f → Decided table name o (is_boundary k) f
+by_kind table name o s (Polyline l) f h = ap (λ (x : resolved.AttributeForm). helper_names table (resolved.an_attribute name o x)) h.1
+by_kind table name o s (Surface l) f h = ap (λ (x : resolved.AttributeForm). helper_names table (resolved.an_attribute name o x)) h.2
+by_kind table name o s (Area l) f h = ap (λ (x : resolved.AttributeForm). helper_names table (resolved.an_attribute name o x)) h.2
+by_kind table name o s (Named n) f h = ap (λ (x : resolved.AttributeForm). helper_names table (resolved.an_attribute name o x)) h.1
+by_kind table name o s (Coord2 c) f h = ap (λ (x : resolved.AttributeForm). helper_names table (resolved.an_attribute name o x)) h.1
+by_kind table name o s (Coord3 c) f h = ap (λ (x : resolved.AttributeForm). helper_names table (resolved.an_attribute name o x)) h.1
+by_kind table name o s (Dim1 p) f h = ap (λ (x : resolved.AttributeForm). helper_names table (resolved.an_attribute name o x)) h.1
+by_kind table name o s (Dim2 p) f h = ap (λ (x : resolved.AttributeForm). helper_names table (resolved.an_attribute name o x)) h.1
+by_kind table name o s (Radians p) f h = ap (λ (x : resolved.AttributeForm). helper_names table (resolved.an_attribute name o x)) h.1
+by_kind table name o s (Grads p) f h = ap (λ (x : resolved.AttributeForm). helper_names table (resolved.an_attribute name o x)) h.1
+by_kind table name o s (Degrees p) f h = ap (λ (x : resolved.AttributeForm). helper_names table (resolved.an_attribute name o x)) h.1
+by_kind table name o s (Range p) f h = ap (λ (x : resolved.AttributeForm). helper_names table (resolved.an_attribute name o x)) h.1
+by_kind table name o s (Text d) f h = ap (λ (x : resolved.AttributeForm). helper_names table (resolved.an_attribute name o x)) h.1
+by_kind table name o s Date f h = ap (λ (x : resolved.AttributeForm). helper_names table (resolved.an_attribute name o x)) h.1
+by_kind table name o s HAlignment f h = ap (λ (x : resolved.AttributeForm). helper_names table (resolved.an_attribute name o x)) h.1
+by_kind table name o s VAlignment f h = ap (λ (x : resolved.AttributeForm). helper_names table (resolved.an_attribute name o x)) h.1
+by_kind table name o s (Enumeration es) f h = ap (λ (x : resolved.AttributeForm). helper_names table (resolved.an_attribute name o x)) h.1
+
+-- the names of the helper tables of some attributes
+record HasHelpers (s : Scope) (table : List ℕ) (as_ : Attributes) (fs : resolved.Attributes) : Type 0 where
+  names : List Entry
+  are : AreHelpers s table as_ names
+  taken : keys names ≡ flat_map (helper_names table) (listed fs)
+
+one_helper : (s : Scope) (table : List ℕ) (n : Ident) (o : Bool) (c : Content) (as_ : Attributes) (f : resolved.AttributeForm) (rest : resolved.Attributes) → IsContent n.text o s c f → HasHelpers s table as_ rest
+    → HasHelpers s table (and_attribute (an_attribute n o c) as_) (resolved.and_attribute (resolved.an_attribute n.text o f) rest)
+one_helper s table n o (Reference r) as_ f rest h more =
+    record {
+      names = more.names;
+      are = inr (λ w. w, more.are);
+      taken = more.taken ∙ ap (λ (x : resolved.AttributeForm). helper_names table (resolved.an_attribute n.text o x) ++ flat_map (helper_names table) (listed rest)) (sym h.1);
+    }
+one_helper s table n o (Value t) as_ f rest h more = by_test (is_boundary h.0.kind) refl
   where
-    kinds : (scope : Scope) (k : TypeSyntax) → told t n (is_boundary k) ≡ helper_names t (resolved.an_attribute n.text o (type_form n.text o scope k))
-    kinds scope (Named m) = refl
-    kinds scope (Coord2 c) = refl
-    kinds scope (Coord3 c) = refl
-    kinds scope (Dim1 p) = refl
-    kinds scope (Dim2 p) = refl
-    kinds scope (Radians p) = refl
-    kinds scope (Grads p) = refl
-    kinds scope (Degrees p) = refl
-    kinds scope (Range p) = refl
-    kinds scope (Text d) = refl
-    kinds scope Date = refl
-    kinds scope (Enumeration es) = refl
-    kinds scope HAlignment = refl
-    kinds scope VAlignment = refl
-    kinds scope (Polyline l) = refl
-    kinds scope (Surface l) = refl
-    kinds scope (Area l) = refl
+    decided : Decided table n.text o (is_boundary h.0.kind) f
+    decided = by_kind table n.text o h.0.scope h.0.kind f h.2
 
-    go : (m : Option Meaning) → told t n (option_map_or (λ m. is_boundary m.kind) m false) ≡ helper_names t (resolved.an_attribute n.text o (meaning_form n.text o m))
-    go None = refl
-    go (Some m) = kinds m.scope m.kind
+    by_test : (b : Bool) → is_boundary h.0.kind ≡ b → HasHelpers s table (and_attribute (an_attribute n o (Value t)) as_) (resolved.and_attribute (resolved.an_attribute n.text o f) rest)
+    by_test true e =
+        record {
+          names = record { key = helper_name table n.text; name = n } ∷ more.names;
+          are = inl (more.names, (h.0, h.1, e), refl, more.are);
+          taken = ap (λ (l : List (List ℕ)). helper_name table n.text ∷ l) more.taken ∙ ap (λ (l : List (List ℕ)). l ++ flat_map (helper_names table) (listed rest)) (sym (subst (λ (b : Bool). Decided table n.text o b f) e decided));
+        }
+    by_test false e =
+        record {
+          names = more.names;
+          are = inr (λ w. true≢false (sym w.2 ∙ ap (λ (m : Meaning). is_boundary m.kind) (one_meaning w.0 h.0 s t w.1 h.1) ∙ e), more.are);
+          taken = more.taken ∙ ap (λ (l : List (List ℕ)). l ++ flat_map (helper_names table) (listed rest)) (sym (subst (λ (b : Bool). Decided table n.text o b f) e decided));
+        }
 
-helpers_keys : (s : Scope) (t : List ℕ) (as_ : Attributes) → keys (helpers s t as_) ≡ flat_map (helper_names t) (listed (attributes s as_))
-helpers_keys s t no_attributes = refl
-helpers_keys s t (and_attribute a as_) =
-    keys_append (helper s t a) (helpers s t as_) ∙ ap (λ (xs : List (List ℕ)). xs ++ keys (helpers s t as_)) (helper_keys s t a) ∙ ap (λ (xs : List (List ℕ)). helper_names t (attribute s a) ++ xs) (helpers_keys s t as_)
+helpers_there : (s : Scope) (table : List ℕ) (as_ : Attributes) (fs : resolved.Attributes) → AreAttributes s as_ fs → HasHelpers s table as_ fs
+helpers_there s table no_attributes fs h = subst (HasHelpers s table no_attributes) (sym h) (record { names = []; are = refl; taken = refl })
+helpers_there s table (and_attribute (an_attribute n o c) as_) fs h =
+    subst (HasHelpers s table (and_attribute (an_attribute n o c) as_)) (sym h.2) (one_helper s table n o c as_ h.0 h.1 h.3 (helpers_there s table as_ h.1 h.4))
 
-tables_keys : (s : Scope) (ts : List TableSyntax) → keys (flat_map (table_entries s) ts) ≡ flat_map names_taken (map (table s) ts)
-tables_keys s [] = refl
-tables_keys s (t ∷ ts) =
-    let one : keys (table_entries s t) ≡ names_taken (table s t) = ap (λ (xs : List (List ℕ)). t.name.text ∷ xs) (helpers_keys s t.name.text t.attributes) in
-    keys_append (table_entries s t) (flat_map (table_entries s) ts) ∙ ap (λ (xs : List (List ℕ)). xs ++ keys (flat_map (table_entries s) ts)) one ∙ ap (λ (xs : List (List ℕ)). names_taken (table s t) ++ xs) (tables_keys s ts)
+record HasTableNames (s : Scope) (ts : List TableSyntax) (ms : List ModelTable) : Type 0 where
+  names : List Entry
+  are : AreTableNames s ts names
+  taken : keys names ≡ flat_map names_taken ms
 
-topics_keys : (above : List DomainSyntax) (ts : List TopicSyntax) → keys (map entry (map (λ t. t.name) ts)) ≡ topic_names_of (map (topic above) ts)
-topics_keys above [] = refl
-topics_keys above (t ∷ ts) = ap (λ (xs : List (List ℕ)). t.name.text ∷ xs) (topics_keys above ts)
+tables_there : (s : Scope) (ts : List TableSyntax) (ms : List ModelTable) → AllZip (IsTable s) ts ms → HasTableNames s ts ms
+tables_there s [] [] h = record { names = []; are = refl; taken = refl }
+tables_there s [] (m ∷ ms) h = absurd h
+tables_there s (t ∷ ts) [] h = absurd h
+tables_there s (t ∷ ts) (m ∷ ms) h =
+    let own : HasHelpers s t.name.text t.attributes m.attributes = helpers_there s t.name.text t.attributes m.attributes h.0.attributes in
+    let rest : HasTableNames s ts ms = tables_there s ts ms h.1 in
+    record {
+      names = entry t.name ∷ (own.names ++ rest.names);
+      are = (own.names, rest.names, refl, own.are, rest.are);
+      taken =
+          ap (λ (l : List (List ℕ)). t.name.text ∷ l) (keys_append own.names rest.names)
+          ∙ ap (λ (l : List (List ℕ)). t.name.text ∷ (l ++ keys rest.names)) own.taken
+          ∙ ap (λ (l : List (List ℕ)). t.name.text ∷ (flat_map (helper_names t.name.text) (listed m.attributes) ++ l)) rest.taken
+          ∙ ap (λ (n : List ℕ). (n ∷ flat_map (helper_names n) (listed m.attributes)) ++ flat_map names_taken ms) (sym h.0.name);
+    }
+
+topic_names_there : (above : List DomainSyntax) (ts : List TopicSyntax) (rs : List Topic) → AllZip (IsTopic above) ts rs → keys (map entry (map (λ t. t.name) ts)) ≡ topic_names_of rs
+topic_names_there above [] [] h = refl
+topic_names_there above [] (r ∷ rs) h = absurd h
+topic_names_there above (t ∷ ts) [] h = absurd h
+topic_names_there above (t ∷ ts) (r ∷ rs) h = ap (λ (n : List ℕ). n ∷ keys (map entry (map (λ t. t.name) ts))) (sym h.0.name) ∙ ap (λ (l : List (List ℕ)). r.name ∷ l) (topic_names_there above ts rs h.1)
 
 -- ---- the whole
-topic_different : (above : List DomainSyntax) (t : TopicSyntax) → topic_faults above t ≡ [] → AreDifferent (topic_names_taken (topic above t))
-topic_different above t e =
-    let s = inside above t in
-    let told = twice [] (flat_map (table_entries s) t.tables) in
-    let rest = flat_map (table_faults s) t.tables in
-    subst AreDifferent (tables_keys s t.tables) (different [] (flat_map (table_entries s) t.tables) no_names (none_of told rest (none_of (domains_faults s) (told ++ rest) e).1).0)
+module _ (m : ModelSyntax) (none : BreaksNone m) where
+  topic_different : (t : TopicSyntax) (r : Topic) → Contains m.topics t → IsTopic (everywhere m) t r → AreDifferent (topic_names_taken r)
+  topic_different t r c h =
+      let there : HasTableNames (inside (everywhere m) t) t.tables r.tables = tables_there (inside (everywhere m) t) t.tables r.tables h.tables in
+      subst AreDifferent there.taken (different_names there.names (λ n w. none (record { code = code.Twice; name = n }) (table_twice t there.names n c there.are w)))
 
-each_different : (above : List DomainSyntax) (ts : List TopicSyntax) → flat_map (topic_faults above) ts ≡ [] → All (λ t. AreDifferent (topic_names_taken t)) (map (topic above) ts)
-each_different above [] e = All-nil (λ t. AreDifferent (topic_names_taken t))
-each_different above (t ∷ ts) e =
-    let rest = flat_map (topic_faults above) ts in
-    let none = none_of (topic_faults above t) rest e in
-    All-cons (λ t. AreDifferent (topic_names_taken t)) (topic above t) (map (topic above) ts) (topic_different above t none.0) (each_different above ts none.1)
+  each_different : (ts : List TopicSyntax) (rs : List Topic) → ((t : TopicSyntax) → In ts t → In m.topics t) → AllZip (IsTopic (everywhere m)) ts rs → All (λ r. AreDifferent (topic_names_taken r)) rs
+  each_different [] [] sub h = All-nil (λ r. AreDifferent (topic_names_taken r))
+  each_different [] (r ∷ rs) sub h = absurd h
+  each_different (t ∷ ts) [] sub h = absurd h
+  each_different (t ∷ ts) (r ∷ rs) sub h =
+      All-cons (λ r. AreDifferent (topic_names_taken r)) r rs (topic_different t r (contains m.topics t (sub t (inl refl))) h.0) (each_different ts rs (λ x k. sub x (inr k)) h.1)
 
-pub own_names : (m : ModelSyntax) → faults m ≡ [] → HasOwnNames (resolved_model m)
-own_names m e =
-    let outer = domains_faults (outside (everywhere m)) in
-    let names = twice_in (map (λ t. t.name) m.topics) in
-    let topics = flat_map (topic_faults (everywhere m)) m.topics in
-    let none = none_of names topics (none_of outer (names ++ topics) e).1 in
-    record {
-      topics = subst AreDifferent (topics_keys (everywhere m) m.topics) (different [] (map entry (map (λ t. t.name) m.topics)) no_names none.0);
-      tables = each_different (everywhere m) m.topics none.1;
-    }
+  pub own_names : (r : ResolvedModel) → IsModel m r → HasOwnNames r
+  own_names r h =
+      record {
+        topics = subst AreDifferent (topic_names_there (everywhere m) m.topics r.topics h.topics) (different_names (map entry (map (λ t. t.name) m.topics)) (λ n w. none (record { code = code.Twice; name = n }) (topic_twice n w)));
+        tables = each_different m.topics r.topics (λ t k. k) h.topics;
+      }

@@ -17,19 +17,19 @@ use Rattle.table_layout.proofs.Steps.{length-numbers}
 use Rattle.table_layout.proofs.HelpersValid.{get_at, with_helpers_valid}
 use Rattle.table_layout.proofs.NamesValid.{Declared, tables_named, topics_named}
 
-got_at : {A : Type 0} (whole before : List A) (x : A) (after : List A) (n : ℕ) → whole ≡ before ++ x ∷ after → length before ≡ n → slice_get whole n ≡ Some x
+pub got_at : {A : Type 0} (whole before : List A) (x : A) (after : List A) (n : ℕ) → whole ≡ before ++ x ∷ after → length before ≡ n → slice_get whole n ≡ Some x
 got_at {A} whole before x after n e l = ap (λ (s : List A). slice_get s n) e ∙ subst (λ k. slice_get (before ++ x ∷ after) k ≡ Some x) l (get_at before x after)
 
 -- ---- a topic
-regroup_main : (pre a : List Table) (m : Table) (s rest post : List Table) → pre ++ (((a ++ m ∷ s) ++ rest) ++ post) ≡ (pre ++ a) ++ m ∷ (s ++ (rest ++ post))
+pub regroup_main : (pre a : List Table) (m : Table) (s rest post : List Table) → pre ++ (((a ++ m ∷ s) ++ rest) ++ post) ≡ (pre ++ a) ++ m ∷ (s ++ (rest ++ post))
 regroup_main pre a m s rest post = simp append_assoc
 
-regroup : (pre block rest post : List Table) → pre ++ ((block ++ rest) ++ post) ≡ (pre ++ block) ++ (rest ++ post)
+pub regroup : (pre block rest post : List Table) → pre ++ ((block ++ rest) ++ post) ≡ (pre ++ block) ++ (rest ++ post)
 regroup pre block rest post = simp append_assoc
 
 -- each number of a declared table is that of one
-numbers_main : (n : ℕ) (whole : List Table) (mains : List ℕ) (first : ℕ) (ts : List ModelTable) (pre post : List Table) → whole ≡ pre ++ (tables_beside n mains (numbers_from first ts) ts ++ post) → length pre ≡ first → All (IsMain whole) (numbers_from first ts)
-numbers_main n whole mains first [] pre post e l = All-nil (IsMain whole)
+numbers_main : (n : ℕ) (whole : List Table) (mains : List ℕ) (first : ℕ) (ts : List ModelTable) (pre post : List Table) → whole ≡ pre ++ (tables_beside n mains (numbers_from first ts) ts ++ post) → length pre ≡ first → All (IsMain whole n) (numbers_from first ts)
+numbers_main n whole mains first [] pre post e l = All-nil (IsMain whole n)
 numbers_main n whole mains first (t ∷ ts) pre post e l =
     let own = listed t.attributes in
     let w : Owner = record { topic = n; mains = mains; main = first + areas_in own; name = t.name } in
@@ -39,10 +39,10 @@ numbers_main n whole mains first (t ∷ ts) pre post e l =
     let far : length (pre ++ area_tables w 0 own) ≡ first + areas_in own = omega (arith, length-append pre (area_tables w 0 own), length-areas w 0 own) in
     let main = got_at whole (pre ++ area_tables w 0 own) (main_table w own t.idents) (flat_map (surface_table w) own ++ (rest ++ post)) (first + areas_in own) (e ∙ regroup_main pre (area_tables w 0 own) (main_table w own t.idents) (flat_map (surface_table w) own) rest post) far in
     let further : length (pre ++ block) ≡ next = omega (arith, length-append pre block, length-with_helpers w own t.idents) in
-    All-cons (IsMain whole) (first + areas_in own) (numbers_from next ts) (record { table = main_table w own t.idents; at = main; role = refl })
+    All-cons (IsMain whole n) (first + areas_in own) (numbers_from next ts) (record { table = main_table w own t.idents; at = main; role = refl; in_topic = refl })
     (numbers_main n whole mains next ts (pre ++ block) post (e ∙ regroup pre block rest post) further)
 
-topic_valid : (count n : ℕ) (whole : List Table) (mains : List ℕ) (first : ℕ) (ts : List ModelTable) (pre post : List Table) → n < count → All (IsMain whole) mains → whole ≡ pre ++ (tables_beside n mains (numbers_from first ts) ts ++ post) → length pre ≡ first
+topic_valid : (count n : ℕ) (whole : List Table) (mains : List ℕ) (first : ℕ) (ts : List ModelTable) (pre post : List Table) → n < count → All (IsMain whole n) mains → whole ≡ pre ++ (tables_beside n mains (numbers_from first ts) ts ++ post) → length pre ≡ first
     → All IsSmallTable ts → All (IsSoundTable (length mains)) ts → All (IsTable count whole) (tables_beside n mains (numbers_from first ts) ts)
 topic_valid count n whole mains first [] pre post topic all e l few h = All-nil (IsTable count whole)
 topic_valid count n whole mains first (t ∷ ts) pre post topic all e l few h =

@@ -6,3 +6,4 @@ pub mod Tables
 pub mod Valid
 pub mod Few
 pub mod Names
+pub mod References

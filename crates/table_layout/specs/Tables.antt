@@ -34,9 +34,9 @@ surface_count (an_attribute n o (Polyline l)) = 0
 surface_count (an_attribute n o (Area l p)) = 0
 
 -- ---- helper tables
--- the one line of a helper table, which may not be missing
-abbrev pub boundary : LineForm → List LineForm
-boundary l = record l { optional = false } ∷ []
+-- the one line of a helper table, which has the name of the attribute and may not be missing
+abbrev pub boundary : List ℕ → LineForm → List LineForm
+boundary n l = record l { name = n; optional = false } ∷ []
 
 -- the table of the lines of an attribute of that name: these columns, and then those that the
 -- lines have of their own
@@ -47,7 +47,7 @@ helper_table w role first n l (a_part own lists) =
       name = helper_name w.name n;
       role = role;
       columns = first ++ flat_map (columns_of w.mains) (listed own);
-      lines = boundary l;
+      lines = boundary n l;
       idents = idents_of (length first) (listed own) lists;
     }
 

@@ -5,64 +5,71 @@ use Rattle.std.specs.List.{All}
 use Rattle.ili_lexer.specs.Forms.{IsName}
 use Rattle.ili_grammar.specs.Limits.{AreCodes}
 use Rattle.resolver.specs.Resolved.{Form, AreaPoint, Reference, LineForm}
+use Rattle.resolver.specs.Rules.{helper_name}
 use Rattle.resolver.specs.Sound.{IsNarrow}
 use Rattle.table_layout.specs.Layouts.{Role, Main, AreaLines, SurfaceLines, Column, Table, AreaOf}
 use Rattle.table_layout.specs.Layouts.{Layout}
 use Rattle.table_layout.specs.Tables.{column_name}
 
--- the table with this number is a declared one
-pub record IsMain (tables : List Table) (number : ℕ) : Type 0 where
+-- the table with this number is a declared one of this topic
+pub record IsMain (tables : List Table) (topic number : ℕ) : Type 0 where
   pub table : Table
   pub at : slice_get tables number ≡ Some table
   pub role : table.role ≡ Main
+  pub in_topic : table.topic ≡ topic
 
--- a reference names a declared table
-abbrev pub NamesMain : List Table → Form → Type 0
-NamesMain tables (Reference k) = IsMain tables k
-NamesMain tables f = Unit {0}
+-- a reference names a declared table of its topic
+abbrev pub NamesMain : List Table → ℕ → Form → Type 0
+NamesMain tables topic (Reference k) = IsMain tables topic k
+NamesMain tables topic f = Unit {0}
 
--- the helper table of an AREA attribute: its main table, its column there, which is the point of
--- an object, and its one line, which is mandatory and has the window of that point
-pub record IsAreaTable (tables : List Table) (kept : List LineForm)
-    (number place : ℕ) : Type 0 where
+-- the helper table of an AREA attribute: its main table, which stands in its topic, its column
+-- there, which is the point of an object, and its one line, which is mandatory and has the name and
+-- the window of that point; its name is made of those of the main table and of that column
+pub record IsAreaTable (tables : List Table) (t : Table) (number place : ℕ) : Type 0 where
   pub owner : Table
   pub point : Column
   pub line : LineForm
   pub main : slice_get tables number ≡ Some owner
   pub is_main : owner.role ≡ Main
+  pub in_topic : owner.topic ≡ t.topic
   pub column : slice_get owner.columns place ≡ Some point
   pub form : point.form ≡ AreaPoint line.window
-  pub lines : kept ≡ line ∷ []
+  pub name : t.name ≡ helper_name owner.name point.name
+  pub lines : t.lines ≡ line ∷ []
+  pub line_name : line.name ≡ point.name
   pub mandatory : line.optional ≡ false
   pub narrow : IsNarrow line.window
 
--- the helper table of a SURFACE attribute: its main table, its column 0, which is a mandatory
--- reference to that table and has its name, and its one line, which is mandatory
-pub record IsSurfaceTable (tables : List Table) (columns : List Column) (kept : List LineForm)
-    (number : ℕ) : Type 0 where
+-- the helper table of a SURFACE attribute: its main table, which stands in its topic, its column
+-- 0, which is a mandatory reference to that table and has its name, and its one line, which is
+-- mandatory; its name is made of those of the main table and of that line
+pub record IsSurfaceTable (tables : List Table) (t : Table) (number : ℕ) : Type 0 where
   pub owner : Table
   pub reference : Column
   pub line : LineForm
   pub main : slice_get tables number ≡ Some owner
   pub is_main : owner.role ≡ Main
-  pub column : slice_get columns 0 ≡ Some reference
+  pub in_topic : owner.topic ≡ t.topic
+  pub column : slice_get t.columns 0 ≡ Some reference
   pub form : reference.form ≡ Reference number
   pub named : reference.name ≡ owner.name
   pub needed : reference.optional ≡ false
-  pub lines : kept ≡ line ∷ []
+  pub name : t.name ≡ helper_name owner.name line.name
+  pub lines : t.lines ≡ line ∷ []
   pub mandatory : line.optional ≡ false
 
 abbrev pub IsRole : List Table → Table → Role → Type 0
 IsRole tables t Main = Unit {0}
-IsRole tables t (AreaLines main column) = IsAreaTable tables t.lines main column
-IsRole tables t (SurfaceLines main) = IsSurfaceTable tables t.columns t.lines main
+IsRole tables t (AreaLines main column) = IsAreaTable tables t main column
+IsRole tables t (SurfaceLines main) = IsSurfaceTable tables t main
 
 -- a table: its topic is there, its columns and lines are few, its references name declared
--- tables, and its IDENT lists columns or lines
+-- tables of its topic, and its IDENT lists columns or lines
 pub record IsTable (topics : ℕ) (tables : List Table) (t : Table) : Type 0 where
   pub topic : t.topic < topics
   pub few : length t.columns + length t.lines ≤ 4194306
-  pub references : All (λ (c : Column). NamesMain tables c.form) t.columns
+  pub references : All (λ (c : Column). NamesMain tables t.topic c.form) t.columns
   pub idents : All (All (λ p. p < length t.columns + length t.lines)) t.idents
   pub role : IsRole tables t t.role
 

@@ -32,13 +32,18 @@ pub fn copied(alloc: Global, name: &Name) -> Result<Name, Memory>
     Name::new(alloc, name.bytes())
 }
 
-/// A copy of a line.
-pub fn copied_line(alloc: Global, line: &LineForm, optional: bool) -> Result<LineForm, Memory>
-    ensures { IfOk result
-        (λ copy. line_of copy ≡ record (line_of line.now) { optional = optional }) }
+/// A copy of a line, of that name.
+pub fn copied_line(
+    alloc: Global,
+    name: &Name,
+    line: &LineForm,
+    optional: bool,
+) -> Result<LineForm, Memory>
+    ensures { IfOk result (λ copy. line_of copy
+        ≡ record (line_of line.now) { name = name.now; optional = optional }) }
 {
     Ok(LineForm {
-        name: copied(alloc, &line.name)?,
+        name: copied(alloc, name)?,
         optional,
         arcs: line.arcs,
         window: line.window,
@@ -78,7 +83,7 @@ fn add_line(alloc: Global, attribute: &Attribute, lines: &mut Vec<LineForm>) -> 
         ++ lines_of (attribute_of attribute.now)) }
 {
     if let AttributeForm::Polyline(line) = &attribute.content {
-        lines.push(copied_line(alloc, line, line.optional)?)?;
+        lines.push(copied_line(alloc, &line.name, line, line.optional)?)?;
     }
     Ok(())
 }

@@ -1,25 +1,35 @@
 // What holds of the layouts of models.
-ghost use Rattle.std.specs.Prelude.{◌≡◌, ℕ, None, Some, slice_get};
-ghost use Rattle.ili_grammar.specs.Syntax.{ModelSyntax};
-ghost use Rattle.resolver.specs.Models.{resolved_model};
+ghost use Rattle.std.specs.Prelude.{◌≡◌, ℕ, Bool, Some, slice_get, Contains};
+ghost use Rattle.ili_grammar.specs.Syntax.{Ident, TableSyntax, TopicSyntax, ModelSyntax};
+ghost use Rattle.ili_grammar.specs.Syntax.{an_attribute, Reference};
+ghost use Rattle.resolver.specs.First.{BreaksNone};
+ghost use Rattle.resolver.specs.Occurring.{HasAttribute};
 ghost use Rattle.resolver.specs.Resolved.{ResolvedModel};
-ghost use Rattle.resolver.specs.Rules.{first_fault};
+ghost use Rattle.resolver.specs.Standing.{IsModel};
 ghost use Rattle.table_layout.specs.Layouts.{AreaOf, Layout};
 ghost use Rattle.table_layout.specs.Names.{HasOwnNames, IsFoundByName};
+ghost use Rattle.table_layout.specs.References.{HasReferenceTo};
 ghost use Rattle.table_layout.specs.Tables.{layout_of};
 ghost use Rattle.table_layout.specs.Valid.{IsNamedArea, IsValid};
 
-use resolver::first_is_least;
-
-/// A model without faults gives its topics different names, and the tables of each topic,
+/// A model that breaks no rule gives its topics different names, and the tables of each topic,
 /// helper tables included. In the layout of such a model each table is found by its name in its
 /// topic, and each topic by its name.
 pub fn found_by_name()
-    ensures named { (m : ModelSyntax) → first_fault m ≡ None → HasOwnNames (resolved_model m) }
+    ensures named { (written : ModelSyntax) (m : ResolvedModel) → BreaksNone written
+        → IsModel written m → HasOwnNames m }
     ensures found { (m : ResolvedModel) → HasOwnNames m → IsFoundByName (layout_of m) }
-{
-    first_is_least();
-}
+{}
+
+/// In the layout of what is written, where no rule is broken, each reference of a declared table is
+/// a column of that table, and refers to the table of the topic that has the written name.
+pub fn references_are_kept()
+    ensures { (written : ModelSyntax) (m : ResolvedModel) (n : ℕ) (t : TopicSyntax)
+        (x : TableSyntax) (a r : Ident) (o : Bool)
+        → BreaksNone written → IsModel written m → slice_get written.topics n ≡ Some t
+        → Contains t.tables x → HasAttribute x.attributes (an_attribute a o (Reference r))
+        → HasReferenceTo (layout_of m) n x.name.text a.text o r.text }
+{}
 
 /// In a valid layout each area has a main table, and the names of that table's topic, of the table
 /// and of the area have the form of names: a letter, then letters, digits and `_`.

@@ -22,15 +22,17 @@
 //! - **What later layers may use** (`IsValid`): the three codes are bytes from 33 to 126, no two
 //!   equal; there are at most 4,194,304 tables; a table has at most 4,194,306 columns and lines;
 //!   every number of a topic, a table, a column and a place is in range, and a reference names a
-//!   declared table; the helper table of an AREA or a SURFACE has one line, which is mandatory,
-//!   and its main table is a declared one; in that of a SURFACE column 0 is a mandatory reference
-//!   to it, by its name; the column of an area is the point of that line's window, which is less
-//!   than 2^40 units wide in each axis; the areas stand in the order of their helper tables, each
-//!   once; the names of topics, of declared tables and of their columns and lines have the form of
-//!   names, a letter and then letters, digits and `_`.
+//!   declared table of its own topic; the helper table of an AREA or a SURFACE has one line, which
+//!   is mandatory, its main table is a declared one of its topic, and its name is made of that
+//!   table's name and the attribute's; in that of a SURFACE column 0 is a mandatory reference to
+//!   the main table, by its name; the column of an area is the point of that line's window, which
+//!   is less than 2^40 units wide in each axis; the areas stand in the order of their helper
+//!   tables, each once; the names of topics, of declared tables and of their columns and lines have
+//!   the form of names, a letter and then letters, digits and `_`.
 //! - **Names.** So an area and its main table and topic have names of that form (`area_names`). In
-//!   the layout of a model without faults each table is found by its name in its topic, and each
-//!   topic by its name (`found_by_name`).
+//!   the layout of a model that breaks no rule each table is found by its name in its topic, and
+//!   each topic by its name (`found_by_name`), and each reference that is written refers to the
+//!   table of its topic that has the written name (`references_are_kept`).
 //! - **Not checked here.** `layout` takes a model as `resolve` gives it (`IsSound`): few names,
 //!   of the form of names, numbers in range, codes that differ, no lines in LINEATTR, narrow
 //!   windows of areas. That names differ is for the resolver, whose rules the laws on names cite.
@@ -57,5 +59,5 @@ mod topics;
 
 pub use building::layout;
 pub use finding::table_of;
-pub use laws::{area_names, found_by_name};
+pub use laws::{area_names, found_by_name, references_are_kept};
 pub use layouts::{AreaOf, Column, Layout, Role, Table, TableId};

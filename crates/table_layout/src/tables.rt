@@ -69,12 +69,13 @@ fn main_table(alloc: Global, owner: Owner<'_>, table: &ModelTable) -> Result<Tab
 
 // ---- helper tables
 
-// The one line of a helper table, which may not be missing.
-fn boundary(alloc: Global, line: &LineForm) -> Result<Vec<LineForm>, Memory>
-    ensures { IfOk result (λ lines. lines_view lines.items ≡ boundary (line_of line.now)) }
+// The one line of a helper table, which has the name of the attribute and may not be missing.
+fn boundary(alloc: Global, name: &Name, line: &LineForm) -> Result<Vec<LineForm>, Memory>
+    ensures { IfOk result (λ lines. lines_view lines.items
+        ≡ boundary name.now (line_of line.now)) }
 {
     let mut lines = Vec::new(alloc);
-    lines.push(copied_line(alloc, line, false)?)?;
+    lines.push(copied_line(alloc, name, line, false)?)?;
     Ok(lines)
 }
 
@@ -104,7 +105,7 @@ fn helper_table(
         name: helper_name(alloc, owner.name.bytes(), name.bytes())?,
         role,
         columns,
-        lines: boundary(alloc, line)?,
+        lines: boundary(alloc, name, line)?,
         idents,
     })
 }
