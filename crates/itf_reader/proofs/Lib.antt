@@ -22,5 +22,6 @@ pub mod Stands
 pub mod Thin
 pub mod Twice
 pub mod VertexLaws
+pub mod VertexLists
 pub mod Wider
 pub mod Zipped

@@ -7,8 +7,8 @@ use Rattle.itf_reader.specs.declared.findings.Code.TheVariants.{Count, Undefined
 use Rattle.itf_reader.specs.declared.findings.Code.TheVariants.{Range, Text, Date, Enum, Coord}
 use Rattle.itf_reader.specs.declared.findings.Code.TheVariants.{Arcs, Arc, Short, Tid, Ident}
 use Rattle.itf_reader.specs.declared.findings.Code.TheVariants.{Reference}
-use Rattle.itf_reader.specs.declared.findings.Other.{Other as CodeOther}
-use Rattle.itf_reader.specs.declared.findings.Other.TheVariants as others
+use Rattle.itf_reader.specs.declared.findings.Fault.{Fault}
+use Rattle.itf_reader.specs.declared.findings.Fault.TheVariants as faults
 use Rattle.itf_reader.specs.declared.findings.Finding.{Finding as CodeFinding}
 
 -- what a finding names besides its place
@@ -65,13 +65,24 @@ abbrev pub in_order : List Finding → List Finding
 in_order = sorted is_before
 
 -- ---- the findings of the code
-abbrev pub other_of : CodeOther → Other
-other_of others.Nothing = Nothing
-other_of (others.Line l) = Line l
-other_of (others.Word w) = Word w
+abbrev pub code_in : Fault → Code
+code_in (faults.Value code) = code
+code_in (faults.Repeat code l) = code
+code_in (faults.Reference code w) = code
+
+abbrev pub other_of : Fault → Other
+other_of (faults.Value code) = Nothing
+other_of (faults.Repeat code l) = Line l
+other_of (faults.Reference code w) = Word w
 
 abbrev pub finding_of : CodeFinding → Finding
-finding_of f = record { line = f.line; column = f.column; code = f.code; other = other_of f.other }
+finding_of f =
+    record {
+      line = f.line;
+      column = f.column;
+      code = code_in f.fault;
+      other = other_of f.fault;
+    }
 
 abbrev pub findings_of : List CodeFinding → List Finding
 findings_of fs = map finding_of fs

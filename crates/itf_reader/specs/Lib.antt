@@ -5,7 +5,6 @@ pub mod Few
 pub mod Findings
 pub mod Forms
 pub mod ReadRows
-pub mod KeptFields
 pub mod Layouts
 pub mod Machine
 pub mod MachineViews
@@ -23,5 +22,6 @@ pub mod RowReadings
 pub mod StrokeFindings
 pub mod TableKeys
 pub mod TransferText
+pub mod VertexLists
 pub mod VertexReadings
 pub mod Views

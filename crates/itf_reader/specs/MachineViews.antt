@@ -9,7 +9,7 @@ use Rattle.itf_reader.specs.Machine.{InTopic, InTable, InRow, start, free, title
 use Rattle.itf_reader.specs.Machine.{tables, objects, strokes, vertices, arc, last, done}
 use Rattle.itf_reader.specs.Refusals.{fault_of}
 use Rattle.itf_reader.specs.RowFeeds.{Standing, standing, stopped}
-use Rattle.itf_reader.specs.Views.{vertices_of, strokes_of}
+use Rattle.itf_reader.specs.Views.{strokes_of}
 
 -- a topic of which nothing but the number is kept
 abbrev pub topic_alone : ℕ → TopicRows
@@ -49,8 +49,8 @@ at_in states.InModel m = standing (topics (topics_alone m.frame.topics))
 at_in states.InTopic m = standing (tables (in_topic m.frame))
 at_in states.InTable m = standing (objects (in_table m.frame))
 at_in states.InObject m = standing (strokes (in_row m))
-at_in states.InPolyline m = standing (vertices (in_row m) (vertices_of m.polyline.items))
-at_in states.AfterArcPoint m = standing (arc (in_row m) (vertices_of m.polyline.items))
+at_in states.InPolyline m = standing (vertices (in_row m) m.polyline)
+at_in states.AfterArcPoint m = standing (arc (in_row m) m.polyline)
 at_in states.BeforeEnde m = standing (last (topics_alone m.frame.topics))
 at_in states.Done m = standing (done (topics_alone m.frame.topics))
 at_in (states.Stopped number code) m = stopped number (fault_of code)

@@ -17,7 +17,7 @@ use Rattle.itf_reader.specs.declared.rows.values.StrokeRead.{StrokeRead as CodeS
 use Rattle.itf_reader.specs.declared.rows.values.StrokeRead.TheVariants as strokes
 use Rattle.itf_reader.specs.declared.rows.values.RowValues.{RowValues}
 use Rattle.itf_reader.specs.Forms.{Vertex, Row}
-use Rattle.itf_reader.specs.Views.{kind_of}
+use Rattle.itf_reader.specs.VertexLists.{kind_of}
 use Rattle.itf_reader.specs.RowFindings.{is_counted}
 use Rattle.itf_reader.specs.StrokeFindings.{Seen, seen, heights_of, is_clean, is_whole}
 use Rattle.itf_reader.specs.StrokeFindings.{is_sound_stroke}

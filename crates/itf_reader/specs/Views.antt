@@ -1,27 +1,23 @@
 -- Rows of the code, without where they lie in memory.
 use Rattle.std.specs.Prelude.{List, map}
-use Rattle.itf_reader.specs.declared.transfer.VertexKind.{VertexKind}
-use Rattle.itf_reader.specs.declared.transfer.VertexKind.TheVariants as kinds
-use Rattle.itf_reader.specs.declared.transfer.Vertex.{Vertex as CodeVertex}
+use Rattle.itf_reader.specs.declared.vertices.Vertex.{Vertex as CodeVertex}
+use Rattle.itf_reader.specs.declared.vertices.VertexSlice.{VertexSlice}
 use Rattle.itf_reader.specs.declared.transfer.Stroke.{Stroke as CodeStroke}
 use Rattle.itf_reader.specs.declared.transfer.Row.{Row as CodeRow}
 use Rattle.itf_reader.specs.declared.transfer.TableRows.{TableRows as CodeTableRows}
 use Rattle.itf_reader.specs.declared.transfer.Transfer.{Transfer}
-use Rattle.itf_reader.specs.Forms.{Kind, Start, Straight, OnArc, Vertex, Row}
-
-abbrev pub kind_of : VertexKind → Kind
-kind_of kinds.Start = Start
-kind_of kinds.Straight = Straight
-kind_of kinds.OnArc = OnArc
+use Rattle.itf_reader.specs.Forms.{Vertex, Row}
+use Rattle.itf_reader.specs.VertexLists.{kind_of, with_fields}
 
 abbrev pub vertex_of : CodeVertex → Vertex
-vertex_of v = record { line = v.line; kind = kind_of v.kind; fields = v.fields }
+vertex_of v = record { line = v.line; kind = kind_of v.kind; fields = v.fields.now }
 
-abbrev pub vertices_of : List CodeVertex → List Vertex
-vertices_of vs = map vertex_of vs
+-- vertices that are lent
+abbrev pub slice_of : VertexSlice → List Vertex
+slice_of s = with_fields s.heads.now s.fields.now
 
 abbrev pub stroke_of : CodeStroke → List Vertex
-stroke_of s = vertices_of s.vertices.items
+stroke_of s = s.vertices
 
 abbrev pub strokes_of : List CodeStroke → List (List Vertex)
 strokes_of ss = map stroke_of ss

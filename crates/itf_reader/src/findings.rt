@@ -1,4 +1,7 @@
 // What is wrong with a row, a column or a vertex of a transfer that was read.
+ghost use Rattle.std.specs.Prelude.{◌≡◌};
+ghost use Rattle.itf_reader.specs.Findings.{code_in};
+
 use itf_lines::Field;
 
 /// Which rule a row, a column or a vertex breaks. The codes are in the order of the report.
@@ -36,20 +39,35 @@ pub enum Code {
     Reference,
 }
 
-/// Something wrong at a line, counted from 1, and in a column, 0 for the identification.
+/// Which rule is broken, and what a finding names besides its place.
+#[derive(Drop)]
+pub enum Fault {
+    /// Nothing besides.
+    Value(Code),
+    /// The line of the earlier row.
+    Repeat(Code, u32),
+    /// The word that names nothing.
+    Reference(Code, Field),
+}
+
+/// Something wrong at a line, counted from 1, and in a column, 0 for the identification. It takes
+/// 32 bytes.
 #[derive(Drop)]
 pub struct Finding {
     pub line: u32,
     pub column: u32,
-    pub code: Code,
-    pub other: Other,
+    pub fault: Fault,
 }
 
-/// What a finding names besides its place: the line of the earlier row, or the word that names
-/// nothing.
-#[derive(Drop)]
-pub enum Other {
-    Nothing,
-    Line(u32),
-    Word(Field),
+impl Finding {
+    /// The code of the rule that is broken.
+    pub fn code(&self) -> Code
+        ensures { result ≡ code_in self.now.fault }
+    {
+        match &self.fault {
+            Fault::Value(code) => *code,
+            Fault::Repeat(code, _) => *code,
+            Fault::Reference(code, _) => *code,
+        }
+    }
 }

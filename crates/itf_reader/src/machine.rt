@@ -21,7 +21,8 @@ mod rows;
 mod state;
 mod topics;
 
-use super::transfer::{Row, Structure, Vertex};
+use super::transfer::{Row, Structure};
+use super::vertices::Vertices;
 use frame::Frame;
 use itf_lines::{Line, LineWord};
 pub use names::Names;
@@ -40,7 +41,7 @@ pub struct Machine {
     /// The open object, without its open polyline.
     pub open: Row,
     /// The vertices of the open polyline.
-    pub polyline: Vec<Vertex>,
+    pub polyline: Vertices,
     pub closed: Row,
 }
 
@@ -70,7 +71,7 @@ impl Machine {
                 lines: 0,
             },
             open: no_row(alloc),
-            polyline: Vec::new(alloc),
+            polyline: Vertices::new(alloc),
             closed: no_row(alloc),
         }
     }

@@ -35,7 +35,7 @@ fn compare(a: &Finding, b: &Finding) -> Ordering
     a.line
         .cmp(&b.line)
         .then(a.column.cmp(&b.column))
-        .then(rank(a.code).cmp(&rank(b.code)))
+        .then(rank(a.code()).cmp(&rank(b.code())))
 }
 
 /// Puts findings into the order of the report: by the line, on one line by the column, in one

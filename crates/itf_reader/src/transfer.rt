@@ -1,9 +1,9 @@
 // What a transfer holds.
-use super::fields::Fields;
+use super::vertices::Vertices;
 use itf_lines::Field;
 
 /// How a vertex is joined to the one before it.
-#[derive(Clone, Copy, Debug, PartialEq, Eq)]
+#[derive(Clone, Copy, Debug)]
 pub enum VertexKind {
     /// It begins a stroke.
     Start,
@@ -13,18 +13,10 @@ pub enum VertexKind {
     OnArc,
 }
 
-/// A vertex: the number and the fields of its line.
-#[derive(Drop)]
-pub struct Vertex {
-    pub line: u32,
-    pub kind: VertexKind,
-    pub fields: Fields,
-}
-
 /// A line of an object. An undefined one has no vertices.
 #[derive(Drop)]
 pub struct Stroke {
-    pub vertices: Vec<Vertex>,
+    pub vertices: Vertices,
 }
 
 /// An object: the number and the fields of its line, and as many strokes as its table has lines.

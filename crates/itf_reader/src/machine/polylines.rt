@@ -3,14 +3,14 @@ ghost use Rattle.std.specs.Prelude.{◌≡◌, ◌++◌, ◌∷◌, [], OnOk};
 ghost use Rattle.itf_lines.specs.Views.{line_view};
 ghost use Rattle.itf_reader.specs.Forms.{Form, Start, vertex};
 ghost use Rattle.itf_reader.specs.Machine.{strokes, vertices, arc, with_stroke};
-ghost use Rattle.itf_reader.specs.Views.{kind_of, vertices_of};
 ghost use Rattle.itf_reader.specs.RowFeeds.{after_line, standing};
 ghost use Rattle.itf_reader.specs.MachineViews.{at_of, in_row};
+ghost use Rattle.itf_reader.specs.VertexLists.{kind_of};
 
 use super::Machine;
 use super::state::State;
-use crate::fields::Fields;
-use crate::transfer::{Stroke, Vertex, VertexKind};
+use crate::transfer::{Stroke, VertexKind};
+use crate::vertices::Vertices;
 use itf_lines::{Line, LineWord};
 use ports::Memory;
 use std::mem::replace;
@@ -18,18 +18,13 @@ use std::mem::replace;
 impl Machine {
     // Adds the vertex of a line to the open polyline.
     fn add_vertex(&mut self, kind: VertexKind, line: &Line) -> Result<(), Memory>
-        ensures vertices { OnOk result (vertices_of self.new.polyline.items ≡ vertices_of
-            self.old.polyline.items ++ vertex (kind_of kind) line.now.number
-            line.now.fields.items ∷ []) }
+        ensures vertices { OnOk result (self.new.polyline ≡ self.old.polyline ++ vertex
+            (kind_of kind) line.now.number line.now.fields.items ∷ []) }
         ensures frame { self.new.frame ≡ self.old.frame }
         ensures row { self.new.open ≡ self.old.open }
     {
-        self.polyline.push(Vertex {
-            line: line.number,
-            kind,
-            fields: Fields::new(self.alloc, &line.fields)?,
-        })?;
-        Ok(())
+        self.polyline
+            .push(self.alloc, kind, line.number, &line.fields)
     }
 
     // Adds an undefined stroke to the open object.
@@ -38,19 +33,18 @@ impl Machine {
             (strokes (with_stroke (in_row self.old) []))) }
     {
         self.open.strokes.push(Stroke {
-            vertices: Vec::new(self.alloc),
+            vertices: Vertices::new(self.alloc),
         })?;
         self.frame.state = State::InObject;
         Ok(())
     }
 
-    // Begins a polyline. There is room for one more vertex, since most polylines are one straight.
+    // Begins a polyline.
     pub fn start_polyline(&mut self, line: &Line) -> Result<(), Memory>
         ensures { OnOk result (at_of self.new ≡ standing (vertices (in_row self.old)
             (vertex Start line.now.number line.now.fields.items ∷ []))) }
     {
-        self.polyline.clear();
-        self.polyline.reserve_exact(2)?;
+        self.polyline.restart()?;
         self.add_vertex(VertexKind::Start, line)?;
         self.frame.state = State::InPolyline;
         Ok(())
@@ -59,9 +53,9 @@ impl Machine {
     // Adds the polyline to the open object.
     fn end_polyline(&mut self) -> Result<(), Memory>
         ensures { OnOk result (at_of self.new ≡ standing (strokes (with_stroke (in_row self.old)
-            (vertices_of self.old.polyline.items)))) }
+            self.old.polyline))) }
     {
-        let vertices = replace(&mut self.polyline, Vec::new(self.alloc));
+        let vertices = replace(&mut self.polyline, Vertices::new(self.alloc));
         self.open.strokes.push(Stroke { vertices })?;
         self.frame.state = State::InObject;
         Ok(())
@@ -70,7 +64,7 @@ impl Machine {
     // After a vertex that is no ARCP.
     pub fn in_polyline(&mut self, line: &Line) -> Result<(), Memory>
         ensures { (form : Form) → OnOk result (at_of self.new ≡ after_line form
-            (vertices (in_row self.old) (vertices_of self.old.polyline.items))
+            (vertices (in_row self.old) self.old.polyline)
             (line_view line.now)) }
     {
         match line.word {
@@ -91,7 +85,7 @@ impl Machine {
     // After ARCP.
     pub fn after_arc_point(&mut self, line: &Line) -> Result<(), Memory>
         ensures { (form : Form) → OnOk result (at_of self.new ≡ after_line form
-            (arc (in_row self.old) (vertices_of self.old.polyline.items))
+            (arc (in_row self.old) self.old.polyline)
             (line_view line.now)) }
     {
         match line.word {

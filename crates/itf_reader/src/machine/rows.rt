@@ -6,6 +6,7 @@ ghost use Rattle.itf_reader.specs.RowFeeds.{row_opened};
 
 use crate::fields::refill;
 use crate::transfer::{Row, Stroke};
+use crate::vertices::Vertices;
 use itf_lines::Line;
 use ports::Memory;
 use std::alloc::Global;
@@ -37,7 +38,7 @@ pub fn fill(alloc: Global, strokes: &mut Vec<Stroke>, lines: usize) -> Result<()
 {
     while strokes.len() < lines {
         strokes.push(Stroke {
-            vertices: Vec::new(alloc),
+            vertices: Vertices::new(alloc),
         })?;
     }
     Ok(())

@@ -2,7 +2,7 @@
 use crate::transfer::Structure;
 
 /// A state between two lines, named by what is open, or by the word that must come next.
-#[derive(Clone, Copy, Debug, PartialEq, Eq)]
+#[derive(Clone, Copy)]
 pub enum State {
     BeforeScnt,
     /// After SCNT, before the line of four slashes.

@@ -9,7 +9,7 @@ ghost use Rattle.itf_reader.specs.RowReadings.{lines_of, lines_vertices, sound_h
 ghost use Rattle.itf_reader.specs.RowReadings.{sound_vertices, stroke_of as stroke_read};
 ghost use Rattle.itf_reader.specs.RowReadings.{stroke_view, strokes_view, vertices_view};
 ghost use Rattle.itf_reader.specs.RowReadings.{whole_stroke};
-ghost use Rattle.itf_reader.specs.Views.{stroke_of, strokes_of, vertices_of};
+ghost use Rattle.itf_reader.specs.Views.{slice_of, stroke_of, strokes_of};
 ghost use Rattle.itf_reader.specs.declared.findings.Code.TheVariants.{Undefined};
 ghost use Rattle.itf_reader.specs.StrokeFindings.{arc_findings, code_if, is_sound_stroke};
 ghost use Rattle.itf_reader.specs.StrokeFindings.{short_finding};
@@ -20,7 +20,8 @@ use super::strokes::{is_bad_arc, is_short, is_whole};
 use super::values::{ReadVertex, RowValues, StrokeRead};
 use super::vertices::add_vertices;
 use crate::findings::{Code, Finding};
-use crate::transfer::{Stroke, Vertex};
+use crate::transfer::Stroke;
+use crate::vertices::VertexSlice;
 use ports::Memory;
 use resolver::LineForm;
 use std::alloc::Global;
@@ -80,12 +81,13 @@ fn read_line(
     ensures findings { OnOk result (AddsFindings findings.old.items findings.new.items
         (line_findings (role_view role) line column (line_of form.now) (stroke_of stroke.now))) }
 {
-    if stroke.vertices.is_empty() {
+    let vertices = stroke.vertices.as_slice();
+    if vertices.is_empty() {
         report(findings, line, column, missing_code(form))?;
         values.strokes.push(StrokeRead::Undefined)?;
         return Ok(());
     }
-    let read = read_stroke(role, column, form, &stroke.vertices, values, findings)?;
+    let read = read_stroke(role, column, form, vertices, values, findings)?;
     values.strokes.push(read)?;
     Ok(())
 }
@@ -106,10 +108,10 @@ pub fn is_sound_line(
     alloc: Global,
     role: Role,
     form: &LineForm,
-    vertices: &[Vertex],
+    vertices: VertexSlice,
 ) -> Result<bool, Memory>
     ensures { IfOk result (λ sound. sound ≡ is_sound_stroke (role_view role) (line_of form.now)
-        (vertices_of vertices.now)) }
+        (slice_of vertices.entry)) }
 {
     let mut values = RowValues::new(alloc);
     let mut findings = Vec::new(alloc);
@@ -131,20 +133,20 @@ fn read_stroke(
     role: Role,
     column: u32,
     form: &LineForm,
-    vertices: &[Vertex],
+    vertices: VertexSlice,
     values: &mut RowValues,
     findings: &mut Vec<Finding>,
 ) -> Result<StrokeRead, Memory>
     ensures stroke { IfOk result (λ read. stroke_view read ≡ stroke_read (role_view role)
-        (line_of form.now) (vertices_of vertices.now)) }
+        (line_of form.now) (slice_of vertices.entry)) }
     ensures cells { OnOk result (values.new.cells.items ≡ values.old.cells.items) }
     ensures strokes { OnOk result (values.new.strokes.items ≡ values.old.strokes.items) }
     ensures vertices { OnOk result (vertices_view values.new.vertices.items ≡ vertices_view
-        values.old.vertices.items ++ sound_vertices (line_of form.now) (vertices_of vertices.now)) }
+        values.old.vertices.items ++ sound_vertices (line_of form.now) (slice_of vertices.entry)) }
     ensures heights { OnOk result (values.new.heights.items ≡ values.old.heights.items ++
-        sound_heights (line_of form.now) (vertices_of vertices.now)) }
+        sound_heights (line_of form.now) (slice_of vertices.entry)) }
     ensures findings { OnOk result (AddsFindings findings.old.items findings.new.items
-        (stroke_findings (role_view role) (line_of form.now) column (vertices_of vertices.now))) }
+        (stroke_findings (role_view role) (line_of form.now) column (slice_of vertices.entry))) }
 {
     let start = values.vertices.len();
     let clean = add_vertices(form, column, vertices, values, findings)?;

@@ -4,7 +4,7 @@ ghost use Rattle.std.specs.Result.{OnOk};
 ghost use Rattle.itf_reader.specs.Findings.{AddsFindings};
 ghost use Rattle.itf_reader.specs.StrokeFindings.{code_of, finding_at};
 
-use crate::findings::{Code, Finding, Other};
+use crate::findings::{Code, Fault, Finding};
 use field_values::ValueFault;
 use ports::Memory;
 
@@ -22,8 +22,7 @@ pub fn report(
         findings.push(Finding {
             line,
             column,
-            code,
-            other: Other::Nothing,
+            fault: Fault::Value(code),
         })?;
     }
     Ok(())

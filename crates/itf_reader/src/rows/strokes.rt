@@ -4,7 +4,7 @@ ghost use Rattle.std.specs.List.{list_all};
 ghost use Rattle.table_layout.specs.Values.{role_view};
 ghost use Rattle.field_values.specs.Places.{is_same_place, place_view};
 ghost use Rattle.itf_reader.specs.RowReadings.{vertex_view, vertices_view};
-ghost use Rattle.itf_reader.specs.Views.{kind_of};
+ghost use Rattle.itf_reader.specs.VertexLists.{kind_of};
 ghost use Rattle.itf_reader.specs.StrokeFindings.{are_arcs, is_bad_arc, is_of_area, is_on_arc};
 ghost use Rattle.itf_reader.specs.StrokeFindings.{is_one_place, is_short, is_whole};
 
