@@ -7,7 +7,7 @@ use Rattle.std.proofs.lemmas.Option.{slice_get_within}
 use Rattle.ili_grammar.specs.Syntax.{Codes}
 use Rattle.resolver.specs.Resolved as model
 use Rattle.resolver.specs.Resolved.{Form}
-use Rattle.resolver.specs.Sound.{IsWithin}
+use Rattle.resolver.specs.Sound.{RefersWithin}
 use Rattle.table_layout.specs.Layouts.{Column, Table, Layout}
 use Rattle.table_layout.specs.Valid.{NamesMain, IsValid, IsTable}
 use Rattle.field_values.specs.Fields.{width}
@@ -63,7 +63,7 @@ at_place (suc k) n q (rows ∷ transfer) e =
 abbrev SameAt : ℕ → List (List Row) → List (List Row) → Type 0
 SameAt count a b = (k : ℕ) → k < count → slice_index_or a k [] ≡ slice_index_or b k []
 
-reference_same : (codes : Codes) (count : ℕ) (a b : List (List Row)) (line number : ℕ) (form : Form) (words : List (List ℕ)) → SameAt count a b → IsWithin count form
+reference_same : (codes : Codes) (count : ℕ) (a b : List (List Row)) (line number : ℕ) (form : Form) (words : List (List ℕ)) → SameAt count a b → RefersWithin count form
     → reference_finding codes a line number (referred_table form) words ≡ reference_finding codes b line number (referred_table form) words
 reference_same codes count a b line number (model.Reference k) words s w = ap (λ (rows : List Row). word_findings codes line number rows words) (s k w)
 reference_same codes count a b line number (model.Text n) words s w = refl
@@ -82,7 +82,7 @@ reference_same codes count a b line number (model.AreaPoint x) words s w = refl
 reference_same codes count a b line number (model.Coord3 x) words s w = refl
 
 abbrev Within : ℕ → Column → Type 0
-Within count c = IsWithin count c.form
+Within count c = RefersWithin count c.form
 
 head_of : {X : Type 0} (P : X → Type 0) (x : X) (xs : List X) → All P (x ∷ xs) → P x
 head_of P x xs h = h 0 x (omega arith)
@@ -177,12 +177,12 @@ by_place (suc k) n count (t ∷ ts) transfer lt = by_place k (n + 1) count ts tr
     plus_one : (n k : ℕ) → (n + 1) + k ≡ n + suc k
     plus_one n k = omega arith
 
-names_within : (all : List Table) (f : Form) → NamesMain all f → IsWithin (length all) f
-names_within all (model.Reference k) h = slice_get_within all k h.table h.at
-names_within all f h = tt
+names_within : (all : List Table) (topic : ℕ) (f : Form) → NamesMain all topic f → RefersWithin (length all) f
+names_within all topic (model.Reference k) h = slice_get_within all k h.table h.at
+names_within all topic f h = tt
 
 all_within : (topics : ℕ) (all : List Table) (ts : List Table) → All (IsTable topics all) ts → All (AreWithin (length all)) ts
-all_within topics all ts h = λ i d lt. All-weaker (λ (c : Column). NamesMain all c.form) (λ (c : Column). IsWithin (length all) c.form) (λ c n. names_within all c.form n) (slice_index_or ts i d).columns (h i d lt).references
+all_within topics all ts h = λ i d lt. All-weaker (λ (c : Column). NamesMain all (slice_index_or ts i d).topic c.form) (λ (c : Column). RefersWithin (length all) c.form) (λ c n. names_within all (slice_index_or ts i d).topic c.form n) (slice_index_or ts i d).columns (h i d lt).references
 
 pub transfer_keys : (l : Layout) (transfer : List (List Row)) → IsValid l → fed_keys l (all_rows 0 transfer) ≡ tables_keys l.codes transfer l.tables transfer
 transfer_keys l transfer v =

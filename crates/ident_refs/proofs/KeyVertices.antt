@@ -3,7 +3,7 @@ use Rattle.std.proofs.Common.{◌≡◌, ℕ, ◌+◌, List, [], ◌∷◌, ◌+
 use Rattle.std.specs.Option.{option_to_list}
 use Rattle.itf_reader.specs.declared.transfer.VertexKind.{VertexKind}
 use Rattle.itf_reader.specs.declared.transfer.VertexKind.TheVariants as kinds
-use Rattle.itf_reader.specs.Views.{kind_of}
+use Rattle.itf_reader.specs.VertexLists.{kind_of}
 use Rattle.ident_refs.specs.declared.key_values.KeyVertex.{KeyVertex as CodeKeyVertex}
 use Rattle.ident_refs.specs.ValueViews.{key_vertex_view, rank_of}
 use Rattle.ident_refs.specs.KeyBytes.{number_code, numbers_code, kind_code, key_vertex_code}

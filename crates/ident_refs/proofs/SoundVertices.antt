@@ -1,5 +1,5 @@
 -- Each vertex of a sound line is read.
-use Rattle.std.proofs.Common.{◌≡◌, ℕ, zero, suc, ◌<◌, ◌&&◌, Bool, true, false, cond, List, [], ◌∷◌, length, get_or, Option, Some, None, is_none, Result, Ok, Err, ℤ, refl, ap, ◌∙◌, arith}
+use Rattle.std.proofs.Common.{◌≡◌, ℕ, zero, suc, ◌<◌, ◌&&◌, Bool, true, false, cond, List, [], ◌∷◌, length, get_or, Option, Some, None, is_none, Result, Ok, Err, ℤ, refl, ap, ◌∙◌, subst, arith}
 use Rattle.std.specs.Option.{option_map}
 use Rattle.resolver.specs.Resolved.{LineForm}
 use Rattle.table_layout.specs.Layouts.{Role}
@@ -7,9 +7,7 @@ use Rattle.field_values.specs.declared.value.ValueFault.{ValueFault}
 use Rattle.field_values.specs.Fields.{vertex_fault, line_axes}
 use Rattle.field_values.specs.Readings.{Value as FieldValue, reading, numbers_on}
 use Rattle.itf_reader.specs.declared.findings.Code.{Code}
-use Rattle.itf_reader.specs.declared.transfer.Vertex.{Vertex as CodeVertex}
 use Rattle.itf_reader.specs.Forms.{Kind, Vertex}
-use Rattle.itf_reader.specs.Views.{vertex_of, vertices_of}
 use Rattle.itf_reader.specs.StrokeFindings.{code_of, first_code, is_clean, are_clean, is_whole, all_seen, is_sound_stroke}
 use Rattle.ident_refs.specs.ListValues.{KeyVertex, Value, key_value, key_vertex_of}
 
@@ -21,15 +19,14 @@ both_true : (a b : Bool) → (a && b) ≡ true → (a ≡ true) × (b ≡ true)
 both_true true b h = (refl, h)
 both_true false b h = absurd (grind arith)
 
-clean_at : (l : LineForm) (vs : List CodeVertex) (i : ℕ) (v : CodeVertex) → i < length vs → v ≡ get_or vs i v → are_clean l (vertices_of vs) ≡ true → is_clean l (vertex_of v) ≡ true
-clean_at l [] i v lt at h = absurd (omega arith)
-clean_at l (x ∷ vs) zero v lt at h = ap (λ (y : CodeVertex). is_clean l (vertex_of y)) at ∙ (both_true _ _ h).0
-clean_at l (x ∷ vs) (suc i) v lt at h = clean_at l vs i v (omega arith) at (both_true _ _ h).1
+-- the first of some vertices that are clean, and those after it
+pub clean_front : (l : LineForm) (vs : List Vertex) (v : Vertex) (ws : List Vertex) → vs ≡ v ∷ ws → are_clean l vs ≡ true → (vertex_fault l v.fields ≡ None) × (are_clean l ws ≡ true)
+clean_front l vs v ws e h =
+    let b = both_true (is_clean l v) (are_clean l ws) (subst (λ (us : List Vertex). are_clean l us ≡ true) e h) in
+    (unbroken (vertex_fault l v.fields) _ b.0, b.1)
 
-pub sound_read : (role : Role) (l : LineForm) (vs : List CodeVertex) (i : ℕ) (v : CodeVertex) → i < length vs → v ≡ get_or vs i v → is_sound_stroke role l (vertices_of vs) ≡ true
-    → vertex_fault l v.fields ≡ None
-sound_read role l vs i v lt at h =
-    unbroken (vertex_fault l v.fields) _ (clean_at l vs i v lt at (both_true (are_clean l (vertices_of vs)) (is_whole role (all_seen l (vertices_of vs))) h).0)
+pub sound_clean : (role : Role) (l : LineForm) (vs : List Vertex) → is_sound_stroke role l vs ≡ true → are_clean l vs ≡ true
+sound_clean role l vs h = (both_true (are_clean l vs) (is_whole role (all_seen l vs)) h).0
 
 -- the numbers of a vertex, over the fields as they were lent
 same_value : (o : Option ValueFault) (a v : List ℤ) → Ok v ≡ reading o a → v ≡ a

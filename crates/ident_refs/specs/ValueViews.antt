@@ -3,7 +3,7 @@ use Rattle.std.specs.Prelude.{ℕ, List, [], ◌∷◌, map}
 use Rattle.std.specs.Option.{option_to_list}
 use Rattle.itf_reader.specs.declared.transfer.VertexKind.{VertexKind}
 use Rattle.itf_reader.specs.declared.transfer.VertexKind.TheVariants as kinds
-use Rattle.itf_reader.specs.Views.{kind_of}
+use Rattle.itf_reader.specs.VertexLists.{kind_of}
 use Rattle.ident_refs.specs.declared.key_values.KeyVertex.{KeyVertex as CodeKeyVertex}
 use Rattle.ident_refs.specs.declared.key_values.IdentValues.{IdentValues}
 use Rattle.ident_refs.specs.declared.key_values.Value.{Value as CodeValue}

@@ -122,7 +122,12 @@ impl<'a> KeyReader<'a> {
         let Some(stroke) = strokes.get(number) else {
             return Ok(None);
         };
-        line_value(self.alloc, self.table.role, form, &stroke.vertices)
+        line_value(
+            self.alloc,
+            self.table.role,
+            form,
+            stroke.vertices.as_slice(),
+        )
     }
 
     // The value at a place: that of a column, or that of a line after the columns.

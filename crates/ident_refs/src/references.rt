@@ -19,7 +19,7 @@ use super::repeats::KeyColumn;
 use field_values::{is_undefined, width};
 use ili_grammar::Codes;
 use itf_lines::Field;
-use itf_reader::{Code, Finding, Other, Row, is_counted};
+use itf_reader::{Code, Fault, Finding, Row, is_counted};
 use ports::{Keyed, Memory};
 use resolver::Form;
 use std::alloc::Global;
@@ -154,8 +154,7 @@ pub fn add_dangling(
             findings.push(Finding {
                 line: reference.line,
                 column: reference.column,
-                code: Code::Reference,
-                other: Other::Word(Field::new(alloc, word_of(key))?),
+                fault: Fault::Reference(Code::Reference, Field::new(alloc, word_of(key))?),
             })?;
         }
     }

@@ -7,7 +7,7 @@ ghost use Rattle.itf_reader.specs.Findings.{AddsFindings};
 ghost use Rattle.ident_refs.specs.KeptRows.{cell_key, first_line, repeat, repeats, zip_keys};
 
 use super::key_cell::KeyCell;
-use itf_reader::{Code, Finding, Other};
+use itf_reader::{Code, Fault, Finding};
 use ports::{Keyed, Memory, SortedKeys};
 use std::alloc::Global;
 
@@ -35,8 +35,7 @@ fn add_repeat(
         findings.push(Finding {
             line,
             column,
-            code,
-            other: Other::Line(first),
+            fault: Fault::Repeat(code, first),
         })?;
     }
     Ok(())

@@ -7,7 +7,7 @@ ghost use Rattle.table_layout.specs.Values.{role_view};
 ghost use Rattle.field_values.specs.Fields.{vertex_fault, width};
 ghost use Rattle.field_values.specs.Readings.{bytes_of};
 ghost use Rattle.field_values.specs.Views.{value_view as read_view};
-ghost use Rattle.itf_reader.specs.Views.{vertex_of, vertices_of};
+ghost use Rattle.itf_reader.specs.Views.{slice_of, vertex_of};
 ghost use Rattle.itf_reader.specs.StrokeFindings.{is_sound_stroke};
 ghost use Rattle.ident_refs.specs.ValueViews.{key_vertex_view, value_view};
 ghost use Rattle.ident_refs.specs.ListValues.{key_value, key_vertex_of, form_value, line_value};
@@ -16,7 +16,7 @@ use super::key_values::{KeyVertex, Value};
 use field_values::{ColumnValue, read_column, read_vertex};
 use ili_grammar::Codes;
 use itf_lines::Field;
-use itf_reader::{Vertex, is_sound_line};
+use itf_reader::{Vertex, VertexSlice, is_sound_line};
 use ports::Memory;
 use resolver::{Form, LineForm};
 use std::alloc::Global;
@@ -56,12 +56,12 @@ pub fn form_value<'a>(form: &Form, codes: &Codes, words: &'a [Field]) -> Option<
 }
 
 // A sound vertex by its kind and its numbers.
-fn key_vertex_of(form: &LineForm, vertex: &Vertex) -> KeyVertex
-    requires { vertex_fault (line_of form.now) vertex.now.fields ≡ None }
-    ensures { key_vertex_view result ≡ key_vertex_of (line_of form.now) (vertex_of vertex.now) }
+fn key_vertex_of(form: &LineForm, vertex: Vertex) -> KeyVertex
+    requires { vertex_fault (line_of form.now) vertex.fields.now ≡ None }
+    ensures { key_vertex_view result ≡ key_vertex_of (line_of form.now) (vertex_of vertex.entry) }
 {
     let kind = vertex.kind;
-    match read_vertex(form, vertex.fields.as_slice()) {
+    match read_vertex(form, vertex.fields) {
         Ok(value) => KeyVertex {
             kind,
             x: value.at.x,
@@ -83,16 +83,18 @@ fn key_vertices_of(
     alloc: Global,
     role: Role,
     form: &LineForm,
-    vertices: &[Vertex],
+    vertices: VertexSlice,
 ) -> Result<Vec<KeyVertex>, Memory>
     requires { IsTrue (is_sound_stroke (role_view role) (line_of form.now)
-        (vertices_of vertices.now)) }
+        (slice_of vertices)) }
     ensures { IfOk result (λ key_vertices. map key_vertex_view key_vertices.items ≡ map
-        (key_vertex_of (line_of form.now)) (vertices_of vertices.now)) }
+        (key_vertex_of (line_of form.now)) (slice_of vertices.entry)) }
 {
     let mut key_vertices = Vec::with_capacity(alloc, vertices.len())?;
-    for vertex in vertices {
+    let mut rest = vertices;
+    while let Some((vertex, others)) = rest.split_first() {
         key_vertices.push(key_vertex_of(form, vertex))?;
+        rest = others;
     }
     Ok(key_vertices)
 }
@@ -102,10 +104,10 @@ pub fn line_value<'a>(
     alloc: Global,
     role: Role,
     form: &LineForm,
-    vertices: &[Vertex],
+    vertices: VertexSlice,
 ) -> Result<Option<Value<'a>>, Memory>
     ensures { IfOk result (λ value. option_map value_view value ≡ line_value (role_view role)
-        (line_of form.now) (vertices_of vertices.now)) }
+        (line_of form.now) (slice_of vertices.entry)) }
 {
     if vertices.is_empty() || !is_sound_line(alloc, role, form, vertices)? {
         return Ok(None);

@@ -4,7 +4,7 @@ ghost use Rattle.table_layout.specs.Values.{layout_view};
 
 use super::layouts::{layout_of, read};
 use ident_refs::check_keys;
-use itf_reader::{Finding, Other};
+use itf_reader::{Fault, Finding};
 use std::alloc::Global;
 use std::process::Abort;
 use table_layout::Layout;
@@ -32,11 +32,11 @@ const HEAD: &str = "SCNT\n////\nMTID x\nMODL M\nTOPI T\n";
 fn shown(rt: &impl Abort, alloc: Global, findings: &[Finding]) -> String {
     let mut text = String::new(alloc);
     for finding in findings {
-        let (line, column, code) = (finding.line, finding.column, finding.code);
-        let one = match &finding.other {
-            Other::Nothing => format!(in alloc; "{line} {column} {code:?}\n"),
-            Other::Line(first) => format!(in alloc; "{line} {column} {code:?} {first}\n"),
-            Other::Word(word) => {
+        let (line, column, code) = (finding.line, finding.column, finding.code());
+        let one = match &finding.fault {
+            Fault::Value(_) => format!(in alloc; "{line} {column} {code:?}\n"),
+            Fault::Repeat(_, first) => format!(in alloc; "{line} {column} {code:?} {first}\n"),
+            Fault::Reference(_, word) => {
                 let word = std::str::from_utf8(word.bytes()).unwrap_or("");
                 format!(in alloc; "{line} {column} {code:?} {word}\n")
             }

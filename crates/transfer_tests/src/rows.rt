@@ -40,7 +40,7 @@ const HEAD: &str = "SCNT\n////\nMTID x\nMODL Land\nTOPI Cover\n";
 fn shown(rt: &impl Abort, alloc: Global, findings: &[Finding]) -> String {
     let mut text = String::new(alloc);
     for finding in findings {
-        let (line, column, code) = (finding.line, finding.column, finding.code);
+        let (line, column, code) = (finding.line, finding.column, finding.code());
         let one = format!(in alloc; "{line} {column} {code:?}\n").expect(rt, "memory");
         text.push_str(&one).expect(rt, "memory");
     }
@@ -194,9 +194,8 @@ fn sound(rt: &impl Abort, alloc: Global, layout: &Layout, transfer: &Transfer) -
             let one = format!(in alloc; "{}", is_counted(table, row)).expect(rt, "memory");
             text.push_str(&one).expect(rt, "memory");
             for (form, stroke) in table.lines.iter().zip(&row.strokes) {
-                let good = is_sound_line(alloc, table.role, form, &stroke.vertices).expect(
-                    rt, "memory",
-                );
+                let vertices = stroke.vertices.as_slice();
+                let good = is_sound_line(alloc, table.role, form, vertices).expect(rt, "memory");
                 let one = format!(in alloc; " {good}").expect(rt, "memory");
                 text.push_str(&one).expect(rt, "memory");
             }

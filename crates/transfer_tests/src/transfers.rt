@@ -5,7 +5,7 @@ ghost use Rattle.table_layout.specs.Values.{layout_view};
 use super::layouts::{CODES, layout_of};
 use itf_lines::{Field, LineEnd, Lines, logical_lines};
 use itf_reader::{
-    Code, Finding, Names, Other, ReadRefusal, Row, RowFeed, Structure, Transfer, TransferFeed,
+    Code, Fault, Finding, Names, ReadRefusal, Row, RowFeed, Structure, Transfer, TransferFeed,
     read_transfer, sort_findings,
 };
 use std::alloc::Global;
@@ -58,10 +58,15 @@ fn push_row(rt: &impl Abort, alloc: Global, text: &mut String, row: &Row) {
     push_fields(rt, text, &row.fields);
     for stroke in &row.strokes {
         text.push_str(" |").expect(rt, "memory");
-        for vertex in &stroke.vertices {
+        let mut rest = stroke.vertices.as_slice();
+        for _ in 0..rest.len() {
+            let Some((vertex, others)) = rest.split_first() else {
+                break;
+            };
             let kind = format!(in alloc; " {} {:?}", vertex.line, vertex.kind).expect(rt, "memory");
             text.push_str(&kind).expect(rt, "memory");
-            push_fields(rt, text, vertex.fields.as_slice());
+            push_fields(rt, text, vertex.fields);
+            rest = others;
         }
     }
     text.push_str("\n").expect(rt, "memory");
@@ -87,9 +92,9 @@ fn reads(rt: &impl Abort, alloc: Global, text: &str, want: &str) {
 }
 
 // A text, and the line and the code at which it is refused.
-type Fault = (&'static str, u32, Structure);
+type Refused = (&'static str, u32, Structure);
 
-fn refuses(rt: &impl Abort, alloc: Global, front: &str, faults: &[Fault]) {
+fn refuses(rt: &impl Abort, alloc: Global, front: &str, faults: &[Refused]) {
     for (text, line, code) in faults {
         let want = ReadRefusal::At {
             line: *line,
@@ -120,7 +125,7 @@ fn rows_are_in_the_order_of_the_layout(rt: HostRuntime) {
 
 #[test]
 fn the_head_is_refused_at_its_line(rt: HostRuntime) {
-    let faults: [Fault; 12] = [
+    let faults: [Refused; 12] = [
         ("", 1, Structure::End),
         ("\n", 1, Structure::Word),
         ("MOTR\n", 1, Structure::Motr),
@@ -143,7 +148,7 @@ fn the_head_is_refused_at_its_line(rt: HostRuntime) {
 
 #[test]
 fn topics_and_tables_are_refused_at_their_lines(rt: HostRuntime) {
-    let faults: [Fault; 12] = [
+    let faults: [Refused; 12] = [
         ("TOPI V\n", 5, Structure::Name),
         ("TABL Z\n", 5, Structure::Word),
         ("TOPI T\nETOP\nTOPI T\n", 7, Structure::Twice),
@@ -162,7 +167,7 @@ fn topics_and_tables_are_refused_at_their_lines(rt: HostRuntime) {
 
 #[test]
 fn strokes_are_refused_at_their_lines(rt: HostRuntime) {
-    let faults: [Fault; 8] = [
+    let faults: [Refused; 8] = [
         ("TABL L\nELIN\n", 7, Structure::Word),
         ("TABL A\nOBJE 1\nELIN\n", 8, Structure::Word),
         ("TABL L\nOBJE 1\nELIN\nELIN\nELIN\n", 10, Structure::Word),
@@ -194,7 +199,7 @@ fn strokes_are_refused_at_their_lines(rt: HostRuntime) {
 
 #[test]
 fn continuation_and_the_end_keep_their_codes(rt: HostRuntime) {
-    let faults: [Fault; 9] = [
+    let faults: [Refused; 9] = [
         ("EMOD\nENDE\nFOO\n", 7, Structure::Word),
         ("EMOD\nENDE\n\nMOTR\n", 8, Structure::Word),
         ("EMOD\nENDE\nCONT\n", 7, Structure::Cont),
@@ -313,14 +318,13 @@ fn finding(place: &Place) -> Finding {
     Finding {
         line,
         column,
-        code,
-        other: Other::Line(first),
+        fault: Fault::Repeat(code, first),
     }
 }
 
-fn first_line(other: &Other) -> u32 {
-    match other {
-        Other::Line(line) => *line,
+fn first_line(fault: &Fault) -> u32 {
+    match fault {
+        Fault::Repeat(_, line) => *line,
         _ => 0,
     }
 }
@@ -355,7 +359,7 @@ fn findings_are_ordered_by_line_then_column_then_code(rt: HostRuntime) {
         let (line, column, code, first) = *want;
         assert_eq!(&rt; finding.line, line);
         assert_eq!(&rt; finding.column, column);
-        assert_eq!(&rt; finding.code, code);
-        assert_eq!(&rt; first_line(&finding.other), first);
+        assert_eq!(&rt; finding.code(), code);
+        assert_eq!(&rt; first_line(&finding.fault), first);
     }
 }
