@@ -1,7 +1,9 @@
 -- How far the points beside the middle of two points are from them, and the count of two points by its bits.
-use Rattle.std.proofs.Common.{rules, ◌≡◌, ℕ, suc, ◌+◌, ◌-◌, ◌*◌, ◌%◌, ◌<◌, ◌≤◌, ◌^◌, Bool, true, false, cond, nat_lt, None, Some, ℤ, pos, ◌+ℤ◌, ◌*ℤ◌, ◌-ℤ◌, ◌<ℤ◌, ◌≤ℤ◌, [], ◌∷◌, arith, ap, refl, sym, ◌∙◌, subst}
+use Rattle.std.proofs.Common.{rules, ◌≡◌, ℕ, zero, suc, ◌+◌, ◌-◌, ◌*◌, ◌%◌, ◌<◌, ◌≤◌, ◌^◌, Bool, true, false, cond, nat_lt, None, Some, ℤ, pos, ◌+ℤ◌, ◌*ℤ◌, ◌-ℤ◌, ◌<ℤ◌, ◌≤ℤ◌, [], ◌∷◌, arith, ap, refl, sym, ◌∙◌, subst}
 use Rattle.std.proofs.lemmas.Int.{ints}
 use Rattle.std.proofs.Math.Pow.{pow_mono}
+use Rattle.std.specs.Prelude.{min, max}
+use Rattle.straight_predicates.proofs.Orders.{by_lt}
 use Rattle.plane.specs.Faces.Cells.{is_positive}
 use Rattle.plane.specs.Forms.Vectors.{point}
 use Rattle.plane.specs.Numbers.{IsNear}
@@ -109,28 +111,56 @@ twice n = omega arith
 pub tested_small : (k more left : ℕ) → more ≡ suc left → k + 2 ^ more ≤ 2 ^ 27 → (k + 2 ^ left) + 2 ^ left ≤ 2 ^ 27
 tested_small k more left e h = let t = twice left in let f = ap (λ n. 2 ^ n) e in omega (arith, h, t, f)
 
-pub small_test : (done k : ℕ) → done < 27 → k + 2 ^ (27 - done) ≤ 2 ^ 27 → k + 1 * 2 ^ (26 - done) % 2 ^ 32 < 2 ^ 27
-small_test done k d h =
-    let up : 27 - done ≡ suc (26 - done) = omega (arith, d) in
-    let t = tested_small k (27 - done) (26 - done) up h in
-    let p = pow_mono {i = 0} {j = 26 - done} (omega arith) in
-    subst (λ (n : ℕ). k + n < 2 ^ 27) (sym (bit_is (26 - done) (omega (arith, d)))) (omega (arith, t, p))
+pub small_test : (top done k : ℕ) → top ≤ 27 → done < top → k + 2 ^ (top - done) ≤ 2 ^ 27 → k + 1 * 2 ^ (top - 1 - done) % 2 ^ 32 < 2 ^ 27
+small_test top done k m d h =
+    let left = top - 1 - done in
+    let up : top - done ≡ suc left = omega (arith, d) in
+    let t = tested_small k (top - done) left up h in
+    let p = pow_mono {i = 0} {j = left} (omega arith) in
+    subst (λ (n : ℕ). k + n < 2 ^ 27) (sym (bit_is left (omega (arith, m, d)))) (omega (arith, t, p))
 
 -- one turn of the loop over the bits
-pub preserved : (test : ℕ → Bool) (done k more next all : ℕ) (t : Bool) → done < 27 → more ≡ k + 1 * 2 ^ (26 - done) % 2 ^ 32 → t ≡ test more → next ≡ cond t more k
-    → with_bits test (27 - done) k ≡ all → k + 2 ^ (27 - done) ≤ 2 ^ 27 → (with_bits test (27 - (done + 1)) next ≡ all) × (next + 2 ^ (27 - (done + 1)) ≤ 2 ^ 27)
-preserved test done k more next all t d m e n h l =
-    let left : 27 - (done + 1) ≡ 26 - done = omega (arith, d) in
-    let up : 27 - done ≡ suc (26 - done) = omega (arith, d) in
-    let f : more ≡ k + 2 ^ (26 - done) = m ∙ ap (λ b. k + b) (bit_is (26 - done) (omega (arith, d))) in
-    let g : next ≡ cond (test (k + 2 ^ (26 - done))) (k + 2 ^ (26 - done)) k = n ∙ ap (λ b. cond b more k) e ∙ ap (λ m. cond (test m) m k) f in (
-      ap (λ n. with_bits test n next) left ∙ ap (λ n. with_bits test (26 - done) n) g ∙ sym (bits_step test (27 - done) (26 - done) k up) ∙ h,
-      subst (λ p. next + 2 ^ p ≤ 2 ^ 27) (sym left) (by_test t next n (tested_small k (27 - done) (26 - done) up l) f),
+pub preserved : (test : ℕ → Bool) (top done k more next all : ℕ) (t : Bool) → top ≤ 27 → done < top → more ≡ k + 1 * 2 ^ (top - 1 - done) % 2 ^ 32 → t ≡ test more → next ≡ cond t more k
+    → with_bits test (top - done) k ≡ all → k + 2 ^ (top - done) ≤ 2 ^ 27 → (with_bits test (top - (done + 1)) next ≡ all) × (next + 2 ^ (top - (done + 1)) ≤ 2 ^ 27)
+preserved test top done k more next all t b d m e n h l =
+    let rest = top - 1 - done in
+    let left : top - (done + 1) ≡ rest = omega (arith, d) in
+    let up : top - done ≡ suc rest = omega (arith, d) in
+    let f : more ≡ k + 2 ^ rest = m ∙ ap (λ b. k + b) (bit_is rest (omega (arith, b, d))) in
+    let g : next ≡ cond (test (k + 2 ^ rest)) (k + 2 ^ rest) k = n ∙ ap (λ b. cond b more k) e ∙ ap (λ m. cond (test m) m k) f in (
+      ap (λ n. with_bits test n next) left ∙ ap (λ n. with_bits test rest n) g ∙ sym (bits_step test (top - done) rest k up) ∙ h,
+      subst (λ p. next + 2 ^ p ≤ 2 ^ 27) (sym left) (by_test t next n (tested_small k (top - done) rest up l) f),
     )
   where
-    by_test : (t : Bool) (next : ℕ) → next ≡ cond t more k → (k + 2 ^ (26 - done)) + 2 ^ (26 - done) ≤ 2 ^ 27 → more ≡ k + 2 ^ (26 - done) → next + 2 ^ (26 - done) ≤ 2 ^ 27
+    by_test : (t : Bool) (next : ℕ) → next ≡ cond t more k → (k + 2 ^ (top - 1 - done)) + 2 ^ (top - 1 - done) ≤ 2 ^ 27 → more ≡ k + 2 ^ (top - 1 - done) → next + 2 ^ (top - 1 - done) ≤ 2 ^ 27
     by_test true next e h f = omega (arith, e, h, f)
     by_test false next e h f = omega (arith, e, h, f)
+
+-- bits that are too great are not taken
+pub bits_skip : (test : ℕ → Bool) (top more : ℕ) → top + more ≤ 27 → ((i : ℕ) → 2 ^ top ≤ i → i < 2 ^ 27 → test i ≡ false) → with_bits test (top + more) 0 ≡ with_bits test top 0
+bits_skip test top zero h f = let e : top + 0 ≡ top = omega arith in ap (λ n. with_bits test n 0) e
+bits_skip test top (suc more) h f =
+    let low = pow_mono {i = top} {j = top + more} (omega arith) in
+    let high = pow_mono {i = top + more} {j = 26} (omega (arith, h)) in
+    let e = f (0 + 2 ^ (top + more)) (omega (arith, low)) (omega (arith, high)) in
+    bits_step test (top + suc more) (top + more) 0 (omega arith) ∙ ap (λ t. with_bits test (top + more) (cond t (0 + 2 ^ (top + more)) 0)) e ∙ bits_skip test top more (omega (arith, h)) f
+
+-- the width of the numbers below end
+pub width_is : (end m l w i : ℕ) → m ≡ max end 1 → m < 2 * 2 ^ l → w ≡ min (l + 1) 27 → 2 ^ w ≤ i → i < 2 ^ 27 → end ≤ i
+width_is end m l w i e h f k n =
+    by_lt (l + 1) 27
+    (λ (a : l + 1 < 27).
+    let g : w ≡ suc l = omega (arith, a, f) in
+    let p = ap (λ n. 2 ^ n) g in
+    let t = twice l in
+    omega (arith, e, h, k, p, t))
+    (λ (a : 27 ≤ l + 1).
+    let g : w ≡ 27 = omega (arith, a, f) in
+    let p = ap (λ n. 2 ^ n) g in
+    absurd (omega (arith, k, n, p)))
+
+pub top_small : (top : ℕ) → top ≤ 27 → 0 + 2 ^ top ≤ 2 ^ 27
+top_small top h = let p = pow_mono {i = top} {j = 27} h in omega (arith, p)
 
 -- ---- sides as tests
 pub inside_true : (h : HalfArc) (p q v : Point) (k : ℕ) → v ≡ beside h p q (pos k -ℤ pos 2) → power h (point v) <ℤ pos 0 → true ≡ is_inside h p q k

@@ -1,13 +1,17 @@
 pub mod ChainEdges
 pub mod ClearNumbers
 pub mod CornerTests
+pub mod CountLaws
 pub mod CountNumbers
+pub mod DiskTriangles
 pub mod EdgeLemmas
 pub mod ListedEdges
 pub mod Means
+pub mod PlacedPoints
 pub mod Rounds
 pub mod SmallNumbers
 pub mod SpanNumbers
+pub mod SpanTriangles
 pub mod TubePoints
 pub mod TubeTriangles
 pub mod UsableEdges

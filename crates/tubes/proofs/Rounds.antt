@@ -164,7 +164,7 @@ refined_near h r p (q ∷ vs) ws e n ns st =
     subst (λ ws. AreSteps p ws × Each (AreNear (r + 2 ^ 28) h.from) ws) (some_same _ _ g)
     ((s.0, (s.1, i.0)), (near_sum r (2 ^ 28) h.from p _ n s.0, (near_more r (r + 2 ^ 28) h.from q (omega arith) ns.0, i.1)))
 
-self_near : (r : ℕ) (p : Point) → 0 < r → AreNear r p p
+pub self_near : (r : ℕ) (p : Point) → 0 < r → AreNear r p p
 self_near r p l = record {
   x = record { above = omega (arith, ints, l); below = omega (arith, ints, l) };
   y = record { above = omega (arith, ints, l); below = omega (arith, ints, l) };

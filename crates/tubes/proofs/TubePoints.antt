@@ -8,6 +8,8 @@ use Rattle.plane.specs.Forms.Vectors.{point}
 use Rattle.plane.specs.Rule.HalfArcs.{HalfArc, bend, power}
 use Rattle.plane.specs.Rule.Turns.{AreNear}
 use Rattle.plane.specs.Tubes.Bays.{Bay, IsSome, IsTube, bays}
+use Rattle.plane.proofs.Caps.Powers.{power-from, power-to}
+use Rattle.tubes.specs.Making.{IsInDisk}
 use Rattle.tubes.specs.HalfArcTubes.{IsTubeOf, and_then, beside, count, inner_points, is_inside, outer_points, refine, root, with_bits}
 
 -- ---- options
@@ -56,7 +58,7 @@ positive_is (pos zero) e = absurd (never e)
 positive_is (pos (suc n)) e = omega (arith, ints)
 positive_is (negsuc n) e = absurd (never e)
 
-negative_is : (z : ℤ) → is_positive (pos 0 -ℤ z) ≡ true → z <ℤ pos 0
+pub negative_is : (z : ℤ) → is_positive (pos 0 -ℤ z) ≡ true → z <ℤ pos 0
 negative_is z e = let l = positive_is (pos 0 -ℤ z) e in omega (arith, ints, l)
 
 pub count_is_inside : (h : HalfArc) (p q : Point) (k : ℕ) → count h p q ≡ Some k → power h (point (beside h p q (pos k -ℤ pos 2))) <ℤ pos 0
@@ -122,6 +124,21 @@ inner_are h (suc n) vs e =
   where
     twice : (a n : ℕ) → a ≡ 2 ^ n → a + a ≡ 2 ^ suc n
     twice a n e = omega (arith, e)
+
+-- they are in the disk
+pub inner_in_disk : (h : HalfArc) (n : ℕ) (vs : List Point) → inner_points h n ≡ Some vs → Each (IsInDisk h) vs
+inner_in_disk h n vs e = each vs (inner_are h n vs e).sides
+  where
+    one : (v : Point) → IsInner h v → IsInDisk h v
+    one v (inl k) = omega (arith, ints, k)
+    one v (inr e) = let z = ap (λ v. power h (point v)) e in let t = power-to h in omega (arith, ints, z, t)
+
+    each : (us : List Point) → Each (IsInner h) us → Each (IsInDisk h) us
+    each [] k = tt
+    each (u ∷ us) k = (one u k.0, each us k.1)
+
+pub from_in_disk : (h : HalfArc) → IsInDisk h h.from
+from_in_disk h = let t = power-from h in omega (arith, ints, t)
 
 -- ---- the outer points
 pub outer_size : (h : HalfArc) (p : Point) (vs os : List Point) → outer_points h p vs ≡ Some os → length os ≡ length vs

@@ -1,4 +1,5 @@
 pub mod Corners
+pub mod Counting
 pub mod DrawnEdges
 pub mod Facings
 pub mod HalfArcTubes

@@ -47,6 +47,10 @@ abbrev pub AreSteps : Point → List Point → Type 0
 AreSteps p [] = Unit {0}
 AreSteps p (q ∷ qs) = AreNear (2 ^ 28) p q × AreSteps q qs
 
+-- The point is strictly inside the circle or on it.
+abbrev pub IsInDisk : HalfArc → Point → Type 0
+IsInDisk h p = power h (point p) ≤ℤ pos 0
+
 -- The new point between two neighbours, and the outer point over them.
 abbrev pub middle : HalfArc → Point → Point → Option Point
 middle h p q = and_then (count h p q) (λ k. Some (beside h p q (pos k -ℤ pos 2)))

@@ -15,9 +15,11 @@
 //!   of each number is that of the curve of that number (`laws::edges_of_drawing`).
 //! - **How a tube is made.** The points between two neighbours lie beside their middle, as far from
 //!   it as their count says: a number made bit by bit, each bit taken where the point is still
-//!   inside the circle (`counting`). Between every two neighbours a new one is put, level + 1
-//!   times, and then an outer one over every two (`refining`); then the conditions are asked
-//!   (`conditions`, `clearing`).
+//!   inside the circle (`counting`). A disk is convex, so of two such points the one that is enough
+//!   below the other is inside where the other is (`bounds`): two tests near a guess of the count
+//!   answer most others. No answer rests on the guess (`guessing`). Between every two neighbours a
+//!   new one is put, level + 1 times, and then an outer one over every two (`refining`); then the
+//!   conditions are asked (`conditions`, `clearing`).
 //! - **Widths.** All counts and points are computed in 64 bits, relative to the first of two
 //!   neighbours, which never differ by 2^28 in a coordinate; the circle's numbers in 128. Each
 //!   product's width stands beside it.
@@ -36,20 +38,23 @@
 //!   straights that are delivered backwards and equal straights are taken. Tubes
 //!   that share corners, as those of equal half arcs, are no exception for `foreign_corner`.
 //!
-//! Cost: with K = 2^(level + 1) a tube takes 2 K - 1 counts, each one root and 28 sides of points,
-//! 32 K bytes, and while it is made at most twice that. `holds` takes at most four turns for each
-//! of the 2 K - 1 triangles, and no memory. A list is linear in the curves and the tubes that it
-//! makes: 40 bytes an edge, 2 K + 1 edges for each half arc, and room for more as it grows. Up to
-//! level 5 that is at most 129 edges a curve (`laws::few_edges`). `facings` is linear in the edges
-//! and gives a byte for each. `foreign_corner` is linear in them and in the events and holds 4
-//! bytes an event; for a drawing of straights it reads the kinds of the curves and no more.
+//! Cost: with K = 2^(level + 1) a tube takes 2 K - 1 counts, each one root and some five sides of
+//! points, at most 30 where the guess is bad. It takes 32 K bytes, and while it is made at most
+//! twice that. `holds` takes at most four turns for each of the 2 K - 1 triangles, and no memory. A
+//! list is linear in the curves and the tubes that it makes: 40 bytes an edge, 2 K + 1 edges for
+//! each half arc, and room for more as it grows. Up to level 5 that is at most 129 edges a curve
+//! (`laws::few_edges`). `facings` is linear in the edges and gives a byte for each.
+//! `foreign_corner` is linear in them and in the events and holds 4 bytes an event; for a drawing
+//! of straights it reads the kinds of the curves and no more.
 #![tactic(auto)]
 
+mod bounds;
 mod clearing;
 mod conditions;
 mod corners;
 mod counting;
 mod facing;
+mod guessing;
 mod holding;
 mod kinds;
 pub mod laws;

@@ -6,6 +6,7 @@ ghost use Rattle.arc_predicates.specs.Circles.{AreClose, half_arc};
 ghost use Rattle.tubes.specs.Making.{IsTubeAt};
 
 use super::conditions::{are_corners, is_less_than_half};
+use super::guessing::diameter;
 use super::kinds::Tube;
 use super::refining::{inner_points, outer_points};
 use arc_predicates::{Circle, circle};
@@ -37,10 +38,11 @@ fn tube_round(alloc: Global, circle: &Circle, level: u8) -> Result<Option<Tube>,
     if !is_less_than_half(circle) {
         return Ok(None);
     }
-    let Some(inner) = inner_points(alloc, circle, level)? else {
+    let diameter = diameter(circle);
+    let Some(inner) = inner_points(alloc, circle, diameter, level)? else {
         return Ok(None);
     };
-    let Some(outer) = outer_points(alloc, circle, &inner)? else {
+    let Some(outer) = outer_points(alloc, circle, diameter, &inner)? else {
         return Ok(None);
     };
     if !are_corners(circle, &inner, &outer) {

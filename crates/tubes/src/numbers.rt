@@ -1,7 +1,10 @@
 // Differences, sums of products and means of whole numbers in 64 bits.
-ghost use Rattle.std.specs.Prelude.{◌≡◌, ◌^◌, ◌+ℤ◌, ◌-ℤ◌, ◌*ℤ◌, ◌<ℤ◌, pos, unsigned_abs};
+ghost use Rattle.std.specs.Prelude.{◌≡◌, ◌<◌, ◌^◌, ◌+ℤ◌, ◌-ℤ◌, ◌*ℤ◌, ◌<ℤ◌, pos, unsigned_abs};
 ghost use Rattle.plane.specs.Numbers.{IsNear, IsWithin};
-ghost use Rattle.tubes.specs.HalfArcTubes.{moved};
+ghost use Rattle.tubes.specs.HalfArcTubes.{moved, root};
+
+/// The square of the number after it has 64 bits.
+const MOST: u64 = 4_294_967_294;
 
 /// a - b, below 2^29
 pub fn difference(a: i64, b: i64) -> i64
@@ -49,4 +52,18 @@ pub fn moved(start: i64, end: i64, turned: i64, length: i64, n: i64) -> i64
     let way = difference(end, start);
     let over = dot(way, n + n, length, turned);
     start + over.div_euclid(length + length)
+}
+
+/// The whole root of a number, at once where it is the number `near` or the one before.
+pub fn root(square: u64, near: u64) -> u64
+    ensures value { result ≡ root square }
+    ensures bound { result < 2 ^ 32 }
+{
+    let near = near.min(MOST);
+    let root = if square < near * near { near - 1 } else { near };
+    if root * root <= square && square < (root + 1) * (root + 1) {
+        root
+    } else {
+        square.isqrt()
+    }
 }

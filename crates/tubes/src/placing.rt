@@ -8,7 +8,8 @@ ghost use Rattle.arc_predicates.specs.Circles.{half_arc};
 ghost use Rattle.tubes.specs.HalfArcTubes.{beside, whole_distance};
 ghost use Rattle.tubes.specs.Making.{HasRoom, IsSpanOf};
 
-use super::numbers::{difference, dot, moved};
+use super::guessing::hypotenuse;
+use super::numbers::{difference, dot, moved, root};
 use super::spans::Span;
 use arc_predicates::Circle;
 use plane::Point;
@@ -33,7 +34,8 @@ fn distance(p: Point, q: Point) -> i64
     let x = difference(p.x, q.x);
     let y = difference(p.y, q.y);
     let square = dot(x, y, x, y);
-    square.isqrt()
+    let near = hypotenuse(x.unsigned_abs(), y.unsigned_abs());
+    root(square.unsigned_abs(), near) as i64
 }
 
 /// The point n units from the middle of the span, away from the circle's third point.

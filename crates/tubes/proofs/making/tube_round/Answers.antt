@@ -4,9 +4,9 @@ use Rattle.plane.specs.Rule.Turns.{AreNear}
 use Rattle.plane.specs.declared.kinds.Point.{Point}
 use Rattle.arc_predicates.specs.Circles.{half_arc}
 use Rattle.tubes.specs.HalfArcTubes.{inner_points, outer_points}
-use Rattle.tubes.specs.Making.{AreMade, AreSteps}
+use Rattle.tubes.specs.Making.{AreMade, AreSteps, IsInDisk}
 use Rattle.tubes.proofs.Rounds.{each_near, few_points, inner_at_hand}
-use Rattle.tubes.proofs.TubePoints.{outer_size}
+use Rattle.tubes.proofs.TubePoints.{inner_in_disk, outer_size}
 use Rattle.tubes.proofs.making.tube_round.Goals as goal
 
 pub outer_points-requires-clause-near : goal.outer_points-requires-clause-near
@@ -21,6 +21,12 @@ outer_points-requires-clause-steps c =
     let k = c.args.circle.now in
     let e = subst (AreMade (inner_points (half_arc k) (c.args.level + 1))) c.in-Some.is c.in_ok-inner.ensures in
     subst (AreSteps k.s) (sym c.deref.ensures.value) (inner_at_hand (half_arc k) (c.args.level + 1) c.in-Some.inner.items k.has e).steps
+
+pub outer_points-requires-clause-inside : goal.outer_points-requires-clause-inside
+outer_points-requires-clause-inside c =
+    let h = half_arc c.args.circle.now in
+    let e = subst (AreMade (inner_points h (c.args.level + 1))) c.in-Some.is c.in_ok-inner.ensures in
+    subst (Each (IsInDisk h)) (sym c.deref.ensures.value) (inner_in_disk h (c.args.level + 1) c.in-Some.inner.items e)
 
 pub are_corners-requires : goal.are_corners-requires
 are_corners-requires c =

@@ -4,8 +4,9 @@ use Rattle.plane.specs.Rule.Turns.{AreNear}
 use Rattle.plane.specs.declared.kinds.Point.{Point}
 use Rattle.arc_predicates.specs.Circles.{half_arc}
 use Rattle.tubes.specs.HalfArcTubes.{refine}
-use Rattle.tubes.specs.Making.{AreMade, AreSteps}
+use Rattle.tubes.specs.Making.{AreMade, AreSteps, IsInDisk}
 use Rattle.tubes.proofs.Rounds.{each_near, first_round, few_points, inner_at_hand, next_round, rounds_stop}
+use Rattle.tubes.proofs.TubePoints.{inner_in_disk}
 use Rattle.tubes.proofs.refining.inner_points.Goals as goal
 
 pub loop-init : goal.loop-init
@@ -22,6 +23,11 @@ pub refine-requires-clause-steps : goal.refine-requires-clause-steps
 refine-requires-clause-steps c =
     let k = c.args.circle.now in
     subst (AreSteps k.s) (sym c.deref.ensures.value) (inner_at_hand (half_arc k) c.loop.counter c.loop.inner.items k.has c.loop.invariant).steps
+
+pub refine-requires-clause-inside : goal.refine-requires-clause-inside
+refine-requires-clause-inside c =
+    let h = half_arc c.args.circle.now in
+    subst (Each (IsInDisk h)) (sym c.deref.ensures.value) (inner_in_disk h c.loop.counter c.loop.inner.items c.loop.invariant)
 
 pub refine-requires-clause-few : goal.refine-requires-clause-few
 refine-requires-clause-few c =

@@ -3,7 +3,7 @@ use Rattle.plane.specs.Lists.{Each}
 use Rattle.plane.specs.Rule.Turns.{AreNear}
 use Rattle.arc_predicates.specs.Circles.{half_arc}
 use Rattle.tubes.specs.HalfArcTubes.{outer_points}
-use Rattle.tubes.specs.Making.{AreSteps}
+use Rattle.tubes.specs.Making.{AreSteps, IsInDisk}
 use Rattle.tubes.proofs.Rounds.{put_before}
 use Rattle.tubes.proofs.refining.outer_points.Given as goal
 
@@ -12,5 +12,7 @@ invariant-loop-point l = record {
   made : put_before l.outer.items (outer_points (half_arc l.circle) l.before (drop l.point-index l.inner)) ≡ outer_points (half_arc l.circle) l.circle.s l.inner;
   before : AreNear (2 ^ 31) l.circle.s l.before;
   near : Each (AreNear (2 ^ 31) l.circle.s) (drop l.point-index l.inner);
+  first : IsInDisk (half_arc l.circle) l.before;
+  inside : Each (IsInDisk (half_arc l.circle)) (drop l.point-index l.inner);
   steps : AreSteps l.before (drop l.point-index l.inner);
 }
