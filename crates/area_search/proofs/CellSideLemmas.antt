@@ -82,25 +82,25 @@ module _ (d : Plan) (level : ℕ) (facings : List Facing) (told : AreFacings d l
       by_gap g h (inr (inl b)) = between g h b
       by_gap g h (inr (inr b)) = sym (between h g b)
 
--- ---- level 0
+-- ---- one level
 -- The tubes are wide, the run is one with tubes, and a settled run settles the level: as the law of settled levels says.
-module _ (d : Plan) (list : EdgeList) (t : IsTubedList d 0 list) (facings : List Facing) (told : AreFacings d 0 facings) (vs : List Move) (fit : Fit [] vs)
-    (wide : AreWide d (drawn_bays d 0)) (tubed : runs.IsTubedRun d (drawn_bays d 0) (length list.edges.items) (edge_of list.edges.items) (steps_from [] vs))
-    (level_settled : IsSettledDrawing d (drawn_bays d 0) (length (edges_at d 0)) (edge_at d 0) (steps_from [] vs) → IsSettledAt d 0) (paired : ArePaired facings list.owners.items (closed_gaps vs)) where
-  own_tubes : runs.IsTubedRun d (drawn_bays d 0) (length (edges_at d 0)) (edge_at d 0) (steps_from [] vs)
-  own_tubes = subst (λ (es : List Edge). runs.IsTubedRun d (drawn_bays d 0) (length es) (edge_of es) (steps_from [] vs)) t.edges tubed
+module _ (d : Plan) (level : ℕ) (list : EdgeList) (t : IsTubedList d level list) (facings : List Facing) (told : AreFacings d level facings) (vs : List Move) (fit : Fit [] vs)
+    (wide : AreWide d (drawn_bays d level)) (tubed : runs.IsTubedRun d (drawn_bays d level) (length list.edges.items) (edge_of list.edges.items) (steps_from [] vs))
+    (level_settled : IsSettledDrawing d (drawn_bays d level) (length (edges_at d level)) (edge_at d level) (steps_from [] vs) → IsSettledAt d level) (paired : ArePaired facings list.owners.items (closed_gaps vs)) (low : level ≤ 5) (none : (l : ℕ) → l < level → IsSettledAt d l → ⊥) where
+  own_tubes : runs.IsTubedRun d (drawn_bays d level) (length (edges_at d level)) (edge_at d level) (steps_from [] vs)
+  own_tubes = subst (λ (es : List Edge). runs.IsTubedRun d (drawn_bays d level) (length es) (edge_of es) (steps_from [] vs)) t.edges tubed
 
-  settled : IsSettledDrawing d (drawn_bays d 0) (length (edges_at d 0)) (edge_at d 0) (steps_from [] vs)
+  settled : IsSettledDrawing d (drawn_bays d level) (length (edges_at d level)) (edge_at d level) (steps_from [] vs)
   settled = record {
     run = own_tubes;
     wide = wide;
-    settled = paired_settle d (drawn_bays d 0) (length (edges_at d 0)) (edge_at d 0) (steps_from [] vs) own_tubes wide (pos 0)
-        (cells_paired d 0 facings told list.owners.items t.owners vs fit own_tubes.run paired);
+    settled = paired_settle d (drawn_bays d level) (length (edges_at d level)) (edge_at d level) (steps_from [] vs) own_tubes wide (pos 0)
+        (cells_paired d level facings told list.owners.items t.owners vs fit own_tubes.run paired);
   }
 
-  pub is_case : IsCase d 0 list.edges.items list.owners.items facings vs
+  pub is_case : IsCase d level list.edges.items list.owners.items facings vs
   is_case = record {
-    low = omega arith;
+    low = low;
     tubes = t.tubes;
     edges_are = t.edges;
     owners_are = t.owners;
@@ -109,24 +109,24 @@ module _ (d : Plan) (list : EdgeList) (t : IsTubedList d 0 list) (facings : List
     fit = fit;
   }
 
-  pub is_least : IsLeastLevel d 0
+  pub is_least : IsLeastLevel d level
   is_least = record {
-    low = omega arith;
+    low = low;
     settled = level_settled settled;
-    least = λ l h s. absurd (omega (arith, h));
+    least = none;
   }
 
 -- ---- the owners of edges have curves of the drawing
-pub curves_below : (d : Plan) (list : EdgeList) (facings : List Facing) → AreFacings d 0 facings → IsTubedList d 0 list → length d.curves < 2 ^ 30
-    → ((e : ℕ) → e < length (edges_at d 0) → (owned_at d 0 e).curve < length d.curves) → (e : ℕ) → e < length list.owners.items → (owner_at list.owners.items e).curve < 2 ^ 30
-curves_below d list facings told t few within e l =
-    let k : e < length (edges_at d 0) = (let q = owner_count d 0 facings told list.owners.items t.owners in omega (arith, l, q)) in
-    let o = ap (λ (x : Owner). x.curve) (owner_is d 0 facings told list.owners.items t.owners e k) in
+pub curves_below : (d : Plan) (level : ℕ) (list : EdgeList) (facings : List Facing) → AreFacings d level facings → IsTubedList d level list → length d.curves < 2 ^ 30
+    → ((e : ℕ) → e < length (edges_at d level) → (owned_at d level e).curve < length d.curves) → (e : ℕ) → e < length list.owners.items → (owner_at list.owners.items e).curve < 2 ^ 30
+curves_below d level list facings told t few within e l =
+    let k : e < length (edges_at d level) = (let q = owner_count d level facings told list.owners.items t.owners in omega (arith, l, q)) in
+    let o = ap (λ (x : Owner). x.curve) (owner_is d level facings told list.owners.items t.owners e k) in
     let c = within e k in
     omega (arith, o, c, few)
 
-pub few_of : (d : Plan) (list : EdgeList) → IsTubedList d 0 list → length (edges_at d 0) ≤ (129 * length d.curves) → length d.curves ≤ 16000000 → length list.edges.items < 2147483648
-few_of d list t f few = let q = ap length t.edges in omega (arith, f, q, few)
+pub few_of : (d : Plan) (level : ℕ) (list : EdgeList) → IsTubedList d level list → length (edges_at d level) ≤ (129 * length d.curves) → length d.curves ≤ 16000000 → length list.edges.items < 2147483648
+few_of d level list t f few = let q = ap length t.edges in omega (arith, f, q, few)
 
 -- ---- answers of tests
 pub refused : {P : Type 0} → (P → ⊥) → IsTrue false ↔ P

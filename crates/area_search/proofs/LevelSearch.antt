@@ -1,7 +1,5 @@
 -- The least level that settles a drawing, and its edges there as a case.
-use Rattle.std.proofs.Common.{◌≡◌, ◌↔◌, ◌⊎◌, inl, inr, ℕ, ◌+◌, ◌*◌, ◌<◌, ◌≤◌, ◌^◌, Bool, true, false, not, IsTrue, Option, Some, None, List, length, arith, refl, ap, ◌∙◌, subst}
-use Rattle.std.specs.Option.{is_some}
-use Rattle.std.specs.Prelude.{IfSome}
+use Rattle.std.proofs.Common.{◌≡◌, ◌⊎◌, inl, inr, ℕ, ◌+◌, ◌*◌, ◌<◌, ◌≤◌, ◌^◌, List, length, arith, refl, ap, ◌∙◌, subst}
 use Rattle.plane.specs.Forms.Meets.{Bad, Disjoint, Touch}
 use Rattle.plane.specs.Rule.BadPairs.{IsBadPair}
 use Rattle.plane.specs.Rule.Plans.{Plan, curve}
@@ -14,7 +12,7 @@ use Rattle.line_sweep.specs.Kinds.{AreBad}
 use Rattle.level_breaks.specs.declared.pairs.LevelBreak.{LevelBreak}
 use Rattle.tubes.specs.Settled.{Breaks, IsFirstBreak, IsSettledAt, edge_at, edges_at}
 use Rattle.tubes.specs.declared.kinds.EdgeList.{EdgeList}
-use Rattle.area_search.specs.Answers.{AreClear, IsAnswer, IsLeastLevel, undecided}
+use Rattle.area_search.specs.Answers.{AreClear, IsAnswer, IsLeastLevel, SettlesNoneBelow, undecided}
 use Rattle.area_search.specs.declared.kinds.AreaAnswer.TheVariants.{Undecided}
 use Rattle.area_search.proofs.Small.{by_lt}
 
@@ -34,30 +32,11 @@ none_of_both d f g i j p =
     (λ (t : (curve d j).kind ≡ kind.HalfArc). g i j (record { pair = p; half_arc = inr t })))
     (λ (s : (curve d i).kind ≡ kind.HalfArc). g i j (record { pair = p; half_arc = inl s }))
 
--- ---- one level
-module _ (d : Plan) (level : ℕ) (unbroken : (i j : ℕ) → IsSettledAt d level → Breaks d level i j → ⊥) where
-  pub settled_or_not : (r : Option LevelBreak) (b : Bool) → (r ≡ None → IsSettledAt d level) → IfSome r (λ p. IsFirstBreak d level p.first p.second) → is_some r ≡ not b → IsTrue b ↔ IsSettledAt d level
-  settled_or_not None b f g e = ((λ t. f refl), (λ s. no b e))
-    where
-      no : (b : Bool) → false ≡ not b → IsTrue b
-      no true q = refl
-      no false q = cc
-  settled_or_not (Some p) b f g e = ((λ t. absurd (no b e t)), (λ s. absurd (unbroken p.first p.second s g.breaks)))
-    where
-      no : (b : Bool) → true ≡ not b → IsTrue b → ⊥
-      no true q t = cc
-      no false q t = cc
-
-pub least_level : (d : Plan) (level : ℕ) → level ≤ 5 → ((l : ℕ) → l < level → IsSettledAt d l → ⊥) → IsSettledAt d level → IsLeastLevel d level
+-- ---- levels
+pub least_level : (d : Plan) (level : ℕ) → level ≤ 5 → SettlesNoneBelow d level → IsSettledAt d level → IsLeastLevel d level
 least_level d level low none s = record { low = low; settled = s; least = none }
 
-pub not_settled_more : (d : Plan) (k : ℕ) → ((l : ℕ) → l < k → IsSettledAt d l → ⊥) → (IsSettledAt d k → ⊥) → (l : ℕ) → l < k + 1 → IsSettledAt d l → ⊥
-not_settled_more d k f n l m s = by_lt l k (λ (g : l < k). f l g s) (λ (g : k ≤ l). n (subst (IsSettledAt d) (both l k m g) s))
-  where
-    both : (l k : ℕ) → l < k + 1 → k ≤ l → l ≡ k
-    both l k m g = omega (arith, m, g)
-
-pub none_settles : (d : Plan) (k : ℕ) (p : LevelBreak) → 5 ≤ k → ((l : ℕ) → l < k → IsSettledAt d l → ⊥) → ((i j : ℕ) → IsSettledAt d 5 → Breaks d 5 i j → ⊥) → IsFirstBreak d 5 p.first p.second → AreClear d → IsAnswer d (Undecided p.first p.second)
+pub none_settles : (d : Plan) (k : ℕ) (p : LevelBreak) → 5 ≤ k → SettlesNoneBelow d k → ((i j : ℕ) → IsSettledAt d 5 → Breaks d 5 i j → ⊥) → IsFirstBreak d 5 p.first p.second → AreClear d → IsAnswer d (Undecided p.first p.second)
 none_settles d k p m none unbroken first clear = undecided p.first p.second clear (λ l g s. by_lt l 5 (λ (h : l < 5). none l (omega (arith, h, m)) s) (λ (h : 5 ≤ l). unbroken p.first p.second (subst (IsSettledAt d) (five l g h) s) first.breaks)) first
   where
     five : (l : ℕ) → l ≤ 5 → 5 ≤ l → l ≡ 5

@@ -92,15 +92,15 @@ tube_part runs.whole h = absurd h
 tube_part runs.inner h = tt
 tube_part runs.outer h = tt
 
--- ---- the list of level 0, with the owner of each edge
-module _ (d : Plan) (list : EdgeList) (t : IsTubedList d 0 list) (own : (e : ℕ) → e < length list.edges.items → owner_at list.owners.items e ≡ owner_as (owned_at d 0 e)) where
+-- ---- the list of a level, with the owner of each edge
+module _ (d : Plan) (level : ℕ) (list : EdgeList) (t : IsTubedList d level list) (own : (e : ℕ) → e < length list.edges.items → owner_at list.owners.items e ≡ owner_as (owned_at d level e)) where
   abbrev m : ℕ
   m = length list.edges.items
 
   abbrev E : ℕ → Edge
   E = edge_of list.edges.items
 
-  curve_is : (e : ℕ) → e < m → (owner_at list.owners.items e).curve ≡ (owned_at d 0 e).curve
+  curve_is : (e : ℕ) → e < m → (owner_at list.owners.items e).curve ≡ (owned_at d level e).curve
   curve_is e l = ap (λ (o : Owner). o.curve) (own e l)
 
   pub end_of_curve : (vs : List Move) (e : ℕ) (o : Owner) (c : Curve) (p : Point) → length list.owners.items ≡ m → e < m → o ≡ get_or list.owners.items e o → o.curve < length d.curves → c ≡ get_or d.curves o.curve c → IsEndOf c p
@@ -110,10 +110,10 @@ module _ (d : Plan) (list : EdgeList) (t : IsTubedList d 0 list) (own : (e : ℕ
       inl (subst (λ (w : Owner). IsEndOf (curve d w.curve) p) same (subst (λ (x : Curve). IsEndOf x p) (nth_curve_is d o.curve c k r) h))
 
   -- ---- an end of another edge of the curve
-  module _ (half : (e : ℕ) → e < m → (runs.IsOfTube (owned_at d 0 e).part → IsHalfArc d (owned_at d 0 e).curve) × (IsHalfArc d (owned_at d 0 e).curve → runs.IsOfTube (owned_at d 0 e).part)) where
+  module _ (half : (e : ℕ) → e < m → (runs.IsOfTube (owned_at d level e).part → IsHalfArc d (owned_at d level e).curve) × (IsHalfArc d (owned_at d level e).curve → runs.IsOfTube (owned_at d level e).part)) where
     same_tube : (e o : ℕ) → e < m → o < m → (owner_at list.owners.items o).curve ≡ (owner_at list.owners.items e).curve → IsOfTube (owner_at list.owners.items e).part → IsOfTube (owner_at list.owners.items o).part
     same_tube e o l k q h =
-        let of : runs.IsOfTube (owned_at d 0 e).part = tube_part _ (subst (λ (w : Owner). IsOfTube w.part) (own e l) h) in
+        let of : runs.IsOfTube (owned_at d level e).part = tube_part _ (subst (λ (w : Owner). IsOfTube w.part) (own e l) h) in
         let arc = subst (IsHalfArc d) (sym (curve_is e l) ∙ sym q ∙ curve_is o k) ((half e l).0 of) in
         subst (λ (w : Owner). IsOfTube w.part) (sym (own o k)) (part_tube _ ((half o k).1 arc))
 
@@ -143,9 +143,9 @@ module _ (d : Plan) (list : EdgeList) (t : IsTubedList d 0 list) (own : (e : ℕ
         (edge_at_event m E u e fact l (subst (IsEnd (E e)) at a)) (edge_at_event m E u o fact j (subst (IsEnd (E o)) at b)) (edge_at_event m E u f fact k (subst (IsEnd (E f)) at c)) n
 
     abbrev Own : ℕ → ℕ → Point → Type 0
-    Own e f p = (p ≡ (curve d (owned_at d 0 e).curve).from) ⊎ ((p ≡ (curve d (owned_at d 0 e).curve).to) ⊎ ((owned_at d 0 f).curve ≡ (owned_at d 0 e).curve))
+    Own e f p = (p ≡ (curve d (owned_at d level e).curve).from) ⊎ ((p ≡ (curve d (owned_at d level e).curve).to) ⊎ ((owned_at d level f).curve ≡ (owned_at d level e).curve))
 
-    pub all_own : AreOwn d list vs m → (p : Point) → IsOwnCorner d 0 p
+    pub all_own : AreOwn d list vs m → (p : Point) → IsOwnCorner d level p
     all_own all p e f l k h a b = by_own (by_end there_e)
       where
         le : e < m
@@ -167,13 +167,13 @@ module _ (d : Plan) (list : EdgeList) (t : IsTubedList d 0 list) (own : (e : ℕ
         by_end (inl q) = subst (IsOwnEnd d list vs e) q (all e le of_e).0
         by_end (inr q) = subst (IsOwnEnd d list vs e) q (all e le of_e).1
 
-        at_end : IsEndOf (curve d (owned_at d 0 e).curve) p → Own e f p
+        at_end : IsEndOf (curve d (owned_at d level e).curve) p → Own e f p
         at_end (inl q) = inl (sym q)
         at_end (inr q) = inr (inl (sym q))
 
         one_of : (o : ℕ) → IsOtherAt list e o p → (f ≡ e) ⊎ (f ≡ o) → Own e f p
-        one_of o n (inl q) = inr (inr (ap (λ (i : ℕ). (owned_at d 0 i).curve) q))
-        one_of o n (inr q) = inr (inr (ap (λ (i : ℕ). (owned_at d 0 i).curve) q ∙ sym (curve_is o n.there) ∙ n.same ∙ curve_is e le))
+        one_of o n (inl q) = inr (inr (ap (λ (i : ℕ). (owned_at d level i).curve) q))
+        one_of o n (inr q) = inr (inr (ap (λ (i : ℕ). (owned_at d level i).curve) q ∙ sym (curve_is o n.there) ∙ n.same ∙ curve_is e le))
 
         by_own : IsOwnEnd d list vs e p → Own e f p
         by_own (inl q) = at_end (subst (λ (i : ℕ). IsEndOf (curve d i) p) (curve_is e le) q)

@@ -56,11 +56,15 @@ pub record IsLeastEmpty (d : Plan) (i : ℕ) (left : Bool) : Type 0 where
   pub no_left : left ≡ false → IsEmptySide d i true → ⊥
 
 -- ---- levels
+-- no lower level settles the drawing
+abbrev pub SettlesNoneBelow : Plan → ℕ → Type 0
+SettlesNoneBelow d level = (l : ℕ) → l < level → IsSettledAt d l → ⊥
+
 -- The level is the least one that settles the drawing.
 pub record IsLeastLevel (d : Plan) (level : ℕ) : Type 0 where
   pub low : level ≤ 5
   pub settled : IsSettledAt d level
-  pub least : (l : ℕ) → l < level → IsSettledAt d l → ⊥
+  pub least : SettlesNoneBelow d level
 
 -- some level settles the drawing
 abbrev pub IsSettled : Plan → Type 0

@@ -1,11 +1,27 @@
--- What is at fault with the curves of a drawing, whether a level settles it or not.
-use Rattle.std.specs.Prelude.{Option, Some, None}
+-- What is at fault with the curves of a drawing, whether a level settles it or not, and the answer
+-- at one level.
+use Rattle.std.specs.Prelude.{ℕ, Option, Some, None, ⊤}
 use Rattle.plane.specs.Rule.Plans.{Plan}
+use Rattle.tubes.specs.Settled.{IsSettledAt}
 use Rattle.area_search.specs.Answers.{AreClear, IsAnswer}
 use Rattle.area_search.specs.declared.kinds.AreaAnswer.TheVariants.{Fault}
+use Rattle.area_search.specs.declared.by_sweep.Shown.{Shown}
+use Rattle.area_search.specs.declared.by_sweep.Shown.TheVariants as shown
+use Rattle.area_search.specs.declared.kinds.AreaAnswer.{AreaAnswer}
 use Rattle.area_search.specs.declared.kinds.AreaFinding.{AreaFinding}
 
 -- A fault that is the answer; or no two curves are bad and no point is on a curve.
 abbrev pub IsFaultOfCurves : Plan → Option AreaFinding → Type 0
 IsFaultOfCurves d None = AreClear d
 IsFaultOfCurves d (Some finding) = IsAnswer d (Fault finding)
+
+-- The level does not settle the drawing; or this is the answer.
+abbrev pub IsAnswerAt : Plan → ℕ → Option AreaAnswer → Type 0
+IsAnswerAt d level None = IsSettledAt d level → ⊥
+IsAnswerAt d level (Some answer) = IsAnswer d answer
+
+-- What a sweep shows of a level: the answer, or that it does not settle the drawing, or nothing.
+abbrev pub IsShown : Plan → ℕ → Shown → Type 0
+IsShown d level (shown.Answer answer) = IsAnswer d answer
+IsShown d level shown.Unsettled = IsSettledAt d level → ⊥
+IsShown d level shown.Nothing = ⊤

@@ -1,5 +1,5 @@
-// The answer to a drawing that level 0 settles, as one sweep shows.
-ghost use Rattle.std.specs.Prelude.{[], ◌≡◌, ◌^◌, ◌<◌, ◌≤◌, IfOk, IfSome, length};
+// What one sweep of the edges of a level shows: the answer, or that the level does not settle.
+ghost use Rattle.std.specs.Prelude.{[], ◌≡◌, ◌^◌, ◌<◌, ◌≤◌, IfOk, length};
 ghost use Rattle.line_sweep.specs.Kinds.{gaps_of, moves_of};
 ghost use Rattle.line_sweep.specs.Sweeping.{HasTimetable};
 ghost use Rattle.plane.specs.Rule.Plans.{plan};
@@ -8,7 +8,8 @@ ghost use Rattle.plane.specs.Runs.Moves.{Fit, steps_from};
 ghost use Rattle.plane.specs.Runs.Steps.{Run};
 ghost use Rattle.straight_predicates.specs.EdgeLists.{edge_of};
 ghost use Rattle.tubes.specs.TubedEdges.{AreUsable, IsTubedList};
-ghost use Rattle.area_search.specs.Answers.{IsAnswer};
+ghost use Rattle.area_search.specs.Answers.{SettlesNoneBelow};
+ghost use Rattle.area_search.specs.LevelAnswers.{IsShown};
 
 use super::case::Case;
 use super::cell_sides::are_paired;
@@ -21,49 +22,68 @@ use ports::Memory;
 use std::alloc::Global;
 use tubes::{EdgeList, edge_list, facings};
 
-/// The answer to a drawing that level 0 settles, where the sweep of its edges shows that; else
-/// None, which says nothing of the drawing. The only error is out of memory.
-pub(crate) fn answer_by_sweep(
-    alloc: Global,
-    drawing: &Drawing,
-) -> Result<Option<AreaAnswer>, Memory>
+/// What a sweep of a level's edges shows of the drawing.
+#[derive(Drop)]
+pub(crate) enum Shown {
+    /// The answer: the level settles the drawing.
+    Answer(AreaAnswer),
+    /// The level does not settle the drawing.
+    Unsettled,
+    /// Neither.
+    Nothing,
+}
+
+/// What the edges of a level show of a drawing that no lower level settles. The only error is out
+/// of memory.
+pub(crate) fn answer_by_sweep(alloc: Global, drawing: &Drawing, level: u8) -> Result<Shown, Memory>
     requires curves { length (plan drawing.now).curves ≤ 16000000 }
-    ensures { IfOk result (λ r. IfSome r (IsAnswer (plan drawing.now))) }
+    requires low { level ≤ 5 }
+    requires least { SettlesNoneBelow (plan drawing.now) level }
+    ensures { IfOk result (IsShown (plan drawing.now) level) }
 {
     tubes::laws::few_edges();
-    match edge_list(alloc, drawing, 0)? {
-        Some(list) => answer_list(alloc, drawing, &list),
-        None => Ok(None),
+    level_breaks::laws::settled_is_unbroken();
+    match edge_list(alloc, drawing, level)? {
+        Some(list) => answer_list(alloc, drawing, level, &list),
+        None => Ok(Shown::Unsettled),
     }
 }
 
-/// The same, by the edges of level 0.
+/// The same, with the edges of the level.
 fn answer_list(
     alloc: Global,
     drawing: &Drawing,
+    level: u8,
     list: &EdgeList,
-) -> Result<Option<AreaAnswer>, Memory>
+) -> Result<Shown, Memory>
+    requires low { level ≤ 5 }
+    requires least { SettlesNoneBelow (plan drawing.now) level }
     requires few { length list.now.edges.items < 2 ^ 31 }
-    requires list { IsTubedList (plan drawing.now) 0 list.now }
+    requires list { IsTubedList (plan drawing.now) level list.now }
     requires usable { AreUsable (plan drawing.now) list.now.edges.items }
-    ensures { IfOk result (λ r. IfSome r (IsAnswer (plan drawing.now))) }
+    ensures { IfOk result (IsShown (plan drawing.now) level) }
 {
+    tubes::laws::tubed_lists();
+    plane::sweeps::meetings_are_decided();
     match sweep(alloc, &list.edges) {
-        Ok(swept) => answer_swept(alloc, drawing, list, swept),
-        Err(SweepRefusal::Bad { .. }) => Ok(None),
+        Ok(swept) => answer_swept(alloc, drawing, level, list, swept),
+        Err(SweepRefusal::Bad { .. }) => Ok(Shown::Unsettled),
         Err(SweepRefusal::Memory) => Err(Memory),
     }
 }
 
-/// The same, where no two edges of level 0 are bad.
+/// The same, where no two edges of the level are bad.
 fn answer_swept(
     alloc: Global,
     drawing: &Drawing,
+    level: u8,
     list: &EdgeList,
     swept: Swept,
-) -> Result<Option<AreaAnswer>, Memory>
+) -> Result<Shown, Memory>
+    requires low { level ≤ 5 }
+    requires least { SettlesNoneBelow (plan drawing.now) level }
     requires few { length list.now.edges.items < 2 ^ 31 }
-    requires list { IsTubedList (plan drawing.now) 0 list.now }
+    requires list { IsTubedList (plan drawing.now) level list.now }
     requires usable { AreUsable (plan drawing.now) list.now.edges.items }
     requires run { Run (length list.now.edges.items) (edge_of list.now.edges.items) (steps_from []
         (moves_of swept.events.items)) }
@@ -71,22 +91,22 @@ fn answer_swept(
     requires timed { HasTimetable list.now.edges.items (moves_of swept.events.items) }
     requires cells { gaps_of swept.cells.items
         ≡ closed_gaps (moves_of swept.events.items) }
-    ensures { IfOk result (λ r. IfSome r (IsAnswer (plan drawing.now))) }
+    ensures { IfOk result (IsShown (plan drawing.now) level) }
 {
     tubes::laws::settled_levels();
     tubes::laws::chains_have_edges();
     if !are_corners_own(drawing, list, &swept.events) {
-        return Ok(None);
+        return Ok(Shown::Nothing);
     }
     let facings = facings(alloc, drawing, list)?;
     if !are_paired(&swept.cells, &facings, &list.owners) {
-        return Ok(None);
+        return Ok(Shown::Nothing);
     }
     let case = Case {
         drawing,
-        level: 0,
+        level,
         list,
         facings: &facings,
     };
-    Ok(Some(answer_case(alloc, &case, swept)?))
+    Ok(Shown::Answer(answer_case(alloc, &case, swept)?))
 }

@@ -3,7 +3,7 @@ ghost use Rattle.std.specs.Prelude.{◌≤◌, IfOk, length};
 ghost use Rattle.plane.specs.Rule.Plans.{plan};
 ghost use Rattle.area_search.specs.Answers.{IsAnswer};
 
-use super::by_sweep::answer_by_sweep;
+use super::by_sweep::{Shown, answer_by_sweep};
 use super::kinds::AreaAnswer;
 use super::levels::search_levels;
 use plane::Drawing;
@@ -18,8 +18,9 @@ pub fn find_area(alloc: Global, drawing: &Drawing) -> Result<AreaAnswer, Memory>
     requires curves { length (plan drawing.now).curves ≤ 16000000 }
     ensures { IfOk result (IsAnswer (plan drawing.now)) }
 {
-    match answer_by_sweep(alloc, drawing)? {
-        Some(answer) => Ok(answer),
-        None => search_levels(alloc, drawing),
+    match answer_by_sweep(alloc, drawing, 0)? {
+        Shown::Answer(answer) => Ok(answer),
+        Shown::Unsettled => search_levels(alloc, drawing, 1),
+        Shown::Nothing => search_levels(alloc, drawing, 0),
     }
 }

@@ -1,12 +1,13 @@
-// The least level that settles a drawing, by pairs of its curves, and the answer there.
-ghost use Rattle.std.specs.Prelude.{◌↔◌, ◌≤◌, IfOk, IsTrue, length};
+// The least level that settles a drawing, and the answer there.
+ghost use Rattle.std.specs.Prelude.{◌≤◌, IfOk, length};
 ghost use Rattle.plane.specs.Rule.Plans.{plan};
 ghost use Rattle.meetings.specs.StraightRuns.{IsClearRun};
-ghost use Rattle.tubes.specs.Settled.{IsSettledAt};
 ghost use Rattle.tubes.specs.TubedEdges.{AreUsable, IsTubedList};
 ghost use Rattle.area_search.specs.Answers.{AreClear, HasNoBadPair, IsAnswer, IsLeastLevel};
-ghost use Rattle.area_search.specs.LevelAnswers.{IsFaultOfCurves};
+ghost use Rattle.area_search.specs.Answers.{SettlesNoneBelow};
+ghost use Rattle.area_search.specs.LevelAnswers.{IsAnswerAt, IsFaultOfCurves};
 
+use super::by_sweep::{Shown, answer_by_sweep};
 use super::finishing::finish;
 use super::kinds::{AreaAnswer, AreaFinding};
 use super::on_curves::first_on_curve;
@@ -18,16 +19,22 @@ use ports::Memory;
 use std::alloc::Global;
 use tubes::{EdgeList, edge_list};
 
-/// The answer to a drawing by the order of the answers: a pair of curves that is bad, a point on a
-/// curve, and then the answer at the least level that settles it, or the first pair that breaks the
-/// last one. The only error is out of memory. Of each part the memory is let go before the next.
-pub(crate) fn search_levels(alloc: Global, drawing: &Drawing) -> Result<AreaAnswer, Memory>
-    requires { length drawing.now.curves.items ≤ 16000000 }
+/// The answer to a drawing that no level below `first` settles, by the order of the answers: a pair
+/// of curves that is bad, a point on a curve, and then the answer at the least level that settles
+/// it, or the first pair that breaks the last one. The only error is out of memory. Of each part
+/// the memory is let go before the next.
+pub(crate) fn search_levels(
+    alloc: Global,
+    drawing: &Drawing,
+    first: u8,
+) -> Result<AreaAnswer, Memory>
+    requires few { length drawing.now.curves.items ≤ 16000000 }
+    requires below { SettlesNoneBelow (plan drawing.now) first }
     ensures { IfOk result (IsAnswer (plan drawing.now)) }
 {
     match fault_of_curves(alloc, drawing)? {
         Some(finding) => Ok(AreaAnswer::Fault(finding)),
-        None => try_levels(alloc, drawing),
+        None => try_levels(alloc, drawing, first),
     }
 }
 
@@ -85,17 +92,18 @@ fn fault_of_points(
     }
 }
 
-/// The answer at the least level that settles the drawing, or the first pair that breaks the last
-/// level, where no two curves are bad and no point is on a curve.
-fn try_levels(alloc: Global, drawing: &Drawing) -> Result<AreaAnswer, Memory>
+/// The answer at the least level from `first` on that settles the drawing, or the first pair that
+/// breaks the last level, where no two curves are bad and no point is on a curve.
+fn try_levels(alloc: Global, drawing: &Drawing, first: u8) -> Result<AreaAnswer, Memory>
     requires few { length drawing.now.curves.items ≤ 16000000 }
+    requires below { SettlesNoneBelow (plan drawing.now) first }
     requires clear { AreClear (plan drawing.now) }
     ensures { IfOk result (IsAnswer (plan drawing.now)) }
 {
     level_breaks::laws::settled_is_unbroken();
-    for level in 0..5u8 {
-        if is_settled(alloc, drawing, level)? {
-            return answer_at(alloc, drawing, level);
+    for level in first..6 {
+        if let Some(answer) = try_level(alloc, drawing, level)? {
+            return Ok(answer);
         }
     }
     match first_break(alloc, drawing, 5)? {
@@ -103,17 +111,43 @@ fn try_levels(alloc: Global, drawing: &Drawing) -> Result<AreaAnswer, Memory>
             first: pair.first,
             second: pair.second,
         }),
-        None => answer_at(alloc, drawing, 5),
+        None => unreachable!(),
     }
 }
 
-fn is_settled(alloc: Global, drawing: &Drawing, level: u8) -> Result<bool, Memory>
-    requires level { level ≤ 5 }
+/// The answer to a drawing that no lower level settles, if this level does: as a sweep of its edges
+/// shows, or else the pairs of curves.
+fn try_level(alloc: Global, drawing: &Drawing, level: u8) -> Result<Option<AreaAnswer>, Memory>
+    requires few { length drawing.now.curves.items ≤ 16000000 }
+    requires low { level ≤ 5 }
+    requires least { SettlesNoneBelow (plan drawing.now) level }
     requires clear { AreClear (plan drawing.now) }
-    ensures { IfOk result (λ settled. IsTrue settled ↔ IsSettledAt (plan drawing.now) level) }
+    ensures { IfOk result (IsAnswerAt (plan drawing.now) level) }
+{
+    match answer_by_sweep(alloc, drawing, level)? {
+        Shown::Answer(answer) => Ok(Some(answer)),
+        Shown::Unsettled => Ok(None),
+        Shown::Nothing => answer_by_pairs(alloc, drawing, level),
+    }
+}
+
+/// The same, by the pairs of curves alone.
+fn answer_by_pairs(
+    alloc: Global,
+    drawing: &Drawing,
+    level: u8,
+) -> Result<Option<AreaAnswer>, Memory>
+    requires few { length drawing.now.curves.items ≤ 16000000 }
+    requires low { level ≤ 5 }
+    requires least { SettlesNoneBelow (plan drawing.now) level }
+    requires clear { AreClear (plan drawing.now) }
+    ensures { IfOk result (IsAnswerAt (plan drawing.now) level) }
 {
     level_breaks::laws::settled_is_unbroken();
-    Ok(first_break(alloc, drawing, level)?.is_none())
+    match first_break(alloc, drawing, level)? {
+        Some(_) => Ok(None),
+        None => Ok(Some(answer_at(alloc, drawing, level)?)),
+    }
 }
 
 /// The answer at a level that settles the drawing, where no lesser one does.

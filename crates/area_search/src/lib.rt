@@ -12,10 +12,12 @@
 //!   straights is, a certificate is answered exactly where that is so, and each fault contradicts
 //!   it (`laws`).
 //! - **How.** One sweep of the edges of level 0. Where it ends, no corner of a tube is another
-//!   curve's too (`own_corners`) and both sides of each cell face one tube or none, level 0 settles
-//!   the drawing (`by_sweep`). Else bad pairs are looked for, then points on curves (`on_curves`),
-//!   then the least level without a pair that breaks it (`levels`). Of a drawing that a level
-//!   settles, with a complete run of its edges at that level (`finishing`): one replay of the run
+//!   curve's too (`own_corners`) and both sides of each cell face one tube or none, the level
+//!   settles the drawing; where two edges are bad, or a half arc has no tube, it does not
+//!   (`by_sweep`). Unless it settles, bad pairs are looked for, then points on curves
+//!   (`on_curves`), then the least level that settles: by a sweep of its edges, and by pairs of
+//!   curves only where that shows nothing (`levels`). Of a drawing that a level settles, with a
+//!   complete run of its edges at that level (`finishing`): one replay of the run
 //!   for the places of the points, which say for each whether it lies on a curve, in the tube of a
 //!   half arc or in a cell (`spots`); one for the mesh of its half-edges, after which the events of
 //!   the run are let go but for their positions; the faces of the mesh by what its cells join, and
@@ -28,8 +30,10 @@
 //!
 //! Cost: O((m + p + events) log (m + p)) for m edges and p points, and what the live list moves in
 //! the sweep and in two replays; some 270 bytes an edge at the peak. Where level 0 does not settle,
-//! two sweeps of the straights more, half arcs times the curves, points and groups of edges that
-//! begin within their boxes, at each level, and the tubes of a level.
+//! two sweeps of the straights more, half arcs times the curves and points that begin within their
+//! boxes, and at each further level its tubes and a sweep of its edges. Half arcs times the groups
+//! of edges that begin within their boxes where a sweep shows nothing of a level, and where no
+//! level settles.
 #![tactic(auto)]
 
 mod by_sweep;

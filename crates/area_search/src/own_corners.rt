@@ -1,5 +1,5 @@
 // Whether the corners of tubes are their own, by the events of a run.
-ghost use Rattle.std.specs.Prelude.{◌≡◌, ◌<◌, IsTrue, length};
+ghost use Rattle.std.specs.Prelude.{◌≡◌, ℕ, ◌<◌, IsTrue, length};
 ghost use Rattle.line_sweep.specs.Kinds.{move_of, moves_of};
 ghost use Rattle.line_sweep.specs.Sweeping.{HasTimetable};
 ghost use Rattle.plane.specs.Forms.Meets.{IsEnd};
@@ -17,12 +17,14 @@ use straight_predicates::before;
 use tubes::{EdgeList, Part};
 
 /// Whether each corner of a tube, other than the ends of its half arc, is an end of two edges of
-/// that tube, which stand one after the other in the list, and of no other edge. The events are
-/// those of the edges. It takes a search among the events for each corner, and no memory.
+/// that tube, which stand one after the other in the list, and of no other edge; of the list of the
+/// drawing's edges at some level. The events are those of the edges. It takes a search among the
+/// events for each corner, and no memory.
 pub(crate) fn are_corners_own(drawing: &Drawing, list: &EdgeList, events: &[Event]) -> bool
-    requires list { IsTubedList (plan drawing.now) 0 list.now }
+    requires list { (level : ℕ) × IsTubedList (plan drawing.now) level list.now }
     requires timed { HasTimetable list.now.edges.items (moves_of events.now) }
-    ensures { IsTrue result → (p : AnyPoint) → IsOwnCorner (plan drawing.now) 0 p }
+    ensures { IsTrue result → (level : ℕ) → IsTubedList (plan drawing.now) level list.now
+        → (p : AnyPoint) → IsOwnCorner (plan drawing.now) level p }
 {
     tubes::laws::tubed_lists();
     for number in 0..list.edges.len() {
@@ -35,7 +37,7 @@ pub(crate) fn are_corners_own(drawing: &Drawing, list: &EdgeList, events: &[Even
 
 /// The same of the corners at one edge, where those at all edges before it are so.
 fn has_own_corners(drawing: &Drawing, list: &EdgeList, events: &[Event], number: usize) -> bool
-    requires list { IsTubedList (plan drawing.now) 0 list.now }
+    requires list { (level : ℕ) × IsTubedList (plan drawing.now) level list.now }
     requires there { number < length list.now.edges.items }
     requires before { AreOwn (plan drawing.now) list.now (moves_of events.now) number }
     ensures { IsTrue result
@@ -59,7 +61,7 @@ fn is_own_end(
     number: usize,
     at: Point,
 ) -> bool
-    requires list { IsTubedList (plan drawing.now) 0 list.now }
+    requires list { (level : ℕ) × IsTubedList (plan drawing.now) level list.now }
     requires there { number < length list.now.edges.items }
     requires before { AreOwn (plan drawing.now) list.now (moves_of events.now) number }
     requires tube { IsOfTube (owner_at list.now.owners.items number).part }

@@ -12,29 +12,29 @@ pub are_paired-requires-clause-curves : goal.are_paired-requires-clause-curves
 are_paired-requires-clause-curves c =
     let few = c.args.drawing.now.few_curves in
     subst (λ (os : List Owner). (e : ℕ) → e < length os → (owner_at os e).curve < 1073741824) (sym c.deref-4.ensures.value)
-    (curves_below (plan c.args.drawing.now) c.args.list.now c.in_ok-facings.facings.items (c.in_ok-facings.ensures 0 c.requires.list) c.requires.list (omega (arith, few))
-    (c.chains_have_edges.ensures.owner (plan c.args.drawing.now) 0))
+    (curves_below (plan c.args.drawing.now) c.args.level c.args.list.now c.in_ok-facings.facings.items (c.in_ok-facings.ensures c.args.level c.requires.list) c.requires.list (omega (arith, few))
+    (c.chains_have_edges.ensures.owner (plan c.args.drawing.now) c.args.level))
 
 pub answer_case-requires-clause-case : goal.answer_case-requires-clause-case
 answer_case-requires-clause-case c =
     let d = plan c.args.drawing.now in
     let vs = moves_of c.args.swept.events.items in
-    let told = subst (AreFacings d 0) (sym c.deref-5.ensures.value) (c.in_ok-facings.ensures 0 c.requires.list) in
+    let told = subst (AreFacings d c.args.level) (sym c.deref-5.ensures.value) (c.in_ok-facings.ensures c.args.level c.requires.list) in
     let y : IsTrue c.are_paired.result = search rules in
     let own : IsTrue c.are_corners_own.result = search rules in
-    is_case d c.args.list.now c.requires.list c.deref-5.result.now told vs c.requires.fit (c.settled_levels.ensures.wide d 0 c.requires.list.tubes)
-    (c.settled_levels.ensures.own d 0 c.args.list.now (steps_from [] vs) c.requires.list (c.are_corners_own.ensures own) c.requires.run) (c.settled_levels.ensures.level d 0 (steps_from [] vs) c.requires.list.tubes)
+    is_case d c.args.level c.args.list.now c.requires.list c.deref-5.result.now told vs c.requires.fit (c.settled_levels.ensures.wide d c.args.level c.requires.list.tubes)
+    (c.settled_levels.ensures.own d c.args.level c.args.list.now (steps_from [] vs) c.requires.list (c.are_corners_own.ensures own c.args.level c.requires.list) c.requires.run) (c.settled_levels.ensures.level d c.args.level (steps_from [] vs) c.requires.list.tubes)
     (paired_level c.deref-3.result.now c.deref-5.result.now c.deref-4.result.now c.args.list.now.owners.items c.deref-2.result.now c.args.swept.cells.items vs
-    (c.deref-3.ensures.value ∙ sym c.deref-5.ensures.value) c.deref-4.ensures.value c.deref-2.ensures.value c.requires.cells (c.are_paired.ensures.0 y))
+    (c.deref-3.ensures.value ∙ sym c.deref-5.ensures.value) c.deref-4.ensures.value c.deref-2.ensures.value c.requires.cells (c.are_paired.ensures.0 y)) c.requires.low c.requires.least
 
 pub answer_case-requires-clause-least : goal.answer_case-requires-clause-least
 answer_case-requires-clause-least c =
     let d = plan c.args.drawing.now in
     let vs = moves_of c.args.swept.events.items in
-    let told = subst (AreFacings d 0) (sym c.deref-5.ensures.value) (c.in_ok-facings.ensures 0 c.requires.list) in
+    let told = subst (AreFacings d c.args.level) (sym c.deref-5.ensures.value) (c.in_ok-facings.ensures c.args.level c.requires.list) in
     let y : IsTrue c.are_paired.result = search rules in
     let own : IsTrue c.are_corners_own.result = search rules in
-    is_least d c.args.list.now c.requires.list c.deref-5.result.now told vs c.requires.fit (c.settled_levels.ensures.wide d 0 c.requires.list.tubes)
-    (c.settled_levels.ensures.own d 0 c.args.list.now (steps_from [] vs) c.requires.list (c.are_corners_own.ensures own) c.requires.run) (c.settled_levels.ensures.level d 0 (steps_from [] vs) c.requires.list.tubes)
+    is_least d c.args.level c.args.list.now c.requires.list c.deref-5.result.now told vs c.requires.fit (c.settled_levels.ensures.wide d c.args.level c.requires.list.tubes)
+    (c.settled_levels.ensures.own d c.args.level c.args.list.now (steps_from [] vs) c.requires.list (c.are_corners_own.ensures own c.args.level c.requires.list) c.requires.run) (c.settled_levels.ensures.level d c.args.level (steps_from [] vs) c.requires.list.tubes)
     (paired_level c.deref-3.result.now c.deref-5.result.now c.deref-4.result.now c.args.list.now.owners.items c.deref-2.result.now c.args.swept.cells.items vs
-    (c.deref-3.ensures.value ∙ sym c.deref-5.ensures.value) c.deref-4.ensures.value c.deref-2.ensures.value c.requires.cells (c.are_paired.ensures.0 y))
+    (c.deref-3.ensures.value ∙ sym c.deref-5.ensures.value) c.deref-4.ensures.value c.deref-2.ensures.value c.requires.cells (c.are_paired.ensures.0 y)) c.requires.low c.requires.least

@@ -13,9 +13,8 @@ loop-number-preserved c =
 pub returns : goal.returns
 returns c =
     let d = plan c.args.drawing.now in
-    let t = c.requires.list in
     let n : vec_len c.args.list.now.edges ≡ length c.args.list.now.edges.items = search rules in
     let e = c.len-number-end.ensures in
     let f = c.loop-number-test.false in
-    λ h. all_own d c.args.list.now t (λ e l. c.tubed_lists.ensures.owners d 0 c.args.list.now no_owner e t l) (moves_of c.args.events.now) c.requires.timed
+    λ h level t. all_own d level c.args.list.now t (λ e l. c.tubed_lists.ensures.owners d level c.args.list.now no_owner e t l) (moves_of c.args.events.now) c.requires.timed
     (λ k l. c.loop-number.invariant k (omega (arith, l, n, e, f)))
