@@ -10,8 +10,7 @@ use Rattle.itf_reader.specs.Forms.{Vertex}
 use Rattle.itf_reader.specs.RowReadings.{vertex_view}
 use Rattle.itf_reader.specs.StrokeFindings.{Seen, seen, place_of}
 use Rattle.itf_reader.specs.declared.rows.values.ReadVertex.{ReadVertex}
-use Rattle.itf_reader.specs.Views.{vertex_of, vertices_of, strokes_of, rows_of}
-use Rattle.itf_reader.specs.declared.transfer.Vertex as code
+use Rattle.itf_reader.specs.Views.{strokes_of, rows_of}
 use Rattle.itf_reader.specs.declared.transfer.Row as row
 use Rattle.domain_rules.specs.CleanPlaces.{IsSoundVertex, AreSoundVertices}
 use Rattle.plane.specs.Rule.Turns.{cross}
@@ -86,10 +85,9 @@ mapped_at f P [] i x h l e = absurd (omega (arith, l))
 mapped_at f P (y ∷ xs) zero x h l e = subst (λ z. P (f z)) (sym e) (All-head P (f y) (map f xs) h)
 mapped_at f P (y ∷ xs) (suc i) x h l e = mapped_at f P xs i x (All-tail P (f y) (map f xs) h) (omega (arith, l)) e
 
-pub sound_at : (l : LineForm) (vs : List code.Vertex) (i : ℕ) (x : code.Vertex) → AreSoundVertices l (vertices_of vs) → i < length vs → x ≡ get_or vs i x → IsSoundVertex l (vertex_of x)
-sound_at l [] i x h m e = absurd (omega (arith, m))
-sound_at l (v ∷ vs) zero x h m e = subst (λ (u : code.Vertex). IsSoundVertex l (vertex_of u)) (sym e) h.0
-sound_at l (v ∷ vs) (suc i) x h m e = sound_at l vs i x h.1 (omega (arith, m)) e
+-- the first of some sound vertices, and those after it
+pub sound_front : (l : LineForm) (vs : List Vertex) (v : Vertex) (ws : List Vertex) → vs ≡ v ∷ ws → AreSoundVertices l vs → IsSoundVertex l v × AreSoundVertices l ws
+sound_front l vs v ws e h = subst (AreSoundVertices l) e h
 
 pub vertices_at : (rows : List row.Row) (i : ℕ) (r : row.Row) → i < length rows → r ≡ get_or rows i r → vertex_count (rows_of (drop i rows)) ≡ vertices_in (strokes_of r.strokes.items) + vertex_count (rows_of (drop (i + 1) rows))
 vertices_at rows i r l e = at_drop_more (λ (rs : List row.Row). vertex_count (rows_of rs)) rows i r l ∙ ap (λ (x : row.Row). vertices_in (strokes_of x.strokes.items) + vertex_count (rows_of (drop (i + 1) rows))) (sym e)

@@ -148,7 +148,7 @@ module _ (l : Layout) (a : AreaOf) (v : IsValid l) (h : IsArea l.tables a) where
   helper_table : IsTable (length l.topics) l.tables h.helper
   helper_table = all_at (IsTable (length l.topics) l.tables) l.tables a.lines h.helper v.tables h.lines
 
-  pub area_table : IsAreaTable l.tables h.helper.lines a.main a.column
+  pub area_table : IsAreaTable l.tables h.helper a.main a.column
   area_table = subst (IsRole l.tables h.helper) h.role helper_table.role
 
   pub owner_table : IsTable (length l.topics) l.tables area_table.owner

@@ -333,7 +333,7 @@ module _ (l : Layout) (rows : List (List Row)) (v : IsValid l) (c : IsClean l ro
   abbrev line_rows : List Row
   line_rows = slice_index_or rows a.lines []
 
-  abbrev area : IsAreaTable l.tables h.helper.lines a.main a.column
+  abbrev area : IsAreaTable l.tables h.helper a.main a.column
   area = area_table l a v h
 
   abbrev strokes : Kept

@@ -24,8 +24,11 @@ use Rattle.delivery.specs.declared.model.Reading.TheVariants as readings
 use Rattle.delivery.specs.declared.model.ModelReading.{ModelReading}
 use Rattle.delivery.specs.declared.model.ModelReading.TheVariants as models
 use Rattle.delivery.specs.RefusalViews.{refusal_of, IsReading, IsLaidOut, IsModelReading}
-use Rattle.resolver.specs.Models.{resolved_model}
-use Rattle.resolver.specs.Rules.{first_fault}
+use Rattle.resolver.specs.First.{IsFirstBroken}
+use Rattle.resolver.specs.Resolved.{ResolvedModel}
+use Rattle.resolver.specs.Standing.{IsModel}
+use Rattle.resolver.proofs.OneFirstBroken.{one_first_broken}
+use Rattle.resolver.proofs.OneModel.{one_model}
 use Rattle.table_layout.specs.Layouts.{Layout}
 use Rattle.table_layout.specs.Tables.{layout_of}
 use Rattle.delivery.specs.ModelTexts.{Refusal, lex_refusal, end_refusal, token_refusal, name_refusal, IsSpelt, IsFaulty, no_token, ends_early, wrong_token, IsRefused, at_fault, misnamed, HasLayout}
@@ -100,21 +103,24 @@ module _ (text : List ℕ) where
     token_faulty j t r e l g = wrong_token ts c j t are (fault_there (Some j) e) l g
 
   pub one_layout : (a b : Layout) → HasLayout text a → HasLayout text b → a ≡ b
-  one_layout a b h k = h.laid_out ∙ ap (λ (m : ModelSyntax). layout_of (resolved_model m)) (same_syntax h.syntax k.syntax h.spelt k.spelt) ∙ sym k.laid_out
+  one_layout a b h k =
+      let same : k.syntax ≡ h.syntax = same_syntax k.syntax h.syntax k.spelt h.spelt in
+      let model : h.model ≡ k.model = one_model h.syntax h.model k.model h.stands (subst (λ (m : ModelSyntax). IsModel m k.model) same k.stands) in
+      h.laid_out ∙ ap (λ (m : ResolvedModel). layout_of m) model ∙ sym k.laid_out
 
   pub not_refused : (l : Layout) (r : Refusal) → HasLayout text l → IsRefused text r → ⊥
   not_refused l r h (at_fault f) = not_faulty h.syntax r h.spelt f
   not_refused l r h (misnamed n f s e g) =
-      let q = ap first_fault (same_syntax h.syntax n h.spelt s) in
-      let none = h.faultless in cc
+      let broken : IsFirstBroken h.syntax f = subst (λ (m : ModelSyntax). IsFirstBroken m f) (same_syntax n h.syntax s h.spelt) e in
+      h.faultless f broken.broken
 
   pub one_refusal : (q r : Refusal) → IsRefused text q → IsRefused text r → q ≡ r
   one_refusal q r (at_fault f) (at_fault g) = one_faulty q r f g
   one_refusal q r (at_fault f) (misnamed n g s e d) = absurd (not_faulty n q s f)
   one_refusal q r (misnamed m f s e d) (at_fault g) = absurd (not_faulty m r s g)
   one_refusal q r (misnamed m f s e d) (misnamed n g u h k) =
-      let o = ap first_fault (same_syntax m n s u) in
-      let same : f ≡ g = cc in
+      let first : IsFirstBroken m g = subst (λ (x : ModelSyntax). IsFirstBroken x g) (same_syntax n m u s) h in
+      let same : f ≡ g = one_first_broken text s.tokens m f g s.are s.spelt e first in
       d ∙ ap name_refusal same ∙ sym k
 
 -- ---- what the reader of a text gave
@@ -126,5 +132,5 @@ spelt_of a x s h f = subst (IsReading a) f h
 
 -- the layout of a syntax that the text spells, or its refusal
 pub read_as : (a : List ℕ) (m : ModelSyntax) (x : ModelReading) → IsSpelt a m → IsLaidOut m x → IsModelReading a x
-read_as a m (models.Laid layout) s h = record { syntax = m; spelt = s; faultless = h.0; laid_out = h.1 }
+read_as a m (models.Laid layout) s h = record { syntax = m; spelt = s; model = h.0; faultless = h.1; stands = h.2; laid_out = h.3 }
 read_as a m (models.Refused r) s h = misnamed m h.0 s h.1 h.2

@@ -14,8 +14,9 @@ use Rattle.ili_grammar.specs.Syntax.{ModelSyntax}
 use Rattle.ili_grammar.specs.declared.syntax.SyntaxCode.{SyntaxCode}
 use Rattle.ili_grammar.specs.declared.syntax.SyntaxFault.TheVariants as parsed
 use Rattle.resolver.specs.Faults.{Fault}
-use Rattle.resolver.specs.Models.{resolved_model}
-use Rattle.resolver.specs.Rules.{first_fault}
+use Rattle.resolver.specs.First.{IsFirstBroken, BreaksNone}
+use Rattle.resolver.specs.Resolved.{ResolvedModel}
+use Rattle.resolver.specs.Standing.{IsModel}
 use Rattle.table_layout.specs.Layouts.{Layout}
 use Rattle.table_layout.specs.Tables.{layout_of}
 use Rattle.delivery.specs.declared.refusals.RefusalCode.{RefusalCode}
@@ -58,7 +59,7 @@ token_refusal text code t =
 abbrev pub end_refusal : List ℕ → SyntaxCode → Refusal
 end_refusal text code = wordless (refused.Syntax code) (line_after text) (column_after text)
 
--- a fault of the names and types, at the name where it counts
+-- a broken rule on the names and types, at the name where it is broken
 abbrev pub name_refusal : Fault → Refusal
 name_refusal f =
     record {
@@ -83,15 +84,17 @@ pub data IsFaulty (text : List ℕ) (r : Refusal) : Type 0 where
       → IsFirstFault (toks text ts) (parsed.At c (Some k)) → slice_get ts k ≡ Some t
       → r ≡ token_refusal text c t → IsFaulty text r
 
--- the text is no model, or a model whose names and types break a rule: the fault that counts
+-- the text is no model, or a model whose names and types break a rule: the first broken one
 pub data IsRefused (text : List ℕ) (r : Refusal) : Type 0 where
   at_fault : IsFaulty text r → IsRefused text r
-  misnamed : (m : ModelSyntax) (f : Fault) → IsSpelt text m → first_fault m ≡ Some f
+  misnamed : (m : ModelSyntax) (f : Fault) → IsSpelt text m → IsFirstBroken m f
       → r ≡ name_refusal f → IsRefused text r
 
--- the text spells a model without fault, and its tables are laid out so
+-- the text spells a model that breaks no rule, and the tables of what it stands for are laid out so
 pub record HasLayout (text : List ℕ) (l : Layout) : Type 0 where
   pub syntax : ModelSyntax
   pub spelt : IsSpelt text syntax
-  pub faultless : first_fault syntax ≡ None
-  pub laid_out : l ≡ layout_of (resolved_model syntax)
+  pub model : ResolvedModel
+  pub faultless : BreaksNone syntax
+  pub stands : IsModel syntax model
+  pub laid_out : l ≡ layout_of model

@@ -1,12 +1,13 @@
 -- Refusals and readings of the code, without where they lie in memory.
-use Rattle.std.specs.Prelude.{◌≡◌, ℕ, List, Some, None, ⊤}
+use Rattle.std.specs.Prelude.{◌≡◌, ℕ, List, ⊤}
 use Rattle.ili_grammar.specs.Limits.{IsWithinLimits}
 use Rattle.ili_grammar.specs.Values.{model_of}
 use Rattle.ili_grammar.specs.Syntax.{ModelSyntax}
 use Rattle.ili_grammar.specs.Values.{ident_of}
 use Rattle.resolver.specs.Faults.{Fault}
-use Rattle.resolver.specs.Models.{resolved_model}
-use Rattle.resolver.specs.Rules.{first_fault}
+use Rattle.resolver.specs.First.{IsFirstBroken, BreaksNone}
+use Rattle.resolver.specs.Resolved.{ResolvedModel}
+use Rattle.resolver.specs.Standing.{IsModel}
 use Rattle.resolver.specs.declared.faults.ModelFault.{ModelFault}
 use Rattle.resolver.specs.declared.faults.ModelFault.TheVariants as faults
 use Rattle.table_layout.specs.Tables.{layout_of}
@@ -39,15 +40,16 @@ IsNameRefusal (faults.At code name) r =
     r ≡ name_refusal (record { code = code; name = ident_of name })
 IsNameRefusal faults.Memory r = ⊥
 
--- the fault that counts is held
-abbrev pub NamesFault : ModelSyntax → Refusal → Type 0
-NamesFault m r = (f : Fault) × (first_fault m ≡ Some f) × (r ≡ name_refusal f)
+-- the first broken rule is held
+abbrev pub NamesFirstBroken : ModelSyntax → Refusal → Type 0
+NamesFirstBroken m r = (f : Fault) × IsFirstBroken m f × (r ≡ name_refusal f)
 
--- the syntax has this layout, or the fault that counts is held
+-- the tables of what the syntax stands for are laid out so, or the first broken rule is held
 abbrev pub IsLaidOut : ModelSyntax → ModelReading → Type 0
 IsLaidOut m (models.Laid layout) =
-    (first_fault m ≡ None) × (layout_view layout ≡ layout_of (resolved_model m))
-IsLaidOut m (models.Refused r) = NamesFault m (refusal_of r)
+    (model : ResolvedModel) × BreaksNone m × IsModel m model
+    × (layout_view layout ≡ layout_of model)
+IsLaidOut m (models.Refused r) = NamesFirstBroken m (refusal_of r)
 
 -- the text has this layout, or is refused so
 abbrev pub IsModelReading : List ℕ → ModelReading → Type 0

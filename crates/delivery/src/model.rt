@@ -139,7 +139,7 @@ fn fault_refusal(alloc: Global, fault: ModelFault) -> Result<Refusal, Memory>
     }
 }
 
-// The layout of a model by its syntax, or the fault of its names and types that counts.
+// The layout of a model by its syntax, or the first broken rule on its names and types.
 fn lay_out(alloc: Global, syntax: &ModelSyntax) -> Result<ModelReading, Memory>
     requires { IsWithinLimits (model_of syntax.now) }
     ensures laid { IfOk result (λ reading. IsLaidOut (model_of syntax.now) reading) }

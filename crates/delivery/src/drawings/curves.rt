@@ -6,7 +6,7 @@ ghost use Rattle.resolver.specs.Values.{line_of};
 ghost use Rattle.field_values.specs.Places.{are_collinear, place_view};
 ghost use Rattle.itf_reader.specs.RowReadings.{vertex_view};
 ghost use Rattle.itf_reader.specs.StrokeFindings.{Seen, seen, place_of, all_seen};
-ghost use Rattle.itf_reader.specs.Views.{row_of, rows_of, strokes_of, vertex_of, vertices_of};
+ghost use Rattle.itf_reader.specs.Views.{row_of, rows_of, slice_of, strokes_of, vertex_of};
 ghost use Rattle.domain_rules.specs.CleanPlaces.{IsSoundVertex, AreSoundVertices};
 ghost use Rattle.delivery.specs.AreaLimits.{vertex_count, vertices_in};
 ghost use Rattle.delivery.specs.Drawings.{point_at, straight_between, half_arcs, arc_over};
@@ -14,7 +14,7 @@ ghost use Rattle.delivery.specs.Drawings.{curves_after, line_curves, row_curves,
 ghost use Rattle.delivery.specs.Drawable.{IsIn, HasSoundLine, IsPenIn, rest_curves, waiting};
 
 use field_values::{Place, is_same_place, read_vertex};
-use itf_reader::{ReadVertex, Row, Vertex, VertexKind};
+use itf_reader::{ReadVertex, Row, Vertex, VertexKind, VertexSlice};
 use plane::{Drawing, Point, Window2};
 use ports::Memory;
 use resolver::LineForm;
@@ -158,11 +158,11 @@ pub fn draw_to(pen: Pen, vertex: ReadVertex, drawing: &mut Drawing) -> Result<Pe
 }
 
 // The place of a vertex, its line and its kind.
-fn read(form: &LineForm, vertex: &Vertex) -> ReadVertex
-    requires { IsSoundVertex (line_of form.now) (vertex_of vertex.now) }
-    ensures { vertex_view result ≡ seen (line_of form.now) (vertex_of vertex.now) }
+fn read(form: &LineForm, vertex: Vertex) -> ReadVertex
+    requires { IsSoundVertex (line_of form.now) (vertex_of vertex) }
+    ensures { vertex_view result ≡ seen (line_of form.now) (vertex_of vertex.entry) }
 {
-    match read_vertex(form, vertex.fields.as_slice()) {
+    match read_vertex(form, vertex.fields) {
         Ok(value) => ReadVertex {
             at: value.at,
             line: vertex.line,
@@ -176,18 +176,18 @@ fn read(form: &LineForm, vertex: &Vertex) -> ReadVertex
 fn add_vertices(
     form: &LineForm,
     start: Place,
-    vertices: &[Vertex],
+    vertices: VertexSlice,
     drawing: &mut Drawing,
 ) -> Result<(), Memory>
     requires window { IsWindowOf (line_of form.now).window drawing.old.window }
     requires start_in { IsIn drawing.old.window (place_view start) }
-    requires sound { AreSoundVertices (line_of form.now) (vertices_of vertices.now) }
-    requires room { vec_len drawing.old.curves + length vertices.now < 2 ^ 30 }
+    requires sound { AreSoundVertices (line_of form.now) (slice_of vertices) }
+    requires room { vec_len drawing.old.curves + length (slice_of vertices) < 2 ^ 30 }
     ensures curves { OnOk result (drawing.new.curves.items ≡ drawing.old.curves.items ++
         curves_after (place_view start) None (all_seen (line_of form.now)
-        (vertices_of vertices.now))) }
+        (slice_of vertices.entry))) }
     ensures few { OnOk result (vec_len drawing.new.curves ≤ vec_len drawing.old.curves +
-        length vertices.now) }
+        length (slice_of vertices.entry)) }
     ensures window { OnOk result (drawing.new.window ≡ drawing.old.window) }
     ensures points { OnOk result (drawing.new.points.items ≡ drawing.old.points.items) }
 {
@@ -195,27 +195,29 @@ fn add_vertices(
         at: start,
         over: None,
     };
-    for vertex in vertices {
+    let mut rest = vertices;
+    while let Some((vertex, others)) = rest.split_first() {
         pen = draw_to(pen, read(form, vertex), drawing)?;
+        rest = others;
     }
     Ok(())
 }
 
 // Adds the curves of a line from its start.
-fn add_line(form: &LineForm, vertices: &[Vertex], drawing: &mut Drawing) -> Result<(), Memory>
+fn add_line(form: &LineForm, vertices: VertexSlice, drawing: &mut Drawing) -> Result<(), Memory>
     requires window { IsWindowOf (line_of form.now).window drawing.old.window }
-    requires sound { AreSoundVertices (line_of form.now) (vertices_of vertices.now) }
-    requires room { vec_len drawing.old.curves + length vertices.now < 2 ^ 30 }
+    requires sound { AreSoundVertices (line_of form.now) (slice_of vertices) }
+    requires room { vec_len drawing.old.curves + length (slice_of vertices) < 2 ^ 30 }
     ensures curves { OnOk result (drawing.new.curves.items ≡ drawing.old.curves.items ++
-        line_curves (line_of form.now) (vertices_of vertices.now)) }
+        line_curves (line_of form.now) (slice_of vertices.entry)) }
     ensures few { OnOk result (vec_len drawing.new.curves ≤ vec_len drawing.old.curves +
-        length vertices.now) }
+        length (slice_of vertices.entry)) }
     ensures window { OnOk result (drawing.new.window ≡ drawing.old.window) }
     ensures points { OnOk result (drawing.new.points.items ≡ drawing.old.points.items) }
 {
-    match vertices {
-        [first, others @ ..] => add_vertices(form, read(form, first).at, others, drawing),
-        [] => Ok(()),
+    match vertices.split_first() {
+        Some((first, others)) => add_vertices(form, read(form, first).at, others, drawing),
+        None => Ok(()),
     }
 }
 
@@ -233,7 +235,7 @@ fn add_row(form: &LineForm, row: &Row, drawing: &mut Drawing) -> Result<(), Memo
     ensures points { OnOk result (drawing.new.points.items ≡ drawing.old.points.items) }
 {
     match row.strokes.as_slice() {
-        [stroke, ..] => add_line(form, &stroke.vertices, drawing),
+        [stroke, ..] => add_line(form, stroke.vertices.as_slice(), drawing),
         [] => Ok(()),
     }
 }

@@ -30,6 +30,7 @@ use itf_reader::{Finding, Names, ReadRefusal, Structure, sort_findings, strokes_
 use plane::Drawing;
 use ports::Memory;
 use std::alloc::Global;
+use std::mem::swap;
 use table_layout::{AreaOf, Layout, TableId};
 
 /// What the text of a transfer comes to.
@@ -167,12 +168,16 @@ fn has_too_large(kept: &TransferKept, areas: &[AreaOf]) -> bool
     false
 }
 
-// Moves the findings of a table after others.
+// Moves the findings of a table after others; where there are none, without copying them.
 fn take_found(kept: &mut TableKept, all: &mut Vec<Finding>) -> Result<(), Memory>
     ensures found { OnOk result (findings_of all.new.items ≡ findings_of all.old.items ++
         (kept_of kept.old).found) }
     ensures places { OnOk result (places_of (kept_of kept.new) ≡ places_of (kept_of kept.old)) }
 {
+    if all.is_empty() {
+        swap(all, &mut kept.found);
+        return Ok(());
+    }
     all.append(&mut kept.found)?;
     Ok(())
 }

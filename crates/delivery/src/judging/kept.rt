@@ -1,5 +1,5 @@
 // What is kept of the rows of a table.
-ghost use Rattle.std.specs.Prelude.{◌≡◌, ◌≤◌, [], length, map, slice_get, IfOk, OnOk};
+ghost use Rattle.std.specs.Prelude.{◌≡◌, ◌≤◌, ◌++◌, [], length, map, slice_get, IfOk, OnOk};
 ghost use Rattle.std.specs.Option.{option_to_list};
 ghost use Rattle.ili_grammar.specs.Values.{codes_of};
 ghost use Rattle.resolver.specs.Values.{form_of};
@@ -23,6 +23,7 @@ use plane::Placed;
 use ports::Memory;
 use resolver::Form;
 use std::alloc::Global;
+use std::mem::swap;
 use table_layout::{Column, Role, Table};
 
 /// A column by its number, and where its values are the points of an area, those of the rows.
@@ -130,6 +131,19 @@ fn is_of_area(role: Role) -> bool
     }
 }
 
+// Adds vertices after others. Where there are none before them they are moved and not copied, so
+// that a table of one long line takes no more memory than its row.
+fn add_after(kept: &mut Vec<ReadVertex>, vertices: &mut Vec<ReadVertex>) -> Result<(), Memory>
+    ensures { OnOk result (kept.new.items ≡ kept.old.items ++ vertices.old.items) }
+{
+    if kept.is_empty() {
+        swap(kept, vertices);
+        return Ok(());
+    }
+    kept.extend_from_slice(vertices)?;
+    Ok(())
+}
+
 impl TableKept {
     /// No row.
     pub fn new(alloc: Global, table: &Table) -> Result<TableKept, Memory>
@@ -147,13 +161,13 @@ impl TableKept {
     }
 
     // Adds the vertices of a row, where the rows are lines of an area.
-    fn add_vertices(&mut self, vertices: &[ReadVertex]) -> Result<(), Memory>
-        ensures { OnOk result (kept_of self.new ≡ with_vertices (vertices_view vertices.now)
+    fn add_vertices(&mut self, vertices: &mut Vec<ReadVertex>) -> Result<(), Memory>
+        ensures { OnOk result (kept_of self.new ≡ with_vertices (vertices_view vertices.old.items)
             (kept_of self.old)) }
     {
         if self.is_lines {
-            self.vertices.extend_from_slice(vertices)?;
             self.counts.push(vertices.len())?;
+            add_after(&mut self.vertices, vertices)?;
         }
         Ok(())
     }
@@ -171,7 +185,7 @@ impl TableKept {
             (table_view table.now) (row_of row.now) (kept_of self.old)) }
     {
         read_row(codes, table, row, values, &mut self.found)?;
-        self.add_vertices(&values.vertices)?;
+        self.add_vertices(&mut values.vertices)?;
         add_points(row.line, &values.cells, &mut self.columns)
     }
 }

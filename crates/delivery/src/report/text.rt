@@ -19,7 +19,7 @@ use super::lines::{AreaAnswer, AreaLine, Line, TableLine, Verdict};
 use crate::files::File;
 use crate::outcome::Outcome;
 use crate::refusals::Refusal;
-use itf_reader::{Finding, Other, Structure};
+use itf_reader::{Fault, Finding, Structure};
 use itoa::Buffer;
 use ports::Memory;
 use std::alloc::Global;
@@ -83,16 +83,16 @@ impl Text {
     }
 
     // What a finding names besides its place, with a blank before it.
-    fn add_other(&mut self, other: &Other) -> Result<(), Memory>
-        ensures { OnOk result (self.new ≡ self.old ++ other_text (other_of other.now)) }
+    fn add_other(&mut self, fault: &Fault) -> Result<(), Memory>
+        ensures { OnOk result (self.new ≡ self.old ++ other_text (other_of fault.now)) }
     {
-        match other {
-            Other::Nothing => Ok(()),
-            Other::Line(line) => {
+        match fault {
+            Fault::Value(_) => Ok(()),
+            Fault::Repeat(_, line) => {
                 self.add(b" ")?;
                 self.add_number(*line)
             }
-            Other::Word(word) => {
+            Fault::Reference(_, word) => {
                 self.add(b" ")?;
                 self.add(word.bytes())
             }
@@ -106,10 +106,10 @@ impl Text {
         self.add(b"FINDING ")?;
         self.add_number(finding.line)?;
         self.add(b" ")?;
-        self.add(code_text(finding.code))?;
+        self.add(code_text(finding.code()))?;
         self.add(b" ")?;
         self.add_number(finding.column)?;
-        self.add_other(&finding.other)
+        self.add_other(&finding.fault)
     }
 
     fn add_finding(&mut self, finding: &Finding) -> Result<(), Memory>
