@@ -3,6 +3,7 @@ use Rattle.std.proofs.Common.{◌≡◌, ℕ, zero, suc, ◌+◌, ◌*◌, ◌%�
 use Rattle.plane.specs.CurveRuns.TubedRuns.{IsOfTube, edges_of, first_edge, half_within, inner, outer, whole}
 use Rattle.plane.specs.Faces.Halves.{number, twin}
 use Rattle.plane.specs.Forms.Segments.{IsEdgeOf}
+use Rattle.plane.specs.Forms.Vectors.{Before}
 use Rattle.plane.specs.Rule.Plans.{IsHalfArc, IsStraight, Plan, curve}
 use Rattle.plane.specs.Runs.Moves.{Move, steps_from}
 use Rattle.plane.specs.Tubes.Bays.{Bay}
@@ -10,7 +11,6 @@ use Rattle.plane.specs.declared.kinds.Curve.{Curve}
 use Rattle.plane.specs.declared.kinds.CurveKind.{CurveKind}
 use Rattle.plane.specs.declared.kinds.CurveKind.TheVariants as kind
 use Rattle.plane.specs.declared.kinds.Edge.{Edge}
-use Rattle.straight_predicates.specs.EdgeLists.{edge_of}
 use Rattle.tubes.specs.Settled.{edge_at, edges_at, owned_at}
 use Rattle.tubes.specs.TubedEdges.{drawn_bays}
 use Rattle.tubes.specs.declared.kinds.Facing.{Facing}
@@ -128,10 +128,11 @@ module _ (d : Plan) (level : ℕ) (edges : List Edge) (owners : List Owner) (fac
     pub straight_there : c.kind ≡ kind.Straight → first < length edges
     straight_there e = let a = (straight_first i (straight_is e)).there in let b = edges_size d level edges owners facings vs is in omega (arith, a, b, f)
 
-    pub straight_edge_is : (es : List Edge) → es ≡ edges → c.kind ≡ kind.Straight → IsEdgeOf (edge_of es first) c
-    straight_edge_is es g e =
-        subst (λ (xs : List Edge). IsEdgeOf (edge_of xs first) c) (sym (g ∙ is.edges_are))
-        (subst (λ (n : ℕ). IsEdgeOf (E n) c) (sym f) (subst (λ (x : Curve). IsEdgeOf (E (first_at d level i)) x) (sym q) (straight_first i (straight_is e)).edge))
+    straight_ends : c.kind ≡ kind.Straight → IsEdgeOf (E first) c
+    straight_ends e = subst (λ (n : ℕ). IsEdgeOf (E n) c) (sym f) (subst (λ (x : Curve). IsEdgeOf (E (first_at d level i)) x) (sym q) (straight_first i (straight_is e)).edge)
+
+    straight_rises : c.kind ≡ kind.Straight → Before (E first).low (E first).high
+    straight_rises e = is.settled.run.run.edges first (let a = (straight_first i (straight_is e)).there in omega (arith, a, f))
 
     pub inner_there : (IsHalfArc d i → AreFirstOfArc d level i) → c.kind ≡ kind.HalfArc → first < length edges
     inner_there t e = let a = (t (arc_is e)).inner_there in let b = edges_size d level edges owners facings vs is in omega (arith, a, b, f)
@@ -163,16 +164,17 @@ module _ (d : Plan) (level : ℕ) (edges : List Edge) (owners : List Owner) (fac
 
     -- ---- faces beside it
     pub straight_beside : (faces : List ℕ) (b : Beside) → c.kind ≡ kind.Straight
-        → ((h : ℕ) × IsOnSide (edge_of edges first) c first true h × (b.first ≡ slice_index faces h)) → ((h : ℕ) × IsOnSide (edge_of edges first) c first false h × (b.second ≡ slice_index faces h))
+        → ((e : Edge) → Before e.low e.high → IsEdgeOf e c → (h : ℕ) × IsOnSide e c first true h × (b.first ≡ slice_index faces h))
+        → ((e : Edge) → Before e.low e.high → IsEdgeOf e c → (h : ℕ) × IsOnSide e c first false h × (b.second ≡ slice_index faces h))
         → IsBeside d level faces i b
     straight_beside faces b e x y =
-        subst (λ (k : CurveKind). IsBesideKind k d level faces i b) (sym (straight_is e).kind) (moved true b.first x, moved false b.second y)
+        subst (λ (k : CurveKind). IsBesideKind k d level faces i b) (sym (straight_is e).kind)
+        (moved true b.first (x (E first) (straight_rises e) (straight_ends e)), moved false b.second (y (E first) (straight_rises e) (straight_ends e)))
       where
-        moved : (left : Bool) (n : ℕ) → ((h : ℕ) × IsOnSide (edge_of edges first) c first left h × (n ≡ slice_index faces h)) → IsFaceOn d level faces i left n
+        moved : (left : Bool) (n : ℕ) → ((h : ℕ) × IsOnSide (E first) c first left h × (n ≡ slice_index faces h)) → IsFaceOn d level faces i left n
         moved left n z =
             subst (λ (k : ℕ). (h : ℕ) × IsOnSide (E k) (curve d i) k left h × (n ≡ slice_index faces h)) f
-            (subst (λ (x : Curve). (h : ℕ) × IsOnSide (E first) x first left h × (n ≡ slice_index faces h)) q
-            (subst (λ (es : List Edge). (h : ℕ) × IsOnSide (edge_of es first) c first left h × (n ≡ slice_index faces h)) is.edges_are z))
+            (subst (λ (x : Curve). (h : ℕ) × IsOnSide (E first) x first left h × (n ≡ slice_index faces h)) q z)
 
     abbrev outside_at : List ℕ → ℕ → ℕ
     outside_at faces e = slice_index faces (number (twin (half_within d bays E e)))

@@ -33,6 +33,7 @@ use Rattle.area_search.specs.declared.kinds.AreaAnswer.TheVariants.{Fault}
 use Rattle.area_search.specs.declared.kinds.AreaFinding.TheVariants.{On}
 use Rattle.area_search.specs.Answers.{AreClear, IsAnswer, on}
 use Rattle.area_search.specs.CaseSides.{IsSpotOf}
+use Rattle.area_search.specs.CaseRoots.{no_owner, owner_at}
 use Rattle.area_search.specs.Cases.{AreOffCurves, ArePlacedOff, AreSpots, IsCase, IsClearOver, IsOffCurves, IsSpot, no_spot, spot_at}
 use Rattle.area_search.specs.Faults.{LiesOn}
 use Rattle.area_search.specs.PointFaces.{IsOver}
@@ -66,9 +67,9 @@ module _ (d : Plan) (level : ℕ) (edges : List Edge) (owners : List Owner) (fac
   pub chain_tube : (v : Point) (e : ℕ) → IsLeastEdge edges v e → IsOfTube (owned_at d level e).part → LiesInTube d (drawn_bays d level) (owned_at d level e).curve v
   chain_tube v e h p = let k = least_at v e h in on_chain d (drawn_bays d level) m E (steps_from [] vs) is.settled.run is.settled.wide is.settled.settled v e k.known k.on k.least p
 
-  module _ (v : Point) (e : ℕ) (h : IsLeastEdge edges v e) (o : Owner) (q : o ≡ get_or owners e o) where
+  module _ (v : Point) (e : ℕ) (h : IsLeastEdge edges v e) (o : Owner) (q : o ≡ owner_at owners e) where
     owner_here : o ≡ owner_as (owned_at d level e)
-    owner_here = q ∙ nth_owner d level edges owners facings vs is e o (least_at v e h).known
+    owner_here = q ∙ nth_owner d level edges owners facings vs is e no_owner (least_at v e h).known
 
     pub owner_straight : o.part ≡ part.Straight → IsFirstOn d o.curve (point v)
     owner_straight p =

@@ -1,5 +1,5 @@
 -- The least level that settles a drawing, and its edges there as a case.
-use Rattle.std.proofs.Common.{◌≡◌, ◌⊎◌, inl, inr, ℕ, ◌+◌, ◌*◌, ◌<◌, ◌≤◌, ◌^◌, List, length, arith, refl, ap, ◌∙◌, subst}
+use Rattle.std.proofs.Common.{◌≡◌, ◌⊎◌, inl, inr, ℕ, ◌*◌, ◌<◌, ◌≤◌, ◌^◌, List, length, arith, refl, ap, ◌∙◌, subst}
 use Rattle.plane.specs.Forms.Meets.{Bad, Disjoint, Touch}
 use Rattle.plane.specs.Rule.BadPairs.{IsBadPair}
 use Rattle.plane.specs.Rule.Plans.{Plan, curve}

@@ -1,15 +1,13 @@
 -- The mesh of a run: what its replay notes, and its events one after another.
-use Rattle.std.proofs.Common.{◌≡◌, ℕ, zero, suc, ◌+◌, ◌-◌, ◌*◌, ◌^◌, ◌<◌, ◌≤◌, List, [], ◌∷◌, ◌++◌, length, max, take, drop, get_or, slice_index, refl, arith, ap, sym, ◌∙◌, subst, inl, inr, add-one, append_assoc}
+use Rattle.std.proofs.Common.{◌≡◌, ℕ, zero, suc, ◌+◌, ◌-◌, ◌^◌, ◌<◌, ◌≤◌, List, [], ◌∷◌, ◌++◌, length, max, take, drop, get_or, slice_index, refl, arith, ap, sym, ◌∙◌, subst, inl, inr, add-one, append_assoc}
 use Rattle.std.proofs.lemmas.Bool.{cases_lt}
 use Rattle.std.proofs.lemmas.List.{append-nil, drop-drop, length-append, length-drop, length-take, length-take-le, take_all, take_more}
 use Rattle.std.proofs.Math.Seq.{drop-append_seam, take-append_seam}
 use Rattle.plane.specs.declared.kinds.Edge.{Edge}
 use Rattle.plane.specs.declared.kinds.Point.{Point}
-use Rattle.plane.specs.Faces.Directions.{origin}
-use Rattle.plane.specs.Faces.Halves.{Half, edge_of, half_of, number, over, under}
 use Rattle.plane.specs.Faces.Replays.{no_step}
 use Rattle.plane.specs.Forms.Vectors.{Before}
-use Rattle.plane.specs.Lists.{Has, Once}
+use Rattle.plane.specs.Lists.{Has}
 use Rattle.plane.specs.Runs.Moves.{Fit, Move, live_from, no_move, step_of, steps_from}
 use Rattle.plane.specs.Runs.Steps.{GoodStep, Run, Step}
 use Rattle.plane.specs.Runs.Sweeps.{IsEventList}
@@ -17,17 +15,11 @@ use Rattle.half_edges.specs.HalfEdges.{HalfEdges}
 use Rattle.event_mesh.specs.Built.{AreEnds, IsMeshOf}
 use Rattle.event_mesh.specs.Fans.{CanTurn}
 use Rattle.event_mesh.specs.Turned.{IsEvent, IsEventAt, IsTurned, ending_at, nth_step, points_of}
-use Rattle.line_sweep.specs.Kinds.{move_of, moves_of}
-use Rattle.line_sweep.specs.declared.kinds.Event.{Event}
 use Rattle.point_location.specs.Replaying.{IsApplied}
 use Rattle.straight_predicates.specs.EdgeEvents.{IsNoted}
 use Rattle.area_search.specs.declared.meshing.Noted.{Noted}
 use Rattle.area_search.specs.Meshing.{HasNoted, IsWidest, NotesStep, ended_at, width}
-use Rattle.area_search.proofs.PlaneLaws.{before_trans, events_apart, fits_at, half_number, move_is, moves_size, never, number_below, part_is, room, run_events, run_good, sorted_once, step_is, steps_length}
-
--- the event of that number is a move
-pub event_of : (events : List Event) (k : ℕ) (v : Event) → k < length events → v ≡ get_or events k v → (k < length (moves_of events)) × (get_or (moves_of events) k no_move ≡ move_of v)
-event_of events k v l e = (let n = moves_size events in omega (arith, l, n), move_is events k v l e)
+use Rattle.area_search.proofs.PlaneLaws.{events_apart, fits_at, never, part_is, run_events, run_good, step_is, steps_length}
 
 -- ---- the widest event
 pub widest_next : (moves : List Move) (k most new : ℕ) (v : Move) → get_or moves k no_move ≡ v → new ≡ max most (width v) → IsWidest moves k most → IsWidest moves (k + 1) new
@@ -88,49 +80,6 @@ module _ (m : ℕ) (E : ℕ → Edge) (vs : List Move) (run : Run m E (steps_fro
 
   pub events : IsEventList m E (points_of (steps_from [] vs))
   events = run_events m E steps run
-
-  -- ---- there are at most two events an edge
-  -- some half-edge that begins at a step
-  half_at : (s : Step) → Has s (steps_from [] vs) → (h : Half) × (edge_of h < m) × (origin E h ≡ s.at)
-  half_at s h =
-      let (e, l, q) = run.events s h in
-      elim q [ inl low ↦ (over e, l, low) | inr high ↦ (under e, l, high) ]
-
-  abbrev numbers : (ss : List Step) → ((s : Step) → Has s ss → Has s (steps_from [] vs)) → List ℕ
-  numbers [] f = []
-  numbers (s ∷ ss) f = number (half_at s (f s (inl refl))).0 ∷ numbers ss (λ t h. f t (inr h))
-
-  numbers_size : (ss : List Step) (f : (s : Step) → Has s ss → Has s (steps_from [] vs)) → length (numbers ss f) ≡ length ss
-  numbers_size [] f = refl
-  numbers_size (s ∷ ss) f = ap (λ (n : ℕ). suc n) (numbers_size ss (λ t h. f t (inr h)))
-
-  numbers_of : (ss : List Step) (f : (s : Step) → Has s ss → Has s (steps_from [] vs)) (n : ℕ) → Has n (numbers ss f)
-      → (n < 2 * m) × Has (origin E (half_of n)) (points_of ss)
-  numbers_of [] f n h = absurd h
-  numbers_of (s ∷ ss) f n (inl e) =
-      let (g, l, q) = half_at s (f s (inl refl)) in
-      let b = number_below g m l in
-      (omega (arith, b, e), inl (ap (λ (k : ℕ). origin E (half_of k)) e ∙ ap (origin E) (half_number g) ∙ q))
-  numbers_of (s ∷ ss) f n (inr h) = let (b, i) = numbers_of ss (λ t k. f t (inr k)) n h in (b, inr i)
-
-  numbers_once : (ss : List Step) (f : (s : Step) → Has s ss → Has s (steps_from [] vs)) → Once (points_of ss) → Once (numbers ss f)
-  numbers_once [] f o = tt
-  numbers_once (s ∷ ss) f o =
-      let (g, l, q) = half_at s (f s (inl refl)) in (
-        (λ h. o.0 (subst (λ (p : Point). Has p (points_of ss)) (ap (origin E) (half_number g) ∙ q) (numbers_of ss (λ t k. f t (inr k)) (number g) h).1)),
-        numbers_once ss (λ t h. f t (inr h)) o.1,
-      )
-
-  points_once : Once (points_of (steps_from [] vs))
-  points_once = sorted_once Before (λ p. Unit {0}) (λ p u b. never p b) (λ p q r a b c l n. before_trans p q r l n) (points_of steps) (λ p i. tt) events.rises
-
-  pub few_events : length vs ≤ 2 * m
-  few_events =
-      let ns = numbers steps (λ s h. h) in
-      let r = room (2 * m) ns (numbers_once steps (λ s h. h) points_once) (λ n h. (numbers_of steps (λ s i. i) n h).0) in
-      let n = numbers_size steps (λ s h. h) in
-      let z = size in
-      omega (arith, r, n, z)
 
   -- ---- one event more is noted
   noted_more : (k : ℕ) (s : Step) (old new : Noted) → k < length vs → nth_step (steps_from [] vs) k ≡ s → HasNoted m (steps_from [] vs) k old → NotesStep k s old new
@@ -256,77 +205,65 @@ module _ (m : ℕ) (E : ℕ → Edge) (vs : List Move) (run : Run m E (steps_fro
   rest_of_all ended e = e ∙ ap ended_at (take_all (length vs) steps (let z = size in omega (arith, z)))
 
 -- ---- the same of a list of events
-module _ (m : ℕ) (E : ℕ → Edge) (events : List Event) (run : Run m E (steps_from [] (moves_of events))) where
-  pub few_listed : m < 2 ^ 31 → length events < 2 ^ 32
-  few_listed b = let f = few_events m E (moves_of events) run in let n = moves_size events in omega (arith, b, f, n)
-
-  module _ (given : List Event) (same : given ≡ events) (noted : Noted) (has : HasNoted m (steps_from [] (moves_of given)) (length given) noted) where
-    pub all_noted : HasNoted m (steps_from [] (moves_of events)) (length (moves_of events)) noted
-    all_noted =
-        subst (λ (n : ℕ). HasNoted m (steps_from [] (moves_of events)) n noted) (ap length same ∙ sym (moves_size events))
-        (subst (λ (es : List Event). HasNoted m (steps_from [] (moves_of es)) (length given) noted) same has)
-
+module _ (m : ℕ) (E : ℕ → Edge) (events : List Move) (run : Run m E (steps_from [] events)) where
+  module _ (noted : Noted) (has : HasNoted m (steps_from [] events) (length events) noted) where
     pub listed_ends : (n : ℕ) (low high : List ℕ) → n ≡ length events → low ≡ noted.low.items → high ≡ noted.high.items → AreEnds n low high
     listed_ends n low high a b c =
-        subst (λ (k : ℕ). AreEnds k low high) (moves_size events ∙ sym a)
-        (subst (λ (ls : List ℕ). AreEnds (length (moves_of events)) ls high) (sym b)
-        (subst (λ (hs : List ℕ). AreEnds (length (moves_of events)) noted.low.items hs) (sym c) (noted_ends m E (moves_of events) run noted all_noted)))
+        subst (λ (k : ℕ). AreEnds k low high) (sym a)
+        (subst (λ (ls : List ℕ). AreEnds (length events) ls high) (sym b)
+        (subst (λ (hs : List ℕ). AreEnds (length events) noted.low.items hs) (sym c) (noted_ends m E events run noted has)))
 
     pub listed_mesh : ((E : ℕ → Edge) (steps : List Step) (events : ℕ) (low high : List ℕ) (mesh : HalfEdges) → IsMeshOf events low high (length low) mesh
         → ((e : ℕ) → e < length low → IsEventAt steps (slice_index low e) (E e).low) → ((e : ℕ) → e < length low → IsEventAt steps (slice_index high e) (E e).high) → IsTurned (length low) E steps mesh 0)
         → (n : ℕ) (low high : List ℕ) (mesh : HalfEdges) → n ≡ length events → low ≡ noted.low.items → high ≡ noted.high.items → IsMeshOf n low high (length low) mesh
-        → IsTurned m E (steps_from [] (moves_of events)) mesh 0
+        → IsTurned m E (steps_from [] events) mesh 0
     listed_mesh begin n low high mesh a b c is =
-        none_turned m E (moves_of events) run noted all_noted begin mesh
-        (subst (λ (hs : List ℕ). IsMeshOf (length (moves_of events)) noted.low.items hs (length noted.low.items) mesh) c
-        (subst (λ (ls : List ℕ). IsMeshOf (length (moves_of events)) ls high (length ls) mesh) b
-        (subst (λ (k : ℕ). IsMeshOf k low high (length low) mesh) (a ∙ sym (moves_size events)) is)))
+        none_turned m E events run noted has begin mesh
+        (subst (λ (hs : List ℕ). IsMeshOf (length events) noted.low.items hs (length noted.low.items) mesh) c
+        (subst (λ (ls : List ℕ). IsMeshOf (length events) ls high (length ls) mesh) b
+        (subst (λ (k : ℕ). IsMeshOf k low high (length low) mesh) a is)))
 
-    pub listed_rest : noted.ended.items ≡ ended_at (steps_from [] (moves_of events))
-    listed_rest = rest_of_all m E (moves_of events) run noted.ended.items all_noted.ended
+    pub listed_rest : noted.ended.items ≡ ended_at (steps_from [] events)
+    listed_rest = rest_of_all m E events run noted.ended.items has.ended
 
     -- how far the turning of the events has come
-    module _ (fit : Fit [] (moves_of events)) (items : List Event) (is_items : items ≡ events) (few : m < 2 ^ 31) (k : ℕ) (l : k < length items) (v : Event) (is : v ≡ get_or items k v)
-        (from : ℕ) (within : from ≤ length noted.ended.items) (rest : drop from noted.ended.items ≡ ended_at (drop k (steps_from [] (moves_of events)))) where
-      at : (k < length (moves_of events)) × (get_or (moves_of events) k no_move ≡ move_of v)
-      at = event_of events k v (subst (λ (es : List Event). k < length es) is_items l) (is ∙ ap (λ (es : List Event). get_or es k v) is_items)
-
+    module _ (fit : Fit [] events) (few : m < 2 ^ 31) (k : ℕ) (l : k < length events) (v : Move) (is : get_or events k no_move ≡ v)
+        (from : ℕ) (within : from ≤ length noted.ended.items) (rest : drop from noted.ended.items ≡ ended_at (drop k (steps_from [] events))) where
       pub block_within : from + v.ending ≤ length noted.ended.items
-      block_within = next_within m E (moves_of events) run fit k at.0 (move_of v) at.1 noted.ended.items from within rest
+      block_within = next_within m E events run fit k l v is noted.ended.items from within rest
 
-      pub rest_after : drop (from + v.ending) noted.ended.items ≡ ended_at (drop (k + 1) (steps_from [] (moves_of events)))
+      pub rest_after : drop (from + v.ending) noted.ended.items ≡ ended_at (drop (k + 1) (steps_from [] events))
       rest_after =
-          rest_next m E (moves_of events) run fit k at.0 (move_of v) at.1 noted.ended.items from within rest
-          ∙ ap (λ (n : ℕ). ended_at (drop n (steps_from [] (moves_of events)))) (sym (add-one k))
+          rest_next m E events run fit k l v is noted.ended.items from within rest
+          ∙ ap (λ (n : ℕ). ended_at (drop n (steps_from [] events))) (sym (add-one k))
 
-      module _ (starting ended : List ℕ) (a : starting ≡ v.starting.items) (b : ended ≡ noted.ended.items) where
-        is_event : IsEvent m E (steps_from [] (moves_of events)) k starting (take ((from + v.ending) - from) (drop from ended))
+      module _ (starting ended : List ℕ) (a : starting ≡ v.starting) (b : ended ≡ noted.ended.items) where
+        is_event : IsEvent m E (steps_from [] events) k starting (take ((from + v.ending) - from) (drop from ended))
         is_event =
-            event_is m E (moves_of events) run fit k at.0 (move_of v) at.1 noted.ended.items from within rest starting (take ((from + v.ending) - from) (drop from ended)) a
+            event_is m E events run fit k l v is noted.ended.items from within rest starting (take ((from + v.ending) - from) (drop from ended)) a
             (part_is ended from v.ending ∙ ap (λ (es : List ℕ). take v.ending (drop from es)) b)
 
         pub can_turn_event : ((n : ℕ) (F : ℕ → Edge) (steps : List Step) (mesh : HalfEdges) (j : ℕ) (starting ending : List ℕ)
             → n ≤ 2 ^ 31 → IsEventList n F (points_of steps) → IsTurned n F steps mesh j → IsEvent n F steps j starting ending → CanTurn mesh starting ending)
-            → (mesh : HalfEdges) → IsTurned m E (steps_from [] (moves_of events)) mesh k → CanTurn mesh starting (take ((from + v.ending) - from) (drop from ended))
+            → (mesh : HalfEdges) → IsTurned m E (steps_from [] events) mesh k → CanTurn mesh starting (take ((from + v.ending) - from) (drop from ended))
         can_turn_event can mesh t =
-            can m E (steps_from [] (moves_of events)) mesh k starting (take ((from + v.ending) - from) (drop from ended)) (omega (arith, few)) (run_events m E (steps_from [] (moves_of events)) run) t is_event
+            can m E (steps_from [] events) mesh k starting (take ((from + v.ending) - from) (drop from ended)) (omega (arith, few)) (run_events m E (steps_from [] events) run) t is_event
 
-        pub has_room : (room : ℕ) → IsWidest (moves_of events) (length events) room → length starting + length (take ((from + v.ending) - from) (drop from ended)) ≤ room
+        pub has_room : (room : ℕ) → IsWidest events (length events) room → length starting + length (take ((from + v.ending) - from) (drop from ended)) ≤ room
         has_room room w =
-            let n = moves_size events in
-            let b = w.most k (let l = at.0 in omega (arith, l, n)) in
-            let c = ap width at.1 in
+            let b = w.most k l in
+            let c = ap width is in
             let d = ap length a in
             let e = take-bound ((from + v.ending) - from) (drop from ended) in
             omega (arith, b, c, d, e)
 
-        pub turned_next : (old new : HalfEdges) → IsTurned m E (steps_from [] (moves_of events)) old k
+        pub turned_next : (old new : HalfEdges) → IsTurned m E (steps_from [] events) old k
             → ((n : ℕ) (F : ℕ → Edge) (steps : List Step) (j : ℕ) → IsEventList n F (points_of steps) → IsTurned n F steps old j
             → IsEvent n F steps j starting (take ((from + v.ending) - from) (drop from ended)) → IsTurned n F steps new (suc j))
-            → IsTurned m E (steps_from [] (moves_of events)) new (k + 1)
+            → IsTurned m E (steps_from [] events) new (k + 1)
         turned_next old new t f =
-            subst (λ (n : ℕ). IsTurned m E (steps_from [] (moves_of events)) new n) (sym (add-one k))
-            (f m E (steps_from [] (moves_of events)) k (run_events m E (steps_from [] (moves_of events)) run) t is_event)
+            subst (λ (n : ℕ). IsTurned m E (steps_from [] events) new n) (sym (add-one k))
+            (f m E (steps_from [] events) k (run_events m E (steps_from [] events) run) t is_event)
 
-  pub all_turned : (mesh : HalfEdges) (k : ℕ) → k ≡ length events → IsTurned m E (steps_from [] (moves_of events)) mesh k → IsTurned m E (steps_from [] (moves_of events)) mesh (length (steps_from [] (moves_of events)))
-  all_turned mesh k e t = subst (λ (n : ℕ). IsTurned m E (steps_from [] (moves_of events)) mesh n) (e ∙ sym (moves_size events) ∙ sym (size m E (moves_of events) run)) t
+  pub all_turned : (mesh : HalfEdges) (k : ℕ) → k ≡ length events → IsTurned m E (steps_from [] events) mesh k → IsTurned m E (steps_from [] events) mesh (length (steps_from [] events))
+  all_turned mesh k e t = subst (λ (n : ℕ). IsTurned m E (steps_from [] events) mesh n) (e ∙ sym (size m E events run)) t

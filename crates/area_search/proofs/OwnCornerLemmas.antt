@@ -3,15 +3,13 @@ use Rattle.std.proofs.Common.{◌≡◌, ◌⊎◌, inl, inr, ℕ, zero, suc, �
 use Rattle.std.proofs.lemmas.Bool.{and_parts}
 use Rattle.std.proofs.lemmas.Bool.Decides.{Decides-int_eq}
 use Rattle.std.specs.Ordering.{int_eq}
-use Rattle.line_sweep.specs.Kinds.{move_of, moves_of}
 use Rattle.line_sweep.specs.Sweeping.{HasTimetable}
-use Rattle.line_sweep.specs.declared.kinds.Event.{Event}
 use Rattle.plane.specs.CurveRuns.TubedRuns as runs
 use Rattle.plane.specs.Forms.Meets.{IsEnd}
 use Rattle.plane.specs.Lists.{Each, Has}
 use Rattle.plane.specs.Rule.BadPairs.{IsEndOf}
 use Rattle.plane.specs.Rule.Plans.{IsHalfArc, Plan, curve}
-use Rattle.plane.specs.Runs.Moves.{Move}
+use Rattle.plane.specs.Runs.Moves.{Move, no_move}
 use Rattle.plane.specs.Runs.Timetables.{IsTimed, Timed, moves_at}
 use Rattle.plane.specs.declared.kinds.Curve.{Curve}
 use Rattle.plane.specs.declared.kinds.Edge.{Edge}
@@ -36,10 +34,10 @@ same_point p q r e h =
     λ i. record { x = x i; y = y i }
 
 -- ---- lists
-pub nth_move : (events : List Event) (k : ℕ) (x : Event) → k < length events → Has (move_of (get_or events k x)) (moves_of events)
-nth_move [] k x l = absurd (omega (arith, l))
-nth_move (v ∷ events) zero x l = inl refl
-nth_move (v ∷ events) (suc k) x l = inr (nth_move events k x (omega (arith, l)))
+pub nth_move : (vs : List Move) (k : ℕ) → k < length vs → Has (get_or vs k no_move) vs
+nth_move [] k l = absurd (omega (arith, l))
+nth_move (v ∷ vs) zero l = inl refl
+nth_move (v ∷ vs) (suc k) l = inr (nth_move vs k (omega (arith, l)))
 
 pub one_own : (d : Plan) (list : EdgeList) (vs : List Move) (n : ℕ) → AreOwn d list vs n → HasOwnCorners d list vs n → AreOwn d list vs (n + 1)
 one_own d list vs n h k e l = less_or e n (HasOwnCorners d list vs e) l (h e) (λ q. subst (HasOwnCorners d list vs) (sym q) k)

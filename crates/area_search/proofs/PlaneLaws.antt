@@ -14,7 +14,7 @@ pub use Rattle.plane.proofs.MoveLemmas.MadeSteps.{never, step_is}
 pub use Rattle.plane.proofs.Worked.SquareTimetable.{run_events}
 pub use Rattle.event_mesh.proofs.Apart.{events_apart}
 pub use Rattle.straight_predicates.proofs.NotedEvents.{one_noted}
-pub use Rattle.point_location.proofs.Replays.{applied_next, block_fits, move_is, moves_size, part_is}
+pub use Rattle.point_location.proofs.Replays.{applied_next, block_fits, part_is}
 pub use Rattle.plane.proofs.MoveLemmas.OneTimetable.{before_trans}
 pub use Rattle.point_location.proofs.Moments.{fits_at}
 pub use Rattle.plane.proofs.ListLemmas.Lists.{has_append, has_back, has_front}

@@ -6,7 +6,6 @@ use Rattle.event_mesh.specs.Turned.{IsTurned}
 use Rattle.faces.specs.Joined.{AreKnown}
 use Rattle.half_edges.specs.HalfEdges.{HalfEdges, size}
 use Rattle.half_edges.specs.Meshes.{IsMesh}
-use Rattle.line_sweep.specs.Kinds.{moves_of}
 use Rattle.line_sweep.specs.Sweeping.{HasTimetable}
 use Rattle.plane.specs.CurveRuns.FacedTubes.{IsFirstOn, LiesInTube, faced}
 use Rattle.plane.specs.CurveRuns.Levels.{IsSettledDrawing, beside_inner, beside_outer}
@@ -46,16 +45,18 @@ pub record IsCase (d : Plan) (level : ℕ) (edges : List Edge) (owners : List Ow
       (edge_at d level) (steps_from [] vs)
   pub fit : Fit [] vs
 
--- the same in code
+-- the edges of a case in code
+abbrev pub edges_of : Case → List Edge
+edges_of c = edges_at (plan c.drawing.now) c.level
+
 abbrev pub IsCaseOf : Case → List Move → Type 0
 IsCaseOf c vs =
-    IsCase (plan c.drawing.now) c.level c.list.now.edges.items c.list.now.owners.items c.facings.now
-    vs
+    IsCase (plan c.drawing.now) c.level (edges_of c) c.owners.now c.facings.now vs
 
 abbrev pub IsSweptCase : SweptCase → Type 0
 IsSweptCase c =
-    IsCase (plan c.drawing.now) c.level c.list.now.edges.items c.list.now.owners.items c.facings.now
-    (moves_of c.swept.now.events.items)
+    IsCase (plan c.drawing.now) c.level c.edges.now c.owners.now c.facings.now
+    c.swept.now.events
 
 -- of some moves
 abbrev pub HasRun : Case → Type 0
@@ -156,5 +157,5 @@ pub record IsOutlined (c : Case) (spots : List Spot) (mesh : HalfEdges) (count :
     (cells : List Gap) (positions : List ℕ) : Type 0 where
   pub faced : IsFaced c spots mesh count
   pub outline : IsRunMesh (plan c.drawing.now) c.level faced.vs cells mesh
-  pub timed : HasTimetable c.list.now.edges.items faced.vs
+  pub timed : HasTimetable (edges_of c) faced.vs
   pub positions_are : positions ≡ positions_of faced.vs

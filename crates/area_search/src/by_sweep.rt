@@ -1,6 +1,6 @@
 // What one sweep of the edges of a level shows: the answer, or that the level does not settle.
 ghost use Rattle.std.specs.Prelude.{[], ◌≡◌, ◌^◌, ◌<◌, ◌≤◌, IfOk, length};
-ghost use Rattle.line_sweep.specs.Kinds.{gaps_of, moves_of};
+ghost use Rattle.line_sweep.specs.Kinds.{gaps_of};
 ghost use Rattle.line_sweep.specs.Sweeping.{HasTimetable};
 ghost use Rattle.plane.specs.Rule.Plans.{plan};
 ghost use Rattle.plane.specs.Runs.Gaps.{closed_gaps};
@@ -15,6 +15,7 @@ use super::case::Case;
 use super::cell_sides::are_paired;
 use super::finishing::answer_case;
 use super::kinds::AreaAnswer;
+use super::missing_tubes::is_tube_missing;
 use super::own_corners::are_corners_own;
 use line_sweep::{SweepRefusal, Swept, sweep};
 use plane::Drawing;
@@ -43,24 +44,22 @@ pub(crate) fn answer_by_sweep(alloc: Global, drawing: &Drawing, level: u8) -> Re
 {
     tubes::laws::few_edges();
     level_breaks::laws::settled_is_unbroken();
+    if level > 0 && is_tube_missing(alloc, drawing, level)? {
+        return Ok(Shown::Unsettled);
+    }
     match edge_list(alloc, drawing, level)? {
-        Some(list) => answer_list(alloc, drawing, level, &list),
+        Some(list) => answer_list(alloc, drawing, level, list),
         None => Ok(Shown::Unsettled),
     }
 }
 
 /// The same, with the edges of the level.
-fn answer_list(
-    alloc: Global,
-    drawing: &Drawing,
-    level: u8,
-    list: &EdgeList,
-) -> Result<Shown, Memory>
+fn answer_list(alloc: Global, drawing: &Drawing, level: u8, list: EdgeList) -> Result<Shown, Memory>
     requires low { level ≤ 5 }
     requires least { SettlesNoneBelow (plan drawing.now) level }
-    requires few { length list.now.edges.items < 2 ^ 31 }
-    requires list { IsTubedList (plan drawing.now) level list.now }
-    requires usable { AreUsable (plan drawing.now) list.now.edges.items }
+    requires few { length list.edges.items < 2 ^ 31 }
+    requires list { IsTubedList (plan drawing.now) level list }
+    requires usable { AreUsable (plan drawing.now) list.edges.items }
     ensures { IfOk result (IsShown (plan drawing.now) level) }
 {
     tubes::laws::tubed_lists();
@@ -77,36 +76,37 @@ fn answer_swept(
     alloc: Global,
     drawing: &Drawing,
     level: u8,
-    list: &EdgeList,
+    list: EdgeList,
     swept: Swept,
 ) -> Result<Shown, Memory>
     requires low { level ≤ 5 }
     requires least { SettlesNoneBelow (plan drawing.now) level }
-    requires few { length list.now.edges.items < 2 ^ 31 }
-    requires list { IsTubedList (plan drawing.now) level list.now }
-    requires usable { AreUsable (plan drawing.now) list.now.edges.items }
-    requires run { Run (length list.now.edges.items) (edge_of list.now.edges.items) (steps_from []
-        (moves_of swept.events.items)) }
-    requires fit { Fit [] (moves_of swept.events.items) }
-    requires timed { HasTimetable list.now.edges.items (moves_of swept.events.items) }
+    requires few { length list.edges.items < 2 ^ 31 }
+    requires list { IsTubedList (plan drawing.now) level list }
+    requires usable { AreUsable (plan drawing.now) list.edges.items }
+    requires run { Run (length list.edges.items) (edge_of list.edges.items) (steps_from []
+        swept.events) }
+    requires fit { Fit [] swept.events }
+    requires timed { HasTimetable list.edges.items swept.events }
     requires cells { gaps_of swept.cells.items
-        ≡ closed_gaps (moves_of swept.events.items) }
+        ≡ closed_gaps swept.events }
     ensures { IfOk result (IsShown (plan drawing.now) level) }
 {
     tubes::laws::settled_levels();
     tubes::laws::chains_have_edges();
-    if !are_corners_own(drawing, list, &swept.events) {
+    if !are_corners_own(drawing, &list, &swept.events) {
         return Ok(Shown::Nothing);
     }
-    let facings = facings(alloc, drawing, list)?;
+    let facings = facings(alloc, drawing, &list)?;
     if !are_paired(&swept.cells, &facings, &list.owners) {
         return Ok(Shown::Nothing);
     }
+    let EdgeList { edges, owners } = list;
     let case = Case {
         drawing,
         level,
-        list,
+        owners: &owners,
         facings: &facings,
     };
-    Ok(Shown::Answer(answer_case(alloc, &case, swept)?))
+    Ok(Shown::Answer(answer_case(alloc, &case, edges, swept)?))
 }

@@ -1,23 +1,25 @@
 // A drawing that a level settles, and where its points lie.
 use line_sweep::Swept;
-use plane::Drawing;
-use tubes::{EdgeList, Facing};
+use plane::{Drawing, Edge};
+use tubes::{Facing, Owner};
 
-/// A drawing that a level settles, its edges at that level, and the side of each that faces a tube.
+/// A drawing that a level settles, and of each of its edges at that level what it stands for and
+/// which side faces a tube.
 #[derive(Drop)]
 pub(crate) struct Case<'a> {
     pub drawing: &'a Drawing,
     pub level: u8,
-    pub list: &'a EdgeList,
+    pub owners: &'a [Owner],
     pub facings: &'a [Facing],
 }
 
-/// The same with the complete run of the edges.
+/// The same with the edges and their complete run.
 #[derive(Drop)]
 pub(crate) struct SweptCase<'a> {
     pub drawing: &'a Drawing,
     pub level: u8,
-    pub list: &'a EdgeList,
+    pub edges: &'a [Edge],
+    pub owners: &'a [Owner],
     pub facings: &'a [Facing],
     pub swept: &'a Swept,
 }

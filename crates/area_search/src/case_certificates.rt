@@ -13,26 +13,26 @@ use super::case_notes::{named_notes, spot_places};
 use super::case_roots::roots_of_case;
 use certificate::{Certificate, HalfNote, PointPlace};
 use faces::{Labelled, links};
-use line_sweep::Swept;
+use line_sweep::Cell;
 use ports::{Memory, Name};
 use std::alloc::Global;
 
 /// A certificate that proves the drawing at its level: these positions of the events, the place of
 /// each point, and a note for each half-edge, with the label of the tube that it faces or the owner
-/// of its face. Its names are empty. Of the run it reads the cells alone. The only error is want of
-/// memory. It takes time linear in the edges, the cells, the curves and the points, and for a while
+/// of its face. Its names are empty. The only error is out of memory.
+/// It takes time linear in the edges, the cells, the curves and the points, and for a while
 /// what `faces::links` takes, 2 bytes a curve and 4 a root.
 pub(crate) fn certify_case(
     alloc: Global,
     case: &Case,
     spots: &[Spot],
     labelled: &Labelled,
-    swept: &Swept,
+    cells: &[Cell],
     positions: Vec<u32>,
     owners: &[u32],
 ) -> Result<Certificate, Memory>
     requires run { IsOutlined case.now spots.now labelled.now.mesh labelled.now.count
-        (gaps_of swept.now.cells.items) positions.items }
+        (gaps_of cells.now) positions.items }
     requires owned { HaveOwners (plan case.now.drawing.now) case.now.level
         labelled.now.mesh.face spots.now labelled.now.count owners.now }
     ensures proves { IfOk result (λ c. Proves (plan case.now.drawing.now) (claims c)) }
@@ -44,16 +44,16 @@ pub(crate) fn certify_case(
         alloc,
         case.drawing.curves.len(),
         case.facings,
-        &case.list.owners,
-        &swept.cells,
+        case.owners,
+        cells,
         spots,
     )?;
-    let found = links(alloc, labelled, swept, &roots)?;
+    let found = links(alloc, labelled, cells, &roots)?;
     let notes = named_notes(
         found,
         case.drawing.points.len() as u32,
         case.facings,
-        &case.list.owners,
+        case.owners,
         owners,
     );
     let places = spot_places(alloc, spots)?;

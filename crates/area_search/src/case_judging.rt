@@ -3,7 +3,7 @@ ghost use Rattle.std.specs.Prelude.{◌^◌, ◌<◌, IfOk, length};
 ghost use Rattle.plane.specs.Rule.Plans.{plan};
 ghost use Rattle.area_search.specs.Answers.{IsLeastLevel};
 ghost use Rattle.area_search.specs.CaseOwners.{IsCaseJudged};
-ghost use Rattle.area_search.specs.Cases.{IsFaced};
+ghost use Rattle.area_search.specs.Cases.{IsFaced, edges_of};
 
 use super::case::{Case, Spot};
 use super::case_sides::{faces_beside, faces_of_spots, first_free};
@@ -33,7 +33,7 @@ pub(crate) fn judge_case(
 ) -> Result<Judged, Memory>
     requires faced { IsFaced case.now spots.now mesh.now count }
     requires least { IsLeastLevel (plan case.now.drawing.now) case.now.level }
-    requires few { length case.now.list.now.edges.items < 2 ^ 31 }
+    requires few { length (edges_of case.now) < 2 ^ 31 }
     ensures { IfOk result (IsCaseJudged (plan case.now.drawing.now) case.now.level mesh.now.face
         spots.now count) }
 {

@@ -6,13 +6,14 @@ ghost use Rattle.plane.specs.CurveRuns.TubedRuns.{IsOfTube, half_within, third_i
 ghost use Rattle.plane.specs.Faces.Halves.{number, twin};
 ghost use Rattle.plane.specs.Rule.Plans.{plan};
 ghost use Rattle.plane.specs.Forms.Segments.{IsEdgeOf};
-ghost use Rattle.straight_predicates.specs.EdgeLists.{edge_of};
+ghost use Rattle.plane.specs.Forms.Vectors.{Before};
+ghost use Rattle.plane.specs.declared.kinds.Edge.{Edge as AnyEdge};
 ghost use Rattle.straight_predicates.specs.declared.turns.Turn.TheVariants.{Left};
 ghost use Rattle.tubes.specs.DrawnEdges.{nth_curve};
-ghost use Rattle.tubes.specs.Settled.{edge_at, edges_at, owned_at};
+ghost use Rattle.tubes.specs.Settled.{edge_at, owned_at};
 ghost use Rattle.tubes.specs.TubedEdges.{drawn_bays};
 ghost use Rattle.area_search.specs.Sides.{IsOnSide};
-ghost use Rattle.area_search.specs.Cases.{HasRun, spot_face, spot_faces, spot_at};
+ghost use Rattle.area_search.specs.Cases.{HasRun, edges_of, spot_face, spot_faces, spot_at};
 ghost use Rattle.area_search.specs.CaseSides.{AreBeside, AreFreeSides, IsBeside, IsBesideIn};
 ghost use Rattle.area_search.specs.CaseSides.{IsFreeFace, IsFreeSide, IsSpotOf, IsTurnable};
 ghost use Rattle.area_search.specs.CaseSides.{beside_at, edges_of_kind, first_at, free_of};
@@ -21,7 +22,7 @@ ghost use Rattle.area_search.specs.CaseSides.{is_first};
 use super::case::{Case, Spot};
 use super::sides::{Side, half_on};
 use half_edges::{HalfEdgeId, Mesh};
-use plane::{Curve, CurveKind, Edge};
+use plane::{Curve, CurveKind};
 use ports::Memory;
 use std::alloc::Global;
 use straight_predicates::{Turn, turn};
@@ -38,8 +39,8 @@ pub(crate) struct Beside {
 /// The faces beside each curve. It takes time linear in the curves, and 8 bytes for each.
 pub(crate) fn faces_beside(alloc: Global, case: &Case, mesh: &Mesh) -> Result<Vec<Beside>, Memory>
     requires case { HasRun case.now }
-    requires few { length case.now.list.now.edges.items < 2 ^ 31 }
-    requires size { size mesh.now ≡ 2 * length case.now.list.now.edges.items }
+    requires few { length (edges_of case.now) < 2 ^ 31 }
+    requires size { size mesh.now ≡ 2 * length (edges_of case.now) }
     ensures { IfOk result (λ besides. AreBeside (plan case.now.drawing.now) case.now.level
         mesh.now.face (length (plan case.now.drawing.now).curves) besides.items) }
 {
@@ -75,8 +76,8 @@ fn bay_count(level: u8) -> u32
 /// The faces beside the curve of that number, whose first edge has the other one.
 fn faces_of_curve(case: &Case, mesh: &Mesh, curve: &Curve, number: u32, first: u32) -> Beside
     requires case { HasRun case.now }
-    requires few { length case.now.list.now.edges.items < 2 ^ 31 }
-    requires size { size mesh.now ≡ 2 * length case.now.list.now.edges.items }
+    requires few { length (edges_of case.now) < 2 ^ 31 }
+    requires size { size mesh.now ≡ 2 * length (edges_of case.now) }
     requires there { number < length (plan case.now.drawing.now).curves }
     requires curve { curve.now ≡ nth_curve (plan case.now.drawing.now).curves number }
     requires first { first ≡ first_at (plan case.now.drawing.now) case.now.level number }
@@ -84,7 +85,7 @@ fn faces_of_curve(case: &Case, mesh: &Mesh, curve: &Curve, number: u32, first: u
 {
     tubes::laws::chains_have_edges();
     match curve.kind {
-        CurveKind::Straight => faces_of_straight(&case.list.edges, mesh, curve, first),
+        CurveKind::Straight => faces_of_straight(mesh, curve, first),
         CurveKind::HalfArc => {
             let second = first + bay_count(case.level);
             Beside {
@@ -95,21 +96,18 @@ fn faces_of_curve(case: &Case, mesh: &Mesh, curve: &Curve, number: u32, first: u
     }
 }
 
-/// The faces on the left and on the right of a straight with this edge.
-fn faces_of_straight(edges: &[Edge], mesh: &Mesh, curve: &Curve, number: u32) -> Beside
-    requires few { length edges.now < 2 ^ 31 }
-    requires size { size mesh.now ≡ 2 * length edges.now }
-    requires there { number < length edges.now }
-    requires edge { IsEdgeOf (edge_of edges.now number) curve.now }
+/// The faces on the left and on the right of a straight whose edge has this number.
+fn faces_of_straight(mesh: &Mesh, curve: &Curve, number: u32) -> Beside
+    requires few { number < 2 ^ 31 }
+    requires there { 2 * number + 1 < size mesh.now }
     requires distinct { curve.now.from ≡ curve.now.to → ⊥ }
-    ensures first { (h : ℕ) × IsOnSide (edge_of edges.now number) curve.now number true h
-        × (result.first ≡ slice_index mesh.now.face h) }
-    ensures second { (h : ℕ) × IsOnSide (edge_of edges.now number) curve.now number false h
-        × (result.second ≡ slice_index mesh.now.face h) }
+    ensures first { (e : AnyEdge) → Before e.low e.high → IsEdgeOf e curve.now → (h : ℕ)
+        × IsOnSide e curve.now number true h × (result.first ≡ slice_index mesh.now.face h) }
+    ensures second { (e : AnyEdge) → Before e.low e.high → IsEdgeOf e curve.now → (h : ℕ)
+        × IsOnSide e curve.now number false h × (result.second ≡ slice_index mesh.now.face h) }
 {
-    let edge = &edges[number as usize];
-    let left = half_on(edge, curve, number, true);
-    let right = half_on(edge, curve, number, false);
+    let left = half_on(curve, number, true);
+    let right = half_on(curve, number, false);
     Beside {
         first: mesh.face(left).0,
         second: mesh.face(right).0,
@@ -119,9 +117,9 @@ fn faces_of_straight(edges: &[Edge], mesh: &Mesh, curve: &Curve, number: u32) ->
 /// The face of the half-edge of a tube's edge that does not face the tube.
 fn face_outside(case: &Case, mesh: &Mesh, edge: u32) -> u32
     requires case { HasRun case.now }
-    requires few { length case.now.list.now.edges.items < 2 ^ 31 }
-    requires size { size mesh.now ≡ 2 * length case.now.list.now.edges.items }
-    requires there { edge < length case.now.list.now.edges.items }
+    requires few { length (edges_of case.now) < 2 ^ 31 }
+    requires size { size mesh.now ≡ 2 * length (edges_of case.now) }
+    requires there { edge < length (edges_of case.now) }
     requires tube { IsOfTube (owned_at (plan case.now.drawing.now) case.now.level edge).part }
     ensures { result ≡ slice_index mesh.now.face (number (twin (half_within
         (plan case.now.drawing.now) (drawn_bays (plan case.now.drawing.now) case.now.level)
@@ -139,10 +137,8 @@ pub(crate) fn faces_of_spots(
     besides: &[Beside],
     spots: &[Spot],
 ) -> Result<Vec<u32>, Memory>
-    requires few { length case.now.list.now.edges.items < 2 ^ 31 }
-    requires edges { case.now.list.now.edges.items
-        ≡ edges_at (plan case.now.drawing.now) case.now.level }
-    requires size { size mesh.now ≡ 2 * length case.now.list.now.edges.items }
+    requires few { length (edges_of case.now) < 2 ^ 31 }
+    requires size { size mesh.now ≡ 2 * length (edges_of case.now) }
     requires besides { AreBeside (plan case.now.drawing.now) case.now.level mesh.now.face
         (length (plan case.now.drawing.now).curves) besides.now }
     requires known { (j : ℕ) → j < length spots.now
@@ -158,10 +154,8 @@ pub(crate) fn faces_of_spots(
 }
 
 fn spot_face(case: &Case, mesh: &Mesh, besides: &[Beside], spot: &Spot) -> u32
-    requires few { length case.now.list.now.edges.items < 2 ^ 31 }
-    requires edges { case.now.list.now.edges.items
-        ≡ edges_at (plan case.now.drawing.now) case.now.level }
-    requires size { size mesh.now ≡ 2 * length case.now.list.now.edges.items }
+    requires few { length (edges_of case.now) < 2 ^ 31 }
+    requires size { size mesh.now ≡ 2 * length (edges_of case.now) }
     requires besides { AreBeside (plan case.now.drawing.now) case.now.level mesh.now.face
         (length (plan case.now.drawing.now).curves) besides.now }
     requires known { IsSpotOf (plan case.now.drawing.now) case.now.level spot.now }

@@ -27,7 +27,7 @@ fn is_paired(cell: &Cell, facings: &[Facing], owners: &[Owner]) -> bool
     requires curves { (e : ℕ) → e < length owners.now → (owner_at owners.now e).curve < 2 ^ 30 }
     ensures { IsTrue result ↔ IsPaired facings.now owners.now (gap_of cell.now) }
 {
-    tag_over(facings, owners, cell.lower) == tag_under(facings, owners, cell.upper)
+    tag_over(facings, owners, cell.lower.get()) == tag_under(facings, owners, cell.upper.get())
 }
 
 /// One more than the curve whose tube the side over an edge faces, 0 where it faces none.

@@ -1,6 +1,6 @@
 // The answer to a drawing that a level settles.
 ghost use Rattle.std.specs.Prelude.{◌≡◌, ◌^◌, ◌<◌, [], IfOk, length};
-ghost use Rattle.line_sweep.specs.Kinds.{gaps_of, moves_of};
+ghost use Rattle.line_sweep.specs.Kinds.{gaps_of};
 ghost use Rattle.line_sweep.specs.Sweeping.{HasTimetable};
 ghost use Rattle.plane.specs.Rule.Plans.{plan};
 ghost use Rattle.plane.specs.Runs.Gaps.{closed_gaps};
@@ -9,7 +9,7 @@ ghost use Rattle.plane.specs.Runs.Steps.{Run};
 ghost use Rattle.straight_predicates.specs.EdgeLists.{edge_of};
 ghost use Rattle.tubes.specs.TubedEdges.{IsTubedList};
 ghost use Rattle.area_search.specs.Answers.{IsAnswer, IsLeastLevel};
-ghost use Rattle.area_search.specs.Cases.{ArePlacedOff, AreSpots, IsCaseOf, IsOutlined};
+ghost use Rattle.area_search.specs.Cases.{ArePlacedOff, AreSpots, IsCaseOf, IsOutlined, edges_of};
 
 use super::case::{Case, Spot, SweptCase};
 use super::case_certificates::certify_case;
@@ -19,8 +19,8 @@ use super::meshing::mesh_of_run;
 use super::spots::{first_spot_on, spots_at};
 use super::writing::positions;
 use faces::{Labelled, label};
-use line_sweep::Swept;
-use plane::Drawing;
+use line_sweep::{Cell, Swept};
+use plane::{Drawing, Edge};
 use ports::Memory;
 use std::alloc::Global;
 use tubes::{EdgeList, facings};
@@ -28,45 +28,53 @@ use tubes::{EdgeList, facings};
 /// The answer to a drawing by a complete run of its edges at the least level that settles it: its
 /// first fault, or a certificate with empty names. The only error is out of memory. It takes what
 /// placing the points, the mesh, its faces and the links of a certificate take, one after another;
-/// before its faces are labelled, the events of the run are let go.
+/// before the mesh is made, the edges are let go, and before its faces are labelled the events of
+/// the run.
 pub(crate) fn finish(
     alloc: Global,
     drawing: &Drawing,
     level: u8,
-    list: &EdgeList,
+    list: EdgeList,
     swept: Swept,
 ) -> Result<AreaAnswer, Memory>
-    requires list { IsTubedList (plan drawing.now) level list.now }
+    requires list { IsTubedList (plan drawing.now) level list }
     requires least { IsLeastLevel (plan drawing.now) level }
-    requires few { length list.now.edges.items < 2 ^ 31 }
-    requires run { Run (length list.now.edges.items) (edge_of list.now.edges.items)
-        (steps_from [] (moves_of swept.events.items)) }
-    requires fit { Fit [] (moves_of swept.events.items) }
-    requires timed { HasTimetable list.now.edges.items (moves_of swept.events.items) }
-    requires cells { gaps_of swept.cells.items ≡ closed_gaps (moves_of swept.events.items) }
+    requires few { length list.edges.items < 2 ^ 31 }
+    requires run { Run (length list.edges.items) (edge_of list.edges.items)
+        (steps_from [] swept.events) }
+    requires fit { Fit [] swept.events }
+    requires timed { HasTimetable list.edges.items swept.events }
+    requires cells { gaps_of swept.cells.items ≡ closed_gaps swept.events }
     ensures { IfOk result (IsAnswer (plan drawing.now)) }
 {
     tubes::laws::settled_levels();
-    let facings = facings(alloc, drawing, list)?;
+    let facings = facings(alloc, drawing, &list)?;
+    let EdgeList { edges, owners } = list;
     let case = Case {
         drawing,
         level,
-        list,
+        owners: &owners,
         facings: &facings,
     };
-    answer_case(alloc, &case, swept)
+    answer_case(alloc, &case, edges, swept)
 }
 
-/// The same for a case.
-pub(crate) fn answer_case(alloc: Global, case: &Case, swept: Swept) -> Result<AreaAnswer, Memory>
-    requires case { IsCaseOf case.now (moves_of swept.events.items) }
+/// The same for a case and its edges.
+pub(crate) fn answer_case(
+    alloc: Global,
+    case: &Case,
+    edges: Vec<Edge>,
+    swept: Swept,
+) -> Result<AreaAnswer, Memory>
+    requires case { IsCaseOf case.now swept.events }
+    requires edges { edges.items ≡ edges_of case.now }
     requires least { IsLeastLevel (plan case.now.drawing.now) case.now.level }
-    requires few { length case.now.list.now.edges.items < 2 ^ 31 }
-    requires timed { HasTimetable case.now.list.now.edges.items (moves_of swept.events.items) }
-    requires cells { gaps_of swept.cells.items ≡ closed_gaps (moves_of swept.events.items) }
+    requires few { length (edges_of case.now) < 2 ^ 31 }
+    requires timed { HasTimetable (edges_of case.now) swept.events }
+    requires cells { gaps_of swept.cells.items ≡ closed_gaps swept.events }
     ensures { IfOk result (IsAnswer (plan case.now.drawing.now)) }
 {
-    let spots = spots_of_run(alloc, case, &swept)?;
+    let spots = spots_of_run(alloc, case, edges, &swept)?;
     match first_spot_on(&spots) {
         Some(on) => Ok(AreaAnswer::Fault(AreaFinding::On {
             point: on.point,
@@ -76,17 +84,24 @@ pub(crate) fn answer_case(alloc: Global, case: &Case, swept: Swept) -> Result<Ar
     }
 }
 
-/// Where the objects' points of the case lie, by its run.
-fn spots_of_run(alloc: Global, case: &Case, swept: &Swept) -> Result<Vec<Spot>, Memory>
-    requires case { IsCaseOf case.now (moves_of swept.now.events.items) }
-    requires few { length case.now.list.now.edges.items < 2 ^ 31 }
+/// Where the objects' points of the case lie, by its edges, which are then let go, and their run.
+fn spots_of_run(
+    alloc: Global,
+    case: &Case,
+    edges: Vec<Edge>,
+    swept: &Swept,
+) -> Result<Vec<Spot>, Memory>
+    requires case { IsCaseOf case.now swept.now.events }
+    requires edges { edges.items ≡ edges_of case.now }
+    requires few { length (edges_of case.now) < 2 ^ 31 }
     ensures { IfOk result (λ spots. AreSpots (plan case.now.drawing.now) case.now.level
-        (moves_of swept.now.events.items) spots.items) }
+        swept.now.events spots.items) }
 {
     let swept_case = SweptCase {
         drawing: case.drawing,
         level: case.level,
-        list: case.list,
+        edges: &edges,
+        owners: case.owners,
         facings: case.facings,
         swept,
     };
@@ -100,31 +115,28 @@ fn answer_placed(
     spots: &[Spot],
     swept: Swept,
 ) -> Result<AreaAnswer, Memory>
-    requires case { IsCaseOf case.now (moves_of swept.events.items) }
+    requires case { IsCaseOf case.now swept.events }
     requires least { IsLeastLevel (plan case.now.drawing.now) case.now.level }
-    requires few { length case.now.list.now.edges.items < 2 ^ 31 }
-    requires timed { HasTimetable case.now.list.now.edges.items (moves_of swept.events.items) }
-    requires cells { gaps_of swept.cells.items ≡ closed_gaps (moves_of swept.events.items) }
+    requires few { length (edges_of case.now) < 2 ^ 31 }
+    requires timed { HasTimetable (edges_of case.now) swept.events }
+    requires cells { gaps_of swept.cells.items ≡ closed_gaps swept.events }
     requires placed { ArePlacedOff (plan case.now.drawing.now) case.now.level
-        (moves_of swept.events.items) spots.now }
+        swept.events spots.now }
     ensures { IfOk result (IsAnswer (plan case.now.drawing.now)) }
 {
-    let mesh = mesh_of_run(alloc, &case.list.edges, &swept)?;
+    let mesh = mesh_of_run(alloc, case, &swept)?;
     let positions = positions(alloc, &swept.events)?;
-    let swept = without_events(alloc, swept);
-    let labelled = label(alloc, mesh, &swept)?;
+    let cells = cells_alone(swept);
+    let labelled = label(alloc, mesh, &cells)?;
     let _ = labelled.mesh.edges();
-    answer_outlined(alloc, case, spots, &labelled, &swept, positions)
+    answer_outlined(alloc, case, spots, &labelled, &cells, positions)
 }
 
-/// The cells of a run without its events.
-fn without_events(alloc: Global, swept: Swept) -> Swept
-    ensures { result.cells.items ≡ swept.cells.items }
+/// The cells of a run, whose events are let go.
+fn cells_alone(swept: Swept) -> Vec<Cell>
+    ensures { result.items ≡ swept.cells.items }
 {
-    Swept {
-        events: Vec::new(alloc),
-        cells: swept.cells,
-    }
+    swept.cells
 }
 
 /// The same, with the mesh of the run and its faces, the cells, and the positions of the events.
@@ -133,19 +145,19 @@ fn answer_outlined(
     case: &Case,
     spots: &[Spot],
     labelled: &Labelled,
-    swept: &Swept,
+    cells: &[Cell],
     positions: Vec<u32>,
 ) -> Result<AreaAnswer, Memory>
     requires run { IsOutlined case.now spots.now labelled.now.mesh labelled.now.count
-        (gaps_of swept.now.cells.items) positions.items }
+        (gaps_of cells.now) positions.items }
     requires least { IsLeastLevel (plan case.now.drawing.now) case.now.level }
-    requires few { length case.now.list.now.edges.items < 2 ^ 31 }
+    requires few { length (edges_of case.now) < 2 ^ 31 }
     ensures { IfOk result (IsAnswer (plan case.now.drawing.now)) }
 {
     match judge_case(alloc, case, spots, &labelled.mesh, labelled.count)? {
         Judged::Faulty(finding) => Ok(AreaAnswer::Fault(finding)),
         Judged::Owned(owners) => Ok(AreaAnswer::Proved(certify_case(
-            alloc, case, spots, labelled, swept, positions, &owners,
+            alloc, case, spots, labelled, cells, positions, &owners,
         )?)),
     }
 }

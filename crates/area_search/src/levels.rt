@@ -157,7 +157,7 @@ fn answer_at(alloc: Global, drawing: &Drawing, level: u8) -> Result<AreaAnswer, 
     ensures { IfOk result (IsAnswer (plan drawing.now)) }
 {
     match edge_list(alloc, drawing, level)? {
-        Some(list) => answer_edges(alloc, drawing, level, &list),
+        Some(list) => answer_edges(alloc, drawing, level, list),
         None => unreachable!(),
     }
 }
@@ -167,12 +167,12 @@ fn answer_edges(
     alloc: Global,
     drawing: &Drawing,
     level: u8,
-    list: &EdgeList,
+    list: EdgeList,
 ) -> Result<AreaAnswer, Memory>
     requires few { length drawing.now.curves.items ≤ 16000000 }
     requires least { IsLeastLevel (plan drawing.now) level }
-    requires list { IsTubedList (plan drawing.now) level list.now }
-    requires usable { AreUsable (plan drawing.now) list.now.edges.items }
+    requires list { IsTubedList (plan drawing.now) level list }
+    requires usable { AreUsable (plan drawing.now) list.edges.items }
     ensures { IfOk result (IsAnswer (plan drawing.now)) }
 {
     tubes::laws::few_edges();

@@ -2,18 +2,19 @@
 ghost use Rattle.std.specs.Prelude.{◌≡◌, ℕ, ◌+◌, ◌^◌, ◌<◌, ◌≤◌, [], length};
 ghost use Rattle.std.specs.Prelude.{IfOk, OnOk};
 ghost use Rattle.event_mesh.specs.Turned.{IsTurned, ending_at};
-ghost use Rattle.line_sweep.specs.Kinds.{move_of, moves_of};
+ghost use Rattle.line_sweep.specs.Kinds.{move_of};
 ghost use Rattle.plane.specs.Lists.{Has};
 ghost use Rattle.plane.specs.Runs.Moves.{Fit, step_of, steps_from};
 ghost use Rattle.plane.specs.Runs.Steps.{Run, after};
 ghost use Rattle.straight_predicates.specs.EdgeEvents.{IsNoted};
 ghost use Rattle.straight_predicates.specs.EdgeLists.{edge_of};
+ghost use Rattle.area_search.specs.Cases.{edges_of};
 ghost use Rattle.area_search.specs.Meshing.{HasNoted, IsWidest, NotesStep};
 
+use super::case::Case;
 use event_mesh::{mesh_of, turn_event};
 use half_edges::{HalfEdgeId, Mesh};
-use line_sweep::{Event, Swept};
-use plane::Edge;
+use line_sweep::{Event, Events, Swept};
 use ports::Memory;
 use std::alloc::Global;
 use straight_predicates::Row;
@@ -27,29 +28,30 @@ struct Noted {
     ended: Vec<u32>,
 }
 
-/// The mesh of the run that the events of a sweep over these edges make, with all events turned.
-/// The only error is out of memory. It takes time linear in the edges and in what the live list
-/// moves, as the sweep does, and at most 48 bytes an edge, of which 32 stay.
-pub(crate) fn mesh_of_run(alloc: Global, edges: &[Edge], swept: &Swept) -> Result<Mesh, Memory>
-    requires few { length edges.now < 2 ^ 31 }
-    requires run { Run (length edges.now) (edge_of edges.now) (steps_from []
-        (moves_of swept.now.events.items)) }
-    requires fit { Fit [] (moves_of swept.now.events.items) }
-    ensures turned { IfOk result (λ mesh. IsTurned (length edges.now) (edge_of edges.now)
-        (steps_from [] (moves_of swept.now.events.items)) mesh (length (steps_from []
-        (moves_of swept.now.events.items)))) }
+/// The mesh of the run that the events of a sweep over the edges of a case make, with all events
+/// turned. The only error is out of memory. It takes time linear in the edges and in what the live
+/// list moves, as the sweep does, and at most 48 bytes an edge, of which 32 stay.
+pub(crate) fn mesh_of_run(alloc: Global, case: &Case, swept: &Swept) -> Result<Mesh, Memory>
+    requires few { length (edges_of case.now) < 2 ^ 31 }
+    requires count { length case.now.owners.now ≡ length (edges_of case.now) }
+    requires run { Run (length (edges_of case.now)) (edge_of (edges_of case.now)) (steps_from []
+        swept.now.events) }
+    requires fit { Fit [] swept.now.events }
+    ensures turned { IfOk result (λ mesh. IsTurned (length (edges_of case.now))
+        (edge_of (edges_of case.now)) (steps_from [] swept.now.events) mesh
+        (length (steps_from [] swept.now.events))) }
 {
     event_mesh::laws::turned_events();
-    let noted = note_events(alloc, edges, &swept.events)?;
-    let events = swept.events.len() as u32;
-    let mut mesh = mesh_of(alloc, events, &noted.low, &noted.high)?;
+    let noted = note_events(alloc, case, &swept.events)?;
+    let mut mesh = mesh_of(alloc, swept.events.len(), &noted.low, &noted.high)?;
     let mut fan = vec![in alloc; HalfEdgeId(0); widest(&swept.events)]?;
     let mut from = 0;
-    for event in &swept.events {
+    for number in 0..swept.events.len() {
+        let event = swept.events.get(number);
         let upto = from + event.ending as usize;
         turn_event(
             &mut mesh,
-            &event.starting,
+            event.starting,
             &noted.ended[from..upto],
             &mut fan,
         );
@@ -59,33 +61,36 @@ pub(crate) fn mesh_of_run(alloc: Global, edges: &[Edge], swept: &Swept) -> Resul
 }
 
 /// The most edges that start or end at one event, and 0 where there is no event.
-fn widest(events: &[Event]) -> usize
-    ensures { IsWidest (moves_of events.now) (length events.now) result }
+fn widest(events: &Events) -> usize
+    ensures { IsWidest events.now (length events.now) result }
 {
     let mut most = 0;
-    for event in events {
+    for number in 0..events.len() {
+        let event = events.get(number);
         most = most.max(event.starting.len() + event.ending as usize);
     }
     most
 }
 
 /// Replays all events and notes them.
-fn note_events(alloc: Global, edges: &[Edge], events: &[Event]) -> Result<Noted, Memory>
-    requires few { length events.now < 2 ^ 32 }
-    requires run { Run (length edges.now) (edge_of edges.now) (steps_from []
-        (moves_of events.now)) }
-    requires fit { Fit [] (moves_of events.now) }
-    ensures { IfOk result (λ noted. HasNoted (length edges.now) (steps_from []
-        (moves_of events.now)) (length events.now) noted) }
+fn note_events(alloc: Global, case: &Case, events: &Events) -> Result<Noted, Memory>
+    requires count { length case.now.owners.now ≡ length (edges_of case.now) }
+    requires run { Run (length (edges_of case.now)) (edge_of (edges_of case.now)) (steps_from []
+        events.now) }
+    requires fit { Fit [] events.now }
+    ensures { IfOk result (λ noted. HasNoted (length (edges_of case.now)) (steps_from []
+        events.now) (length events.now) noted) }
 {
-    let low = vec![in alloc; 0u32; edges.len()]?;
-    let high = vec![in alloc; 0u32; edges.len()]?;
-    let ended = Vec::with_capacity(alloc, edges.len())?;
+    let edges = case.owners.len();
+    let low = vec![in alloc; 0u32; edges]?;
+    let high = vec![in alloc; 0u32; edges]?;
+    let ended = Vec::with_capacity(alloc, edges)?;
     let mut live = Row::new(alloc);
     let mut ending = Vec::new(alloc);
     let mut noted = Noted { low, high, ended };
-    for (number, event) in events.iter().enumerate() {
-        note_event(number as u32, event, &mut live, &mut ending, &mut noted)?;
+    for number in 0..events.len() {
+        let event = events.get(number);
+        note_event(number, &event, &mut live, &mut ending, &mut noted)?;
     }
     Ok(noted)
 }
@@ -94,13 +99,13 @@ fn note_events(alloc: Global, edges: &[Edge], events: &[Event]) -> Result<Noted,
 /// end.
 fn note_event(
     number: u32,
-    event: &Event,
+    event: &Event<'_>,
     live: &mut Row<u32>,
     ending: &mut Vec<u32>,
     noted: &mut Noted,
 ) -> Result<(), Memory>
     requires block { event.now.position + event.now.ending ≤ length live.old }
-    requires starting { (e : ℕ) → Has e event.now.starting.items
+    requires starting { (e : ℕ) → Has e event.now.starting.now
         → e < length noted.old.low.items }
     requires ending { (e : ℕ) → Has e (ending_at live.old (move_of event.now))
         → e < length noted.old.high.items }
@@ -112,10 +117,10 @@ fn note_event(
     let from = event.position as usize;
     let count = event.ending as usize;
     live.copy_part(from, count, ending)?;
-    note(&mut noted.low, &event.starting, number);
+    note(&mut noted.low, event.starting, number);
     note(&mut noted.high, ending, number);
     noted.ended.extend_from_slice(ending)?;
-    live.replace(from, count, &event.starting)?;
+    live.replace(from, count, event.starting)?;
     Ok(())
 }
 

@@ -1,6 +1,6 @@
 // Whether the corners of tubes are their own, by the events of a run.
 ghost use Rattle.std.specs.Prelude.{◌≡◌, ℕ, ◌<◌, IsTrue, length};
-ghost use Rattle.line_sweep.specs.Kinds.{move_of, moves_of};
+ghost use Rattle.line_sweep.specs.Kinds.{move_of};
 ghost use Rattle.line_sweep.specs.Sweeping.{HasTimetable};
 ghost use Rattle.plane.specs.Forms.Meets.{IsEnd};
 ghost use Rattle.plane.specs.Rule.Plans.{plan};
@@ -11,18 +11,17 @@ ghost use Rattle.area_search.specs.CaseRoots.{owner_at};
 ghost use Rattle.area_search.specs.OwnCorners.{AreOwn, HasOwnCorners, HasTwoAt, HasTwoEdges};
 ghost use Rattle.area_search.specs.OwnCorners.{IsOfTube, IsOwnEnd, IsOtherAt};
 
-use line_sweep::Event;
+use line_sweep::{Event, Events};
 use plane::{Drawing, Edge, Point};
-use straight_predicates::before;
 use tubes::{EdgeList, Part};
 
 /// Whether each corner of a tube, other than the ends of its half arc, is an end of two edges of
 /// that tube, which stand one after the other in the list, and of no other edge; of the list of the
 /// drawing's edges at some level. The events are those of the edges. It takes a search among the
 /// events for each corner, and no memory.
-pub(crate) fn are_corners_own(drawing: &Drawing, list: &EdgeList, events: &[Event]) -> bool
+pub(crate) fn are_corners_own(drawing: &Drawing, list: &EdgeList, events: &Events) -> bool
     requires list { (level : ℕ) × IsTubedList (plan drawing.now) level list.now }
-    requires timed { HasTimetable list.now.edges.items (moves_of events.now) }
+    requires timed { HasTimetable list.now.edges.items events.now }
     ensures { IsTrue result → (level : ℕ) → IsTubedList (plan drawing.now) level list.now
         → (p : AnyPoint) → IsOwnCorner (plan drawing.now) level p }
 {
@@ -36,12 +35,12 @@ pub(crate) fn are_corners_own(drawing: &Drawing, list: &EdgeList, events: &[Even
 }
 
 /// The same of the corners at one edge, where those at all edges before it are so.
-fn has_own_corners(drawing: &Drawing, list: &EdgeList, events: &[Event], number: usize) -> bool
+fn has_own_corners(drawing: &Drawing, list: &EdgeList, events: &Events, number: usize) -> bool
     requires list { (level : ℕ) × IsTubedList (plan drawing.now) level list.now }
     requires there { number < length list.now.edges.items }
-    requires before { AreOwn (plan drawing.now) list.now (moves_of events.now) number }
+    requires before { AreOwn (plan drawing.now) list.now events.now number }
     ensures { IsTrue result
-        → HasOwnCorners (plan drawing.now) list.now (moves_of events.now) number }
+        → HasOwnCorners (plan drawing.now) list.now events.now number }
 {
     match list.owners[number].part {
         Part::Straight => true,
@@ -54,19 +53,13 @@ fn has_own_corners(drawing: &Drawing, list: &EdgeList, events: &[Event], number:
 }
 
 /// Whether this end of an edge is an end of its curve, or such a corner.
-fn is_own_end(
-    drawing: &Drawing,
-    list: &EdgeList,
-    events: &[Event],
-    number: usize,
-    at: Point,
-) -> bool
+fn is_own_end(drawing: &Drawing, list: &EdgeList, events: &Events, number: usize, at: Point) -> bool
     requires list { (level : ℕ) × IsTubedList (plan drawing.now) level list.now }
     requires there { number < length list.now.edges.items }
-    requires before { AreOwn (plan drawing.now) list.now (moves_of events.now) number }
+    requires before { AreOwn (plan drawing.now) list.now events.now number }
     requires tube { IsOfTube (owner_at list.now.owners.items number).part }
     ensures { IsTrue result
-        → IsOwnEnd (plan drawing.now) list.now (moves_of events.now) number at }
+        → IsOwnEnd (plan drawing.now) list.now events.now number at }
 {
     tubes::laws::chains_have_edges();
     tubes::laws::tubed_lists();
@@ -99,17 +92,17 @@ fn is_end(edge: &Edge, at: Point) -> bool
 }
 
 /// Whether the search finds an event at the point, and two edges end or start there.
-fn has_two_at(events: &[Event], at: Point) -> bool
-    ensures { IsTrue result → HasTwoAt (moves_of events.now) at }
+fn has_two_at(events: &Events, at: Point) -> bool
+    ensures { IsTrue result → HasTwoAt events.now at }
 {
-    let place = events.partition_point(move |event| before(event.at, at));
-    match events.get(place) {
-        Some(event) => event.at == at && has_two_edges(event),
-        None => false,
+    let number = events.first_from(at);
+    if number < events.len() && events.at(number) == at {
+        return has_two_edges(&events.get(number));
     }
+    false
 }
 
-fn has_two_edges(event: &Event) -> bool
+fn has_two_edges(event: &Event<'_>) -> bool
     ensures { IsTrue result → HasTwoEdges (move_of event.now) }
 {
     matches!(

@@ -1,6 +1,5 @@
 // Where the objects' points of a case lie.
 ghost use Rattle.std.specs.Prelude.{◌≡◌, ◌^◌, ◌<◌, IfOk, length};
-ghost use Rattle.line_sweep.specs.Kinds.{moves_of};
 ghost use Rattle.plane.specs.CurveRuns.FacedTubes.{LiesInTube};
 ghost use Rattle.plane.specs.Rule.Curves.{arc};
 ghost use Rattle.plane.specs.Rule.HalfArcs.{HasSide, power};
@@ -27,12 +26,12 @@ use tubes::{Facing, Part};
 /// point.
 pub(crate) fn spots_at(alloc: Global, case: &SweptCase) -> Result<Vec<Spot>, Memory>
     requires case { IsSweptCase case.now }
-    requires few { length case.now.list.now.edges.items < 2 ^ 31 }
+    requires few { length case.now.edges.now < 2 ^ 31 }
     ensures { IfOk result (λ spots. AreSpots (plan case.now.drawing.now) case.now.level
-        (moves_of case.now.swept.now.events.items) spots.items) }
+        case.now.swept.now.events spots.items) }
 {
     let points = points_at(alloc, &case.drawing.points)?;
-    let places = locate(alloc, &case.list.edges, case.swept, &points)?;
+    let places = locate(alloc, case.edges, case.swept, &points)?;
     let mut spots = Vec::with_capacity(alloc, points.len())?;
     for number in 0..points.len() {
         spots.push(spot_of(case, points[number], places[number]))?;
@@ -43,14 +42,14 @@ pub(crate) fn spots_at(alloc: Global, case: &SweptCase) -> Result<Vec<Spot>, Mem
 /// Where a point lies, by its place among the edges.
 fn spot_of(case: &SweptCase, at: Point, place: Place) -> Spot
     requires case { IsSweptCase case.now }
-    requires place { IsPlaceOf case.now.list.now.edges.items
-        (moves_of case.now.swept.now.events.items) at place }
+    requires place { IsPlaceOf case.now.edges.now
+        case.now.swept.now.events at place }
     ensures { IsSpot (plan case.now.drawing.now) case.now.level
-        (moves_of case.now.swept.now.events.items) at result }
+        case.now.swept.now.events at result }
 {
     match place {
         Place::OnEdge(edge) => {
-            let owner = case.list.owners[edge as usize];
+            let owner = case.owners[edge as usize];
             match owner.part {
                 Part::Straight => Spot::On(owner.curve),
                 _ => spot_in_tube(case, owner.curve, at),
@@ -74,12 +73,12 @@ fn spot_of(case: &SweptCase, at: Point, place: Place) -> Spot
 /// The half arc whose tube lies over an edge, as the edge faces it from within.
 fn tube_over(case: &SweptCase, lower: Option<u32>) -> Option<u32>
     requires case { IsSweptCase case.now }
-    requires known { IsOver (length case.now.list.now.edges.items) lower }
+    requires known { IsOver (length case.now.edges.now) lower }
     ensures { IsTubeOver (plan case.now.drawing.now) case.now.level lower result }
 {
     let edge = lower?;
     if case.facings[edge as usize] == Facing::Above {
-        Some(case.list.owners[edge as usize].curve)
+        Some(case.owners[edge as usize].curve)
     } else {
         None
     }
@@ -91,7 +90,7 @@ fn spot_in_tube(case: &SweptCase, number: u32, at: Point) -> Spot
     requires tube { LiesInTube (plan case.now.drawing.now)
         (drawn_bays (plan case.now.drawing.now) case.now.level) number at }
     ensures { IsSpot (plan case.now.drawing.now) case.now.level
-        (moves_of case.now.swept.now.events.items) at result }
+        case.now.swept.now.events at result }
 {
     match side_in_tube(&case.drawing.curves[number as usize], at) {
         Side::Inside => Spot::InTube {

@@ -2,11 +2,11 @@
 ghost use Rattle.std.specs.Prelude.{All, ◌≡◌, ◌++◌, ◌^◌, ◌<◌, IfOk, OnOk};
 ghost use Rattle.std.specs.List.{flat_map};
 ghost use Rattle.faces.specs.Joined.{over_of, under_of};
-ghost use Rattle.line_sweep.specs.Kinds.{gap_of, gaps_of, moves_of};
+ghost use Rattle.line_sweep.specs.Kinds.{gap_of, gaps_of};
 ghost use Rattle.area_search.specs.Writing.{IsSmallCell, cell_roots, positions_of};
 
 use half_edges::HalfEdgeId;
-use line_sweep::{Cell, Event};
+use line_sweep::{Cell, Events};
 use ports::Memory;
 use std::alloc::Global;
 
@@ -26,7 +26,7 @@ fn add_cell(roots: &mut Vec<HalfEdgeId>, cell: &Cell) -> Result<(), Memory>
     requires { IsSmallCell cell.now }
     ensures { OnOk result (roots.new.items ≡ roots.old.items ++ cell_roots (gap_of cell.now)) }
 {
-    match (cell.lower, cell.upper) {
+    match (cell.lower.get(), cell.upper.get()) {
         (None, Some(edge)) => roots.push(under(edge))?,
         (Some(edge), None) => roots.push(over(edge))?,
         _ => {}
@@ -49,12 +49,12 @@ pub(crate) fn under(edge: u32) -> HalfEdgeId
 }
 
 /// The position of each event.
-pub(crate) fn positions(alloc: Global, events: &[Event]) -> Result<Vec<u32>, Memory>
-    ensures { IfOk result (λ ps. ps.items ≡ positions_of (moves_of events.now)) }
+pub(crate) fn positions(alloc: Global, events: &Events) -> Result<Vec<u32>, Memory>
+    ensures { IfOk result (λ ps. ps.items ≡ positions_of events.now) }
 {
-    let mut positions = Vec::with_capacity(alloc, events.len())?;
-    for event in events {
-        positions.push(event.position)?;
+    let mut positions = Vec::with_capacity(alloc, events.len() as usize)?;
+    for number in 0..events.len() {
+        positions.push(events.get(number).position)?;
     }
     Ok(positions)
 }

@@ -23,7 +23,6 @@ pub struct Graph<'a> {
 impl<'a> Graph<'a> {
     /// The graph of a mesh and cells. The only error is out of memory.
     pub fn new(alloc: Global, mesh: &'a Mesh, cells: &'a [Cell]) -> Result<Graph<'a>, Memory>
-        requires few { length cells.now < 2 ^ 60 }
         requires known { AreKnown (size mesh.now) (gaps_of cells.now) }
         ensures mesh { IfOk result (λ g. g.mesh.now ≡ mesh.now) }
         ensures cells { IfOk result (λ g. g.cells.now ≡ cells.now) }

@@ -14,7 +14,7 @@ use super::searching::{Search, UNSET};
 use super::sides::{over, under};
 use super::spreading::spread;
 use half_edges::{FaceId, HalfEdgeId, Mesh};
-use line_sweep::{Cell, Swept};
+use line_sweep::Cell;
 use ports::Memory;
 use std::alloc::Global;
 
@@ -22,14 +22,14 @@ use std::alloc::Global;
 /// round a face, by cells of the sweep and over the border, and face 0 exactly where they are
 /// joined with one that was beside the border. The other faces are numbered in the order of their
 /// least half-edge. The only error is out of memory, and the mesh is then gone. It takes time
-/// linear in the half-edges and the cells, and for a while 16 bytes a half-edge and 8 a cell.
-pub fn label(alloc: Global, mesh: Mesh, swept: &Swept) -> Result<Labelled, Memory>
-    requires known { AreKnown (size mesh) (gaps_of swept.now.cells.items) }
+/// linear in the half-edges and the cells, and for a while 12 bytes a half-edge and 8 a cell.
+pub fn label(alloc: Global, mesh: Mesh, cells: &[Cell]) -> Result<Labelled, Memory>
+    requires known { AreKnown (size mesh) (gaps_of cells.now) }
     ensures unchanged { IfOk result (λ l. l.mesh ≡ with_faces mesh l.mesh.face) }
-    ensures faces { IfOk result (λ l. AreFaces mesh (gaps_of swept.now.cells.items) l.mesh.face) }
+    ensures faces { IfOk result (λ l. AreFaces mesh (gaps_of cells.now) l.mesh.face) }
     ensures count { IfOk result (λ l. l.count ≡ suc (greatest l.mesh.face)) }
 {
-    let found = find_faces(alloc, &mesh, &swept.cells)?;
+    let found = find_faces(alloc, &mesh, cells)?;
     let mut mesh = mesh;
     mesh.set_faces(&found.faces);
     Ok(Labelled {
@@ -46,7 +46,6 @@ struct Found {
 }
 
 fn find_faces(alloc: Global, mesh: &Mesh, cells: &[Cell]) -> Result<Found, Memory>
-    requires few { length cells.now < 2 ^ 60 }
     requires known { AreKnown (size mesh.now) (gaps_of cells.now) }
     ensures faces { IfOk result (λ f. AreFaces mesh.now (gaps_of cells.now) f.faces.items) }
     ensures count { IfOk result (λ f. f.count ≡ suc (greatest f.faces.items)) }
@@ -95,7 +94,7 @@ fn reach_side(graph: &Graph, search: &mut Search, cell: &Cell)
     ensures border { (h : ℕ) → AtBorder (gap_of cell.now ∷ []) h
         → slice_index search.new.faces.items h ≡ 0 }
 {
-    match (cell.lower, cell.upper) {
+    match (cell.lower.get(), cell.upper.get()) {
         (None, Some(edge)) => search.reach(under(edge), FaceId(0)),
         (Some(edge), None) => search.reach(over(edge), FaceId(0)),
         _ => {}

@@ -19,8 +19,9 @@
 //!   the least numbers of steps is a law (`laws`).
 //! - **Not here:** which object a face belongs to, and which half-edges are roots.
 //!
-//! Cost: linear in the half-edges and the cells. While `label` searches it takes 16 bytes a
-//! half-edge and 8 a cell, and `links` the same; neither keeps them.
+//! Cost: linear in the half-edges and the cells. While `label` searches it takes 12 bytes a
+//! half-edge and 8 a cell, and `links` the same; neither keeps them. The places of the rows are
+//! numbers of 32 bits: 2^31 cells and more, some 40 GB of them, are answered as out of memory.
 #![tactic(auto)]
 
 mod graph;

@@ -14,7 +14,7 @@ use super::labelled::Labelled;
 use super::ranks::ranks_from;
 use certificate::{HalfNote, Link};
 use half_edges::HalfEdgeId;
-use line_sweep::Swept;
+use line_sweep::Cell;
 use ports::Memory;
 use std::alloc::Global;
 
@@ -22,21 +22,21 @@ use std::alloc::Global;
 /// rank, and the first step of such a way as the link. A step goes to the next or the previous
 /// half-edge or across a cell between two edges; where several begin such a way, the next one
 /// counts before the previous one, and that before those across cells, by number. The only error is
-/// out of memory. It takes time linear in the half-edges and the cells, and for a while 16 bytes a
+/// out of memory. It takes time linear in the half-edges and the cells, and for a while 12 bytes a
 /// half-edge and 8 a cell; the notes take 16 bytes a half-edge.
 pub fn links(
     alloc: Global,
     labelled: &Labelled,
-    swept: &Swept,
+    cells: &[Cell],
     roots: &[HalfEdgeId],
 ) -> Result<Vec<HalfNote>, Memory>
-    requires known { AreKnown (size labelled.now.mesh) (gaps_of swept.now.cells.items) }
+    requires known { AreKnown (size labelled.now.mesh) (gaps_of cells.now) }
     requires within { (h : ℕ) → Has h roots.now → h < size labelled.now.mesh }
-    requires rooted { AreRooted labelled.now.mesh (gaps_of swept.now.cells.items) roots.now }
-    ensures { IfOk result (λ notes. AreNotes labelled.now.mesh (gaps_of swept.now.cells.items)
+    requires rooted { AreRooted labelled.now.mesh (gaps_of cells.now) roots.now }
+    ensures { IfOk result (λ notes. AreNotes labelled.now.mesh (gaps_of cells.now)
         roots.now notes.items) }
 {
-    let graph = Graph::new(alloc, &labelled.mesh, &swept.cells)?;
+    let graph = Graph::new(alloc, &labelled.mesh, cells)?;
     let ranks = ranks_from(alloc, &graph, roots)?;
     notes_of(alloc, &graph, &ranks)
 }

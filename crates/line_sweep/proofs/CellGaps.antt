@@ -24,6 +24,10 @@ same_cell [] i b d l = absurd (omega (arith, l))
 same_cell (c ∷ cells) zero b d l = refl
 same_cell (c ∷ cells) (suc i) b d l = same_cell cells i b d (omega (arith, l))
 
+-- a cell that a loop takes
+pub item_is : (cells : List Cell) (i : ℕ) (c : Cell) → c ≡ get_or cells i c → i < length cells → c ≡ get_or cells i no_cell
+item_is cells i c e l = e ∙ same_cell cells i c no_cell l
+
 pub one_more : {X : Type 0} (P : X → Type 0) (cells : List X) (i : ℕ) (b : X) → i < length cells → ((k : ℕ) (d : X) → k < i → P (get_or cells k d)) → P (get_or cells i b) → (k : ℕ) (d : X) → k < i + 1 → P (get_or cells k d)
 one_more P cells i b l f p k d m =
     by_lt k i (λ (n : k < i). f k d n)

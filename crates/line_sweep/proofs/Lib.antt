@@ -2,7 +2,9 @@ pub mod PlaneLaws
 pub mod Parts
 pub mod Keys
 pub mod CellGaps
+pub mod BlockMoves
 pub mod EventEdges
+pub mod CellEdges
 pub mod NextEvent
 pub mod Stepping
 pub mod TimedMoves

@@ -1,26 +1,31 @@
 -- Events and cells without where they lie in memory.
-use Rattle.std.specs.Prelude.{◌≡◌, ℕ, ◌<◌, ⊤, List, length, map}
+use Rattle.std.specs.Prelude.{◌≡◌, ℕ, ◌<◌, ⊤, List, [], ◌∷◌, length, map}
 use Rattle.plane.specs.declared.kinds.Edge.{Edge}
 use Rattle.plane.specs.Forms.Meets.{Bad}
 use Rattle.plane.specs.Runs.Moves.{Move}
 use Rattle.plane.specs.Runs.Gaps.{Gap}
 use Rattle.plane.specs.Runs.Timetables.{Timed}
 use Rattle.straight_predicates.specs.EdgeLists.{edge_of}
-use Rattle.line_sweep.specs.declared.kinds.Event.{Event}
+use Rattle.line_sweep.specs.declared.events.EndingBlock.{EndingBlock}
+use Rattle.line_sweep.specs.declared.events.Event.{Event}
 use Rattle.line_sweep.specs.declared.kinds.Cell.{Cell}
 use Rattle.line_sweep.specs.declared.kinds.SweepRefusal.{SweepRefusal}
 use Rattle.line_sweep.specs.declared.kinds.SweepRefusal.TheVariants as refusal
 
 abbrev pub move_of : Event → Move
 move_of v =
-    record { at = v.at; position = v.position; ending = v.ending; starting = v.starting.items }
+    record { at = v.at; position = v.position; ending = v.ending; starting = v.starting.now }
 
 -- The event of a timetable, with its place in the live list.
 abbrev pub move_at_block : Timed → ℕ → ℕ → Move
 move_at_block t p n = record { at = t.at; position = p; ending = n; starting = t.starting }
 
-abbrev pub moves_of : List Event → List Move
-moves_of events = map move_of events
+-- The events of a timetable, each with its block, as far as there are both.
+abbrev pub moves_at_blocks : List Timed → List EndingBlock → List Move
+moves_at_blocks [] blocks = []
+moves_at_blocks (t ∷ table) [] = []
+moves_at_blocks (t ∷ table) (b ∷ blocks) =
+    move_at_block t b.position b.count ∷ moves_at_blocks table blocks
 
 abbrev pub gap_of : Cell → Gap
 gap_of c = record { lower = c.lower; upper = c.upper; event = c.event }

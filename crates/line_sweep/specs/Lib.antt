@@ -1,4 +1,5 @@
 pub mod Blocks
+pub mod CellEdges
 pub mod Kinds
 pub mod Held
 pub mod Sweeping

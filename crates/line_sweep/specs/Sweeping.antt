@@ -1,5 +1,5 @@
 -- How far a sweep has come.
-use Rattle.std.specs.Prelude.{◌≡◌, ℕ, ◌+◌, List, [], length, map, drop}
+use Rattle.std.specs.Prelude.{◌≡◌, ℕ, List, [], length, map, drop}
 use Rattle.plane.specs.declared.kinds.Point.{Point}
 use Rattle.plane.specs.declared.kinds.Edge.{Edge}
 use Rattle.plane.specs.Runs.Gaps.{Gap, open_gaps, closed_gaps}
@@ -11,7 +11,7 @@ use Rattle.straight_predicates.specs.EdgeLists.{edge_of}
 use Rattle.line_sweep.specs.declared.kinds.Cell.{Cell}
 use Rattle.line_sweep.specs.declared.state.State.{State}
 use Rattle.line_sweep.specs.Held.{IsHeld}
-use Rattle.line_sweep.specs.Kinds.{gaps_of, moves_of}
+use Rattle.line_sweep.specs.Kinds.{gaps_of, moves_at_blocks}
 
 -- The points of the events.
 abbrev pub points_of : List Timed → List Point
@@ -32,8 +32,8 @@ pub record IsSweptTo (edges : List Edge) (table : List Timed) (k : ℕ) (live ke
 -- The same of what the program keeps.
 abbrev pub HasSwept : List Edge → List Timed → ℕ → State → Type 0
 HasSwept edges table k s =
-    IsSweptTo edges table k s.live s.keys s.open (moves_of s.swept.events.items)
-    (gaps_of s.swept.cells.items)
+    IsSweptTo edges table k s.live s.keys s.open (moves_at_blocks table s.blocks.items)
+    (gaps_of s.cells.items)
 
 -- The moves are those of the timetable of the edges, each at its place of the live list.
 pub record HasTimetable (edges : List Edge) (moves : List Move) : Type 0 where

@@ -1,12 +1,14 @@
 // The cells that an event opens, and whether the edges of one are bad.
-ghost use Rattle.std.specs.Prelude.{◌≡◌, All, IfErr, OnOk, Some};
+ghost use Rattle.std.specs.Prelude.{◌≡◌, ℕ, ◌^◌, ◌<◌, All, IfErr, OnOk, Some};
 ghost use Rattle.plane.specs.Forms.Meets.{Bad};
 ghost use Rattle.plane.specs.Runs.Gaps.{gaps_between};
 ghost use Rattle.straight_predicates.specs.EdgeLists.{edge_of, AreSorted, AreAllClose};
+ghost use Rattle.plane.specs.Lists.{Has};
+ghost use Rattle.line_sweep.specs.CellEdges.{IsCellEdge};
 ghost use Rattle.line_sweep.specs.Held.{HasEdges, IsBadCell, IsFineCell};
 ghost use Rattle.line_sweep.specs.Kinds.{gaps_of};
 
-use super::kinds::Cell;
+use super::kinds::{Cell, CellEdge};
 use plane::Edge;
 use ports::Memory;
 use straight_predicates::{Meet, meet};
@@ -19,12 +21,15 @@ pub fn open_cells(
     upper: Option<u32>,
     event: u32,
 ) -> Result<(), Memory>
+    requires lower { IsCellEdge lower }
+    requires starting { (e : ℕ) → Has e starting.now → e < 2 ^ 31 }
+    requires upper { IsCellEdge upper }
     ensures { OnOk result (gaps_of opened.new.items ≡ gaps_between event lower starting.now upper) }
 {
     opened.clear();
-    let mut below = lower;
+    let mut below = CellEdge::new(lower);
     for edge in starting {
-        let above = Some(*edge);
+        let above = CellEdge::new(Some(*edge));
         opened.push(Cell {
             lower: below,
             upper: above,
@@ -34,7 +39,7 @@ pub fn open_cells(
     }
     opened.push(Cell {
         lower: below,
-        upper,
+        upper: CellEdge::new(upper),
         event,
     })?;
     Ok(())
@@ -66,7 +71,7 @@ fn test_cell(edges: &[Edge], cell: Cell) -> Result<(), (u32, u32)>
     ensures upper { IfErr result (λ pair. cell.upper ≡ Some pair.1) }
     ensures bad { IfErr result (λ pair. Bad (edge_of edges.now pair.0) (edge_of edges.now pair.1)) }
 {
-    let (Some(lower), Some(upper)) = (cell.lower, cell.upper) else {
+    let (Some(lower), Some(upper)) = (cell.lower.get(), cell.upper.get()) else {
         return Ok(());
     };
     if meet(&edges[lower as usize], &edges[upper as usize]) == Meet::Bad {

@@ -5,7 +5,7 @@ ghost use Rattle.plane.specs.Lists.{Once};
 ghost use Rattle.line_sweep.specs.Held.{AreClosed, ArePut};
 ghost use Rattle.line_sweep.specs.Kinds.{gap_of, gaps_of};
 
-use super::kinds::Cell;
+use super::kinds::{Cell, CellEdge};
 use ports::Memory;
 use slab::Slab;
 
@@ -33,17 +33,17 @@ fn close_cell(closed: &mut Vec<Cell>, cell: Cell) -> Result<(), Memory>
     ensures { OnOk result (gaps_of closed.new.items
         ≡ gaps_of closed.old.items ++ filter is_real (gap_of cell ∷ [])) }
 {
-    if is_real(cell) {
+    if is_real(cell.lower, cell.upper) {
         closed.push(cell)?;
     }
     Ok(())
 }
 
-/// Whether the cell has an edge.
-fn is_real(cell: Cell) -> bool
-    ensures { result ≡ has_side cell.lower cell.upper }
+/// Whether one of the two is an edge.
+fn is_real(lower: CellEdge, upper: CellEdge) -> bool
+    ensures { result ≡ has_side lower upper }
 {
-    cell.lower.is_some() || cell.upper.is_some()
+    lower.get().is_some() || upper.get().is_some()
 }
 
 /// Puts cells into the slab, and writes their keys.

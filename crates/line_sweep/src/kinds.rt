@@ -1,36 +1,61 @@
 // What a sweep answers.
 ghost use Rattle.std.specs.Prelude.{◌≡◌};
+ghost use Rattle.line_sweep.specs.CellEdges.{IsCellEdge};
 ghost use Rattle.line_sweep.specs.declared.kinds.SweepRefusal.TheVariants.{Memory as OutOfMemory};
 
-use plane::Point;
+use super::events::Events;
 use ports::Memory;
 use std::alloc::{AllocError, AllocFailed};
+use std::marker::Model;
 
-/// A point where edges end or start.
-#[derive(Drop)]
-pub struct Event {
-    pub at: Point,
-    /// How many edges of the live list lie below those that end here.
-    pub position: u32,
-    /// How many edges end here.
-    pub ending: u32,
-    /// The edges that start here, by slope.
-    pub starting: Vec<u32>,
+/// The edge below or above a cell, or none. It takes four bytes, half of an `Option`.
+#[derive(Clone, Copy)]
+pub struct CellEdge(u32);
+
+impl Model for CellEdge {
+    ghost use Rattle.std.specs.Prelude.{ℕ, Option};
+    ghost use Rattle.line_sweep.specs.CellEdges.{code_of, edge_of_code};
+
+    ghost Value = { Option ℕ };
+
+    ghost view = { λ e. edge_of_code e.0 };
+
+    ghost inverse = { λ o. record { 0 = code_of o } };
 }
 
-/// Two neighbours of the live list, None below all and above all, with the event after which they
-/// became neighbours.
-#[derive(Clone, Copy, Debug, PartialEq, Eq)]
+impl CellEdge {
+    /// That edge, or none.
+    pub fn new(edge: Option<u32>) -> CellEdge
+        requires { IsCellEdge edge }
+        ensures { result ≡ edge }
+    {
+        match edge {
+            Some(number) => CellEdge(number + 1),
+            None => CellEdge(0),
+        }
+    }
+
+    /// The edge, if there is one.
+    pub fn get(self) -> Option<u32>
+        ensures { result ≡ self }
+    {
+        if self.0 == 0 { None } else { Some(self.0 - 1) }
+    }
+}
+
+/// Two neighbours of the live list, none below all and none above all, with the event after which
+/// they became neighbours.
+#[derive(Clone, Copy)]
 pub struct Cell {
-    pub lower: Option<u32>,
-    pub upper: Option<u32>,
+    pub lower: CellEdge,
+    pub upper: CellEdge,
     pub event: u32,
 }
 
 /// The events in order, and each cell once, in the order in which they close.
 #[derive(Drop)]
 pub struct Swept {
-    pub events: Vec<Event>,
+    pub events: Events,
     pub cells: Vec<Cell>,
 }
 

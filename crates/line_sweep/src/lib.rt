@@ -20,16 +20,18 @@
 //! move. These are kept in blocks (`straight_predicates::Row`): an event moves at most 8,192
 //! entries of 4 and of 8 bytes, beside those that come and go, however many edges are live, and
 //! passes over the blocks before its place, of which there are at most m / 2,048 + 1. On maps some
-//! hundreds of edges are live, in one block. An event takes memory for the list of its starting
-//! edges, and for the cells and the blocks where they grow.
+//! hundreds of edges are live, in one block. The answer takes 8 bytes an edge, 40 an event and 12 a
+//! cell; it keeps the timetable of the edges, and no list for an event.
 #![tactic(auto)]
 
 mod blocks;
 mod cells;
+mod events;
 mod keeping;
 mod kinds;
 mod state;
 mod sweeping;
 
-pub use kinds::{Cell, Event, SweepRefusal, Swept};
+pub use events::{EndingBlock, Event, Events};
+pub use kinds::{Cell, CellEdge, SweepRefusal, Swept};
 pub use sweeping::sweep;

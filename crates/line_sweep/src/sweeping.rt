@@ -12,13 +12,14 @@ ghost use Rattle.straight_predicates.specs.Tables.{table_of};
 ghost use Rattle.slab.specs.Slab.{ContainsKey};
 ghost use Rattle.line_sweep.specs.Blocks.{IsBlock};
 ghost use Rattle.line_sweep.specs.Held.{IsFineCell, IsHeld, gaps_held};
-ghost use Rattle.line_sweep.specs.Kinds.{IsRefused, gaps_of, move_at_block, moves_of};
+ghost use Rattle.line_sweep.specs.Kinds.{IsRefused, gaps_of, move_at_block};
 ghost use Rattle.line_sweep.specs.Sweeping.{HasSwept, HasTimetable};
 
 use super::blocks::{Block, find_block};
 use super::cells::{open_cells, test_cells};
+use super::events::{EndingBlock, Events};
 use super::keeping::{close_cells, keep_cells};
-use super::kinds::{Cell, Event, SweepRefusal, Swept};
+use super::kinds::{Cell, CellEdge, SweepRefusal, Swept};
 use super::state::State;
 use plane::{Edge, Point};
 use ports::Memory;
@@ -33,33 +34,39 @@ pub fn sweep(alloc: Global, edges: &[Edge]) -> Result<Swept, SweepRefusal>
     requires sorted { AreSorted edges.now }
     requires close { AreAllClose edges.now }
     ensures run { IfOk result (λ s. Run (length edges.now) (edge_of edges.now) (steps_from []
-        (moves_of s.events.items))) }
-    ensures fit { IfOk result (λ s. Fit [] (moves_of s.events.items)) }
-    ensures timed { IfOk result (λ s. HasTimetable edges.now (moves_of s.events.items)) }
+        s.events)) }
+    ensures fit { IfOk result (λ s. Fit [] s.events) }
+    ensures timed { IfOk result (λ s. HasTimetable edges.now s.events) }
     ensures cells { IfOk result (λ s. gaps_of s.cells.items
-        ≡ closed_gaps (moves_of s.events.items)) }
+        ≡ closed_gaps s.events) }
     ensures clear { IfOk result (λ s. (a b : ℕ) → a < length edges.now → b < length edges.now
         → (a ≡ b → ⊥) → Bad (edge_of edges.now a) (edge_of edges.now b) → ⊥) }
     ensures refused { IfErr result (IsRefused edges.now) }
 {
     let table = Timetable::new(alloc, edges)?;
-    let mut state = begin(alloc)?;
-    run(alloc, edges, &table, &mut state)?;
-    Ok(state.swept)
+    let mut state = begin(alloc, edges.len(), table.events() as usize)?;
+    run(edges, &table, &mut state)?;
+    Ok(Swept {
+        events: Events::new(table, state.blocks),
+        cells: state.cells,
+    })
 }
 
-/// Nothing is live, and one cell without edges is open.
-fn begin(alloc: Global) -> Result<State, Memory>
+/// Nothing is live, and one cell without edges is open. There is room for a block for each event,
+/// and for the cells, of which each edge and each event opens one.
+fn begin(alloc: Global, edges: usize, events: usize) -> Result<State, Memory>
+    requires few { edges < 2 ^ 31 }
+    requires few_events { events < 2 ^ 32 }
     ensures live { IfOk result (λ s. s.live ≡ []) }
     ensures held { IfOk result (λ s. IsHeld s.open s.keys (no_gap ∷ [])) }
-    ensures events { IfOk result (λ s. s.swept.events.items ≡ []) }
-    ensures cells { IfOk result (λ s. s.swept.cells.items ≡ []) }
+    ensures blocks { IfOk result (λ s. s.blocks.items ≡ []) }
+    ensures cells { IfOk result (λ s. s.cells.items ≡ []) }
 {
     let mut keys = Row::new(alloc);
     let mut open = Slab::new(alloc);
     let first = open.insert(Cell {
-        lower: None,
-        upper: None,
+        lower: CellEdge::new(None),
+        upper: CellEdge::new(None),
         event: 0,
     })?;
     keys.replace(0, 0, &[first])?;
@@ -67,22 +74,15 @@ fn begin(alloc: Global) -> Result<State, Memory>
         live: Row::new(alloc),
         keys,
         open,
-        swept: Swept {
-            events: Vec::new(alloc),
-            cells: Vec::new(alloc),
-        },
+        blocks: Vec::with_capacity(alloc, events)?,
+        cells: Vec::with_capacity(alloc, edges + events)?,
         closing: Vec::new(alloc),
         opened: Vec::new(alloc),
         fresh: Vec::new(alloc),
     })
 }
 
-fn run(
-    alloc: Global,
-    edges: &[Edge],
-    table: &Timetable,
-    state: &mut State,
-) -> Result<(), SweepRefusal>
+fn run(edges: &[Edge], table: &Timetable, state: &mut State) -> Result<(), SweepRefusal>
     requires few { length edges.now < 2 ^ 31 }
     requires sorted { AreSorted edges.now }
     requires close { AreAllClose edges.now }
@@ -93,13 +93,12 @@ fn run(
     ensures refused { IfErr result (IsRefused edges.now) }
 {
     for event in 0..table.events() {
-        step(alloc, edges, table, event, state)?;
+        step(edges, table, event, state)?;
     }
     Ok(())
 }
 
 fn step(
-    alloc: Global,
     edges: &[Edge],
     table: &Timetable,
     event: u32,
@@ -116,52 +115,30 @@ fn step(
 {
     let block = block_at(edges, table, event, state)?;
     open_at(edges, table, event, block, state)?;
-    let starting = table.starting(event);
     move_cells(
         &mut state.open,
         &mut state.keys,
         &mut state.closing,
         &mut state.fresh,
-        &mut state.swept.cells,
+        &mut state.cells,
         block,
         &state.opened,
     )?;
+    let starting = table.starting(event);
     state.live.replace(block.from, block.count, starting)?;
-    add_event(
-        alloc,
-        &mut state.swept.events,
-        table.at(event),
-        block,
-        starting,
-    )?;
+    note_block(&mut state.blocks, block)?;
     Ok(())
 }
 
-/// Writes the event at a point.
-fn add_event(
-    alloc: Global,
-    events: &mut Vec<Event>,
-    at: Point,
-    block: Block,
-    starting: &[u32],
-) -> Result<(), Memory>
+/// Writes the block of an event.
+fn note_block(blocks: &mut Vec<EndingBlock>, block: Block) -> Result<(), Memory>
     requires { block.from + block.count < 2 ^ 31 }
-    ensures { OnOk result (moves_of events.new.items
-        ≡ moves_of events.old.items
-        ++ record {
-          at = at;
-          position = block.from;
-          ending = block.count;
-          starting =
-              starting.now;
-        } ∷ []) }
+    ensures { OnOk result (blocks.new.items
+        ≡ blocks.old.items ++ record { position = block.from; count = block.count } ∷ []) }
 {
-    let starting = starting.to_vec(alloc)?;
-    events.push(Event {
-        at,
+    blocks.push(EndingBlock {
         position: block.from as u32,
-        ending: block.count as u32,
-        starting,
+        count: block.count as u32,
     })?;
     Ok(())
 }
@@ -254,7 +231,7 @@ fn open_at(
 
 /// Closes the cells at the block, and puts the opened ones in their place.
 fn move_cells(
-    open: &mut Slab<Cell>,
+    slab: &mut Slab<Cell>,
     keys: &mut Row<usize>,
     closing: &mut Vec<usize>,
     fresh: &mut Vec<usize>,
@@ -264,20 +241,20 @@ fn move_cells(
 ) -> Result<(), Memory>
     requires few { block.from + block.count < 2 ^ 31 }
     requires once { Once keys.old }
-    requires all { (k : ℕ) → Has k keys.old → ContainsKey open.old k }
+    requires all { (k : ℕ) → Has k keys.old → ContainsKey slab.old k }
     requires place { block.from + block.count + 1 ≤ length keys.old }
-    ensures held { OnOk result (IsHeld open.new keys.new (take block.from
-        (gaps_held open.old keys.old) ++ (gaps_of opened.now
-        ++ drop (suc (block.from + block.count)) (gaps_held open.old keys.old)))) }
+    ensures held { OnOk result (IsHeld slab.new keys.new (take block.from
+        (gaps_held slab.old keys.old) ++ (gaps_of opened.now
+        ++ drop (suc (block.from + block.count)) (gaps_held slab.old keys.old)))) }
     ensures closed { OnOk result (gaps_of closed.new.items
         ≡ gaps_of closed.old.items
-        ++ filter is_real (take (suc block.count) (drop block.from (gaps_held open.old
+        ++ filter is_real (take (suc block.count) (drop block.from (gaps_held slab.old
         keys.old)))) }
 {
     let count = block.count + 1;
     keys.copy_part(block.from, count, closing)?;
-    close_cells(open, closing, closed)?;
-    keep_cells(open, opened, fresh)?;
+    close_cells(slab, closing, closed)?;
+    keep_cells(slab, opened, fresh)?;
     keys.replace(block.from, count, fresh)?;
     Ok(())
 }

@@ -5,7 +5,6 @@ use Rattle.plane.specs.Rule.Plans.{Plan, curve}
 use Rattle.plane.specs.Runs.Moves.{Fit, steps_from}
 use Rattle.plane.specs.Runs.Steps.{Run}
 use Rattle.straight_predicates.specs.EdgeLists.{edge_of}
-use Rattle.line_sweep.specs.Kinds.{moves_of}
 use Rattle.line_sweep.specs.declared.kinds.Swept.{Swept}
 use Rattle.meetings.specs.CurvePairs.{AreBothStraight}
 use Rattle.meetings.specs.StraightEdges.{AreStraightsTo}
@@ -18,8 +17,8 @@ use Rattle.meetings.specs.declared.straight_runs.StraightRun.TheVariants as run
 pub record IsClearRun (d : Plan) (s : Straights) (w : Swept) : Type 0 where
   pub straights : AreStraightsTo d.curves (length d.curves) s.edges.items s.numbers.items
   pub run : Run (length s.edges.items) (edge_of s.edges.items)
-      (steps_from [] (moves_of w.events.items))
-  pub fit : Fit [] (moves_of w.events.items)
+      (steps_from [] w.events)
+  pub fit : Fit [] w.events
   pub clear : (i j : ℕ) → AreBothStraight (curve d i) (curve d j) → IsBadPair d i j → ⊥
 
 -- The run, or two straights that are bad.

@@ -7,8 +7,6 @@ use Rattle.plane.specs.declared.kinds.Edge.{Edge}
 use Rattle.plane.specs.Runs.Moves.{Move, no_move}
 use Rattle.straight_predicates.specs.EdgeLists.{no_point}
 use Rattle.straight_predicates.proofs.Orders.{by_lt}
-use Rattle.line_sweep.specs.declared.kinds.Event.{Event}
-use Rattle.line_sweep.specs.Kinds.{moves_of}
 use Rattle.point_location.specs.declared.numbered.Numbered.{Numbered}
 use Rattle.point_location.specs.declared.places.Place.{Place}
 use Rattle.point_location.specs.Numbered.{IsInOrder, nothing}
@@ -79,17 +77,15 @@ before_next points order o k l p b =
         (λ (h : q.y ≤ℤ r.y). y_less p q r b e h)))
 
 -- all that is applied comes before the point
-pub moment_at : (ev es es' : List Event) → es ≡ ev → es' ≡ ev → (applied k : ℕ) (now : List ℕ) (at : Point) → ((j : ℕ) → j < applied → Before (get_or (moves_of ev) j no_move).at at)
-    → IsApplied (moves_of es) k now → ((j : ℕ) → applied ≤ j → j < k → Before (get_or (moves_of es) j no_move).at at) → (k < length (moves_of es) → Before (get_or (moves_of es) k no_move).at at → ⊥)
-    → IsMoment (moves_of es') k now at
-moment_at ev es es' e e' applied k now at early a f g =
-    let b = subst (λ (xs : List Event). IsApplied (moves_of xs) k now) e a in
-    subst (λ (xs : List Event). IsMoment (moves_of xs) k now at) (sym e') (record {
-      known = b.known;
-      values = b.values;
-      passed = λ j l. by_lt j applied (λ (h : j < applied). early j h) (λ (h : applied ≤ j). subst (λ (xs : List Event). Before (get_or (moves_of xs) j no_move).at at) e (f j h l));
-      coming = subst (λ (xs : List Event). k < length (moves_of xs) → Before (get_or (moves_of xs) k no_move).at at → ⊥) e g;
-    })
+pub moment_at : (moves : List Move) (applied k : ℕ) (now : List ℕ) (at : Point) → ((j : ℕ) → j < applied → Before (get_or moves j no_move).at at)
+    → IsApplied moves k now → ((j : ℕ) → applied ≤ j → j < k → Before (get_or moves j no_move).at at) → (k < length moves → Before (get_or moves k no_move).at at → ⊥)
+    → IsMoment moves k now at
+moment_at moves applied k now at early a f g = record {
+  known = a.known;
+  values = a.values;
+  passed = λ j l. by_lt j applied (λ (h : j < applied). early j h) (λ (h : applied ≤ j). f j h l);
+  coming = g;
+}
 
 pub placed_all : (edges : List Edge) (moves : List Move) (points : List Point) (order : List Numbered) (places : List Place) (k : ℕ) → IsInOrder points order → length order ≤ k → length places ≡ length points
     → ((i : ℕ) → i < k → IsPlaceOf edges moves (get_or order i nothing).at (get_or places (get_or order i nothing).number no_place)) → ArePlaces edges moves points places

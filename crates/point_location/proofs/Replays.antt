@@ -1,24 +1,15 @@
 -- One event more of a replay, and the least edge at an event.
-use Rattle.std.proofs.Common.{◌≡◌, ℕ, zero, suc, ◌+◌, ◌-◌, ◌^◌, ◌<◌, ◌≤◌, min, ◌⊎◌, inl, inr, List, [], ◌∷◌, ◌++◌, length, take, drop, get_or, refl, arith, ap, sym, ◌∙◌, subst, add-one}
-use Rattle.std.proofs.lemmas.List.{get_or-drop, get_or-map, get_or-take, length-drop, length-map, length-take, length-take-le}
-use Rattle.plane.specs.declared.kinds.Edge.{Edge}
+use Rattle.std.proofs.Common.{◌≡◌, ℕ, zero, suc, ◌+◌, ◌-◌, ◌^◌, ◌<◌, ◌≤◌, min, ◌⊎◌, inl, inr, List, [], ◌∷◌, length, take, drop, get_or, refl, arith, ap, sym, ◌∙◌, subst, add-one}
+use Rattle.std.proofs.lemmas.List.{get_or-drop, get_or-take, length-drop, length-take, length-take-le}
 use Rattle.plane.specs.declared.kinds.Point.{Point}
 use Rattle.plane.specs.Forms.Vectors.{Before}
 use Rattle.plane.specs.Lists.{Has}
-use Rattle.plane.specs.Runs.Moves.{Fit, Move, live_from, no_move, step_of, steps_from}
-use Rattle.plane.specs.Runs.Steps.{Run, after}
-use Rattle.line_sweep.specs.declared.kinds.Event.{Event}
-use Rattle.line_sweep.specs.Kinds.{move_of, moves_of}
+use Rattle.plane.specs.Runs.Moves.{Fit, Move, live_from, no_move, step_of}
+use Rattle.plane.specs.Runs.Steps.{after}
 use Rattle.point_location.specs.Replaying.{EndsOrStarts, IsApplied}
 use Rattle.straight_predicates.proofs.Orders.{by_lt}
 use Rattle.point_location.proofs.PlaneLaws.{has_at}
-use Rattle.point_location.proofs.Moments.{fits_at, live_next, live_room}
-
-pub move_is : (events : List Event) (k : ℕ) (v : Event) → k < length events → v ≡ get_or events k v → get_or (moves_of events) k no_move ≡ move_of v
-move_is events k v l e = get_or-map move_of events k v no_move l ∙ ap move_of (sym e)
-
-pub moves_size : (events : List Event) → length (moves_of events) ≡ length events
-moves_size events = length-map events move_of
+use Rattle.point_location.proofs.Moments.{fits_at, live_next}
 
 module _ (vs : List Move) (fit : Fit [] vs) (k : ℕ) (live : List ℕ) (a : IsApplied vs k live) (l : k < length vs) (v : Move) (is : get_or vs k no_move ≡ v) where
   pub block_fits : v.position + v.ending ≤ length live

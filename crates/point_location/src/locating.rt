@@ -3,7 +3,6 @@ ghost use Rattle.std.specs.Prelude.{ℕ, ◌^◌, ◌<◌, [], length, IfOk, sli
 ghost use Rattle.plane.specs.Runs.Moves.{Fit, steps_from};
 ghost use Rattle.plane.specs.Runs.Steps.{Run};
 ghost use Rattle.straight_predicates.specs.EdgeLists.{edge_of, no_point, IsCloseToAll};
-ghost use Rattle.line_sweep.specs.Kinds.{moves_of};
 ghost use Rattle.point_location.specs.Places.{ArePlaces};
 
 use super::numbered::in_order;
@@ -26,11 +25,11 @@ pub fn locate(
 ) -> Result<Vec<Place>, Memory>
     requires few { length edges.now < 2 ^ 31 }
     requires run { Run (length edges.now) (edge_of edges.now) (steps_from []
-        (moves_of swept.now.events.items)) }
-    requires fit { Fit [] (moves_of swept.now.events.items) }
+        swept.now.events) }
+    requires fit { Fit [] swept.now.events }
     requires close { (j : ℕ) → j < length points.now
         → IsCloseToAll edges.now (slice_index_or points.now j no_point) }
-    ensures { IfOk result (λ places. ArePlaces edges.now (moves_of swept.now.events.items)
+    ensures { IfOk result (λ places. ArePlaces edges.now swept.now.events
         points.now places.items) }
 {
     let order = in_order(alloc, points)?;

@@ -5,40 +5,34 @@ ghost use Rattle.plane.specs.Lists.{Has};
 ghost use Rattle.plane.specs.Runs.Moves.{Fit, step_of, steps_from};
 ghost use Rattle.plane.specs.Runs.Steps.{Run};
 ghost use Rattle.straight_predicates.specs.EdgeLists.{edge_of, IsCloseToAll};
-ghost use Rattle.line_sweep.specs.Kinds.{move_of, moves_of};
+ghost use Rattle.line_sweep.specs.Kinds.{move_of};
 ghost use Rattle.point_location.specs.Places.{IsPlaceOf};
 ghost use Rattle.point_location.specs.Replaying.{EndsOrStarts, IsMoment};
 
 use super::between::place_between;
 use super::places::Place;
-use line_sweep::Event;
+use line_sweep::{Event, Events};
 use plane::{Edge, Point};
 use straight_predicates::Row;
 
 /// The place of a point in the live list after exactly the events before it.
-pub fn place_at(
-    edges: &[Edge],
-    events: &[Event],
-    applied: usize,
-    live: &Row<u32>,
-    at: Point,
-) -> Place
+pub fn place_at(edges: &[Edge], events: &Events, applied: u32, live: &Row<u32>, at: Point) -> Place
     requires few { length edges.now < 2 ^ 31 }
     requires run { Run (length edges.now) (edge_of edges.now) (steps_from []
-        (moves_of events.now)) }
-    requires fit { Fit [] (moves_of events.now) }
+        events.now) }
+    requires fit { Fit [] events.now }
     requires close { IsCloseToAll edges.now at }
-    requires moment { IsMoment (moves_of events.now) applied live.now at }
-    ensures { IsPlaceOf edges.now (moves_of events.now) at result }
+    requires moment { IsMoment events.now applied live.now at }
+    ensures { IsPlaceOf edges.now events.now at result }
 {
-    if applied < events.len() && events[applied].at == at {
-        return Place::OnEdge(edge_of_event(&events[applied], live));
+    if applied < events.len() && events.at(applied) == at {
+        return Place::OnEdge(edge_of_event(&events.get(applied), live));
     }
     place_between(edges, live, at)
 }
 
 /// The least number of an edge that ends or starts at the event, of which there are some.
-fn edge_of_event(event: &Event, live: &Row<u32>) -> u32
+fn edge_of_event(event: &Event<'_>, live: &Row<u32>) -> u32
     requires block { event.now.position + event.now.ending ≤ length live.now }
     requires some { (e : ℕ) × (e < 2 ^ 32 - 1) × EndsOrStarts (step_of live.now
         (move_of event.now)) e }
@@ -47,7 +41,7 @@ fn edge_of_event(event: &Event, live: &Row<u32>) -> u32
 {
     let from = event.position as usize;
     let ending = least_between(live, from, from + event.ending as usize);
-    least(&event.starting, ending)
+    least(event.starting, ending)
 }
 
 /// The least of the numbers at the places from one up to another, and the greatest of all where

@@ -1,4 +1,4 @@
-use Rattle.std.proofs.Common.{refl, subst}
+use Rattle.std.proofs.Common.{refl, rules, subst}
 use Rattle.plane.specs.Rule.Plans.{plan}
 use Rattle.tubes.specs.Settled.{missing}
 use Rattle.tubes.specs.TubedEdges.{IsListAt}
@@ -15,4 +15,10 @@ pub returns-in-None : goal.returns-in-None
 returns-in-None c =
     let d = plan c.args.drawing.now in
     let (i, half, none) = subst (IsListAt d c.args.level) c.in-None.is c.in_ok-list.ensures.list in
+    λ s. c.settled_is_unbroken.ensures d c.args.level i i s (missing refl half none)
+
+pub returns-then-branch : goal.returns-then-branch
+returns-then-branch c =
+    let d = plan c.args.drawing.now in
+    let (i, half, none) = c.in_ok-is_tube_missing.ensures (search rules) in
     λ s. c.settled_is_unbroken.ensures d c.args.level i i s (missing refl half none)

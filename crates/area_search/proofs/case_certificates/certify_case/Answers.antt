@@ -1,87 +1,82 @@
-use Rattle.std.proofs.Common.{◌≡◌, ℕ, ◌^◌, ◌<◌, List, length, slice_index_or, sym, subst, ◌∙◌, arith}
+use Rattle.std.proofs.Common.{◌≡◌, ℕ, ◌<◌, List, length, slice_index_or, refl, sym, subst, ◌∙◌, arith}
 use Rattle.certificate_checker.specs.Certifying.{Certifies}
 use Rattle.certificate_checker.specs.Subjects.{claims}
 use Rattle.faces.specs.Joined.{AreKnown}
 use Rattle.faces.specs.Ranking.{AreNotes, AreRooted}
 use Rattle.half_edges.specs.HalfEdges.{size}
-use Rattle.line_sweep.specs.declared.kinds.Cell.{Cell}
 use Rattle.line_sweep.specs.Kinds.{gaps_of}
 use Rattle.plane.specs.Rule.Plans.{plan}
 use Rattle.plane.specs.Runs.Gaps.{Gap, closed_gaps}
-use Rattle.tubes.specs.declared.kinds.Owner.{Owner}
 use Rattle.area_search.specs.declared.case.Spot.{Spot}
 use Rattle.area_search.specs.CaseNotes.{AreNamed}
 use Rattle.area_search.specs.CaseRoots.{AreCaseRoots, IsSpotIn, owner_at}
-use Rattle.area_search.specs.Writing.{IsSmallCell, positions_of}
+use Rattle.area_search.specs.Writing.{positions_of}
 use Rattle.area_search.proofs.CaseCalls.{few_edges, list_rooted, list_within, owners_known, roots_as, small_cells, small_spots, spots_in}
 use Rattle.area_search.proofs.CaseCertified.{certifies}
+use Rattle.area_search.specs.Cases.{edges_of}
 use Rattle.area_search.proofs.case_certificates.certify_case.Goals as goal
 
 pub roots_of_case-requires-clause-owners : goal.roots_of_case-requires-clause-owners
 roots_of_case-requires-clause-owners c =
-    subst (λ (os : List Owner). (e : ℕ) → e < length os → (owner_at os e).curve < c.len.result) (sym c.deref.ensures.value)
-    (subst (λ (n : ℕ). (e : ℕ) → e < length c.args.case.now.list.now.owners.items → (owner_at c.args.case.now.list.now.owners.items e).curve < n) (sym (c.len.ensures ∙ c.args.case.now.drawing.now.curves.ok.0))
-    (owners_known (plan c.args.case.now.drawing.now) c.args.case.now.level c.args.case.now.list.now.edges.items c.args.case.now.list.now.owners.items c.args.case.now.facings.now c.requires.run.faced.vs c.requires.run.faced.case))
+    subst (λ (n : ℕ). (e : ℕ) → e < length c.args.case.now.owners.now → (owner_at c.args.case.now.owners.now e).curve < n) (sym (c.len.ensures ∙ c.args.case.now.drawing.now.curves.ok.0))
+    (owners_known (plan c.args.case.now.drawing.now) c.args.case.now.level (edges_of c.args.case.now) c.args.case.now.owners.now c.args.case.now.facings.now c.requires.run.faced.vs c.requires.run.faced.case)
 
 pub roots_of_case-requires-clause-cells : goal.roots_of_case-requires-clause-cells
 roots_of_case-requires-clause-cells c =
-    subst (λ (cells : List Cell). (k : ℕ) (d : Cell) → k < length cells → IsSmallCell (slice_index_or cells k d)) (sym c.deref-2.ensures.value)
-    (small_cells (size c.args.labelled.now.mesh) c.args.swept.now.cells.items (subst (AreKnown (size c.args.labelled.now.mesh)) (sym c.requires.run.outline.cells_are) c.requires.run.outline.known) c.requires.run.outline.mesh_is.few)
+    small_cells (size c.args.labelled.now.mesh) c.args.cells.now (subst (AreKnown (size c.args.labelled.now.mesh)) (sym c.requires.run.outline.cells_are) c.requires.run.outline.known) c.requires.run.outline.mesh_is.few
 
 pub roots_of_case-requires-clause-small : goal.roots_of_case-requires-clause-small
 roots_of_case-requires-clause-small c =
-    small_spots (plan c.args.case.now.drawing.now) c.args.case.now.level c.args.case.now.list.now.edges.items c.args.case.now.list.now.owners.items c.args.case.now.facings.now c.requires.run.faced.vs c.requires.run.faced.case
-    (few_edges (plan c.args.case.now.drawing.now) c.args.case.now.level c.args.case.now.list.now.edges.items c.args.case.now.list.now.owners.items c.args.case.now.facings.now c.requires.run.faced.vs c.requires.run.faced.case c.args.labelled.now.mesh (gaps_of c.args.swept.now.cells.items) c.requires.run.outline) c.args.spots.now c.requires.run.faced.placed
+    small_spots (plan c.args.case.now.drawing.now) c.args.case.now.level (edges_of c.args.case.now) c.args.case.now.owners.now c.args.case.now.facings.now c.requires.run.faced.vs c.requires.run.faced.case
+    (few_edges (plan c.args.case.now.drawing.now) c.args.case.now.level (edges_of c.args.case.now) c.args.case.now.owners.now c.args.case.now.facings.now c.requires.run.faced.vs c.requires.run.faced.case c.args.labelled.now.mesh (gaps_of c.args.cells.now) c.requires.run.outline) c.args.spots.now c.requires.run.faced.placed
 
 pub roots_of_case-requires-clause-tubes : goal.roots_of_case-requires-clause-tubes
 roots_of_case-requires-clause-tubes c =
     subst (λ (n : ℕ). (k : ℕ) (p : Spot) → k < length c.args.spots.now → IsSpotIn n (slice_index_or c.args.spots.now k p)) (sym (c.len.ensures ∙ c.args.case.now.drawing.now.curves.ok.0))
-    (spots_in (plan c.args.case.now.drawing.now) c.args.case.now.level c.args.case.now.list.now.edges.items c.args.case.now.list.now.owners.items c.args.case.now.facings.now c.requires.run.faced.vs c.requires.run.faced.case
-    (few_edges (plan c.args.case.now.drawing.now) c.args.case.now.level c.args.case.now.list.now.edges.items c.args.case.now.list.now.owners.items c.args.case.now.facings.now c.requires.run.faced.vs c.requires.run.faced.case c.args.labelled.now.mesh (gaps_of c.args.swept.now.cells.items) c.requires.run.outline) c.args.spots.now c.requires.run.faced.placed)
+    (spots_in (plan c.args.case.now.drawing.now) c.args.case.now.level (edges_of c.args.case.now) c.args.case.now.owners.now c.args.case.now.facings.now c.requires.run.faced.vs c.requires.run.faced.case
+    (few_edges (plan c.args.case.now.drawing.now) c.args.case.now.level (edges_of c.args.case.now) c.args.case.now.owners.now c.args.case.now.facings.now c.requires.run.faced.vs c.requires.run.faced.case c.args.labelled.now.mesh (gaps_of c.args.cells.now) c.requires.run.outline) c.args.spots.now c.requires.run.faced.placed)
 
 pub links-requires-clause-known : goal.links-requires-clause-known
 links-requires-clause-known c = subst (AreKnown (size c.args.labelled.now.mesh)) (sym c.requires.run.outline.cells_are) c.requires.run.outline.known
 
 pub links-requires-clause-within : goal.links-requires-clause-within
 links-requires-clause-within c =
-    let listed : AreCaseRoots c.args.case.now.facings.now c.args.case.now.list.now.owners.items (length (plan c.args.case.now.drawing.now).curves) (closed_gaps c.requires.run.faced.vs) c.args.spots.now c.deref-3.result.now =
-    roots_as c.args.case.now.facings.now c.deref.result.now c.args.case.now.list.now.owners.items c.len.result (length (plan c.args.case.now.drawing.now).curves) c.deref-2.result.now c.args.swept.now.cells.items _ c.args.spots.now
-    c.in_ok-roots.roots.items c.deref-3.result.now c.deref.ensures.value (c.len.ensures ∙ c.args.case.now.drawing.now.curves.ok.0) c.deref-2.ensures.value c.requires.run.outline.cells_are c.deref-3.ensures.value c.in_ok-roots.ensures in
-    list_within (plan c.args.case.now.drawing.now) c.args.case.now.level c.args.case.now.list.now.edges.items c.args.case.now.list.now.owners.items c.args.case.now.facings.now c.requires.run.faced.vs c.requires.run.faced.case
-    c.args.labelled.now.mesh (gaps_of c.args.swept.now.cells.items) c.requires.run.outline c.args.spots.now c.requires.run.faced.placed c.args.labelled.now.count c.requires.run.faced.faces c.args.owners.now c.requires.owned c.deref-3.result.now listed
+    let listed : AreCaseRoots c.args.case.now.facings.now c.args.case.now.owners.now (length (plan c.args.case.now.drawing.now).curves) (closed_gaps c.requires.run.faced.vs) c.args.spots.now c.deref.result.now =
+    roots_as c.args.case.now.facings.now c.args.case.now.owners.now c.args.case.now.owners.now c.len.result (length (plan c.args.case.now.drawing.now).curves) c.args.cells.now c.args.cells.now _ c.args.spots.now
+    c.in_ok-roots.roots.items c.deref.result.now refl (c.len.ensures ∙ c.args.case.now.drawing.now.curves.ok.0) refl c.requires.run.outline.cells_are c.deref.ensures.value c.in_ok-roots.ensures in
+    list_within (plan c.args.case.now.drawing.now) c.args.case.now.level (edges_of c.args.case.now) c.args.case.now.owners.now c.args.case.now.facings.now c.requires.run.faced.vs c.requires.run.faced.case
+    c.args.labelled.now.mesh (gaps_of c.args.cells.now) c.requires.run.outline c.args.spots.now c.requires.run.faced.placed c.args.labelled.now.count c.requires.run.faced.faces c.args.owners.now c.requires.owned c.deref.result.now listed
 
 pub links-requires-clause-rooted : goal.links-requires-clause-rooted
 links-requires-clause-rooted c =
-    let listed : AreCaseRoots c.args.case.now.facings.now c.args.case.now.list.now.owners.items (length (plan c.args.case.now.drawing.now).curves) (closed_gaps c.requires.run.faced.vs) c.args.spots.now c.deref-3.result.now =
-    roots_as c.args.case.now.facings.now c.deref.result.now c.args.case.now.list.now.owners.items c.len.result (length (plan c.args.case.now.drawing.now).curves) c.deref-2.result.now c.args.swept.now.cells.items _ c.args.spots.now
-    c.in_ok-roots.roots.items c.deref-3.result.now c.deref.ensures.value (c.len.ensures ∙ c.args.case.now.drawing.now.curves.ok.0) c.deref-2.ensures.value c.requires.run.outline.cells_are c.deref-3.ensures.value c.in_ok-roots.ensures in
-    subst (λ (gs : List Gap). AreRooted c.args.labelled.now.mesh gs c.deref-3.result.now) (sym c.requires.run.outline.cells_are)
-    (list_rooted (plan c.args.case.now.drawing.now) c.args.case.now.level c.args.case.now.list.now.edges.items c.args.case.now.list.now.owners.items c.args.case.now.facings.now c.requires.run.faced.vs c.requires.run.faced.case
-    c.args.labelled.now.mesh (gaps_of c.args.swept.now.cells.items) c.requires.run.outline c.args.spots.now c.requires.run.faced.placed c.args.labelled.now.count c.requires.run.faced.faces c.args.owners.now c.requires.owned c.deref-3.result.now listed)
+    let listed : AreCaseRoots c.args.case.now.facings.now c.args.case.now.owners.now (length (plan c.args.case.now.drawing.now).curves) (closed_gaps c.requires.run.faced.vs) c.args.spots.now c.deref.result.now =
+    roots_as c.args.case.now.facings.now c.args.case.now.owners.now c.args.case.now.owners.now c.len.result (length (plan c.args.case.now.drawing.now).curves) c.args.cells.now c.args.cells.now _ c.args.spots.now
+    c.in_ok-roots.roots.items c.deref.result.now refl (c.len.ensures ∙ c.args.case.now.drawing.now.curves.ok.0) refl c.requires.run.outline.cells_are c.deref.ensures.value c.in_ok-roots.ensures in
+    subst (λ (gs : List Gap). AreRooted c.args.labelled.now.mesh gs c.deref.result.now) (sym c.requires.run.outline.cells_are)
+    (list_rooted (plan c.args.case.now.drawing.now) c.args.case.now.level (edges_of c.args.case.now) c.args.case.now.owners.now c.args.case.now.facings.now c.requires.run.faced.vs c.requires.run.faced.case
+    c.args.labelled.now.mesh (gaps_of c.args.cells.now) c.requires.run.outline c.args.spots.now c.requires.run.faced.placed c.args.labelled.now.count c.requires.run.faced.faces c.args.owners.now c.requires.owned c.deref.result.now listed)
 
 pub named_notes-notes-requires-clause-curves : goal.named_notes-notes-requires-clause-curves
 named_notes-notes-requires-clause-curves c =
     let few = c.args.case.now.drawing.now.few_curves in
-    subst (λ (os : List Owner). (e : ℕ) → e < length os → (owner_at os e).curve < 2 ^ 30) (sym c.deref-4.ensures.value)
-    (λ e l. let k = owners_known (plan c.args.case.now.drawing.now) c.args.case.now.level c.args.case.now.list.now.edges.items c.args.case.now.list.now.owners.items c.args.case.now.facings.now c.requires.run.faced.vs c.requires.run.faced.case e l in omega (arith, k, few))
+    λ e l. let k = owners_known (plan c.args.case.now.drawing.now) c.args.case.now.level (edges_of c.args.case.now) c.args.case.now.owners.now c.args.case.now.facings.now c.requires.run.faced.vs c.requires.run.faced.case e l in omega (arith, k, few)
 
 pub returns-clause-proves : goal.returns-clause-proves
 returns-clause-proves c =
-    let listed : AreCaseRoots c.args.case.now.facings.now c.args.case.now.list.now.owners.items (length (plan c.args.case.now.drawing.now).curves) (closed_gaps c.requires.run.faced.vs) c.args.spots.now c.deref-3.result.now =
-    roots_as c.args.case.now.facings.now c.deref.result.now c.args.case.now.list.now.owners.items c.len.result (length (plan c.args.case.now.drawing.now).curves) c.deref-2.result.now c.args.swept.now.cells.items _ c.args.spots.now
-    c.in_ok-roots.roots.items c.deref-3.result.now c.deref.ensures.value (c.len.ensures ∙ c.args.case.now.drawing.now.curves.ok.0) c.deref-2.ensures.value c.requires.run.outline.cells_are c.deref-3.ensures.value c.in_ok-roots.ensures in
+    let listed : AreCaseRoots c.args.case.now.facings.now c.args.case.now.owners.now (length (plan c.args.case.now.drawing.now).curves) (closed_gaps c.requires.run.faced.vs) c.args.spots.now c.deref.result.now =
+    roots_as c.args.case.now.facings.now c.args.case.now.owners.now c.args.case.now.owners.now c.len.result (length (plan c.args.case.now.drawing.now).curves) c.args.cells.now c.args.cells.now _ c.args.spots.now
+    c.in_ok-roots.roots.items c.deref.result.now refl (c.len.ensures ∙ c.args.case.now.drawing.now.curves.ok.0) refl c.requires.run.outline.cells_are c.deref.ensures.value c.in_ok-roots.ensures in
     let d = plan c.args.case.now.drawing.now in
     let vs = c.requires.run.faced.vs in
     let found = c.in_ok-found.found.items in
     let notes = c.named_notes-notes.result.items in
     let places = c.in_ok-places.places.items in
-    let listed_notes : AreNotes c.args.labelled.now.mesh (closed_gaps vs) c.deref-3.result.now found = subst (λ (gs : List Gap). AreNotes c.args.labelled.now.mesh gs c.deref-3.result.now found) c.requires.run.outline.cells_are c.in_ok-found.ensures in
-    let named : AreNamed (length d.points) (length c.args.case.now.facings.now) c.args.case.now.facings.now c.args.case.now.list.now.owners.items c.args.owners.now found notes =
-    subst (λ (n : ℕ). AreNamed n (length c.args.case.now.facings.now) c.args.case.now.facings.now c.args.case.now.list.now.owners.items c.args.owners.now found notes) (c.len-2.ensures ∙ c.args.case.now.drawing.now.points.ok.0)
-    (subst (λ (os : List Owner). AreNamed c.len-2.result (length c.args.case.now.facings.now) c.args.case.now.facings.now os c.args.owners.now found notes) c.deref-4.ensures.value c.named_notes-notes.ensures) in
-    let sure = certifies (plan c.args.case.now.drawing.now) c.args.case.now.level c.args.case.now.list.now.edges.items c.args.case.now.list.now.owners.items c.args.case.now.facings.now c.requires.run.faced.vs c.requires.run.faced.case
-    c.args.spots.now c.requires.run.faced.placed c.args.labelled.now.mesh c.args.labelled.now.count c.requires.run.faced.faces c.args.owners.now c.requires.owned (gaps_of c.args.swept.now.cells.items) c.requires.run.outline
-    c.deref-3.result.now listed places c.in_ok-places.ensures found listed_notes notes named c.requires.run.timed in
+    let listed_notes : AreNotes c.args.labelled.now.mesh (closed_gaps vs) c.deref.result.now found = subst (λ (gs : List Gap). AreNotes c.args.labelled.now.mesh gs c.deref.result.now found) c.requires.run.outline.cells_are c.in_ok-found.ensures in
+    let named : AreNamed (length d.points) (length c.args.case.now.facings.now) c.args.case.now.facings.now c.args.case.now.owners.now c.args.owners.now found notes =
+    subst (λ (n : ℕ). AreNamed n (length c.args.case.now.facings.now) c.args.case.now.facings.now c.args.case.now.owners.now c.args.owners.now found notes) (c.len-2.ensures ∙ c.args.case.now.drawing.now.points.ok.0) c.named_notes-notes.ensures in
+    let sure = certifies (plan c.args.case.now.drawing.now) c.args.case.now.level (edges_of c.args.case.now) c.args.case.now.owners.now c.args.case.now.facings.now c.requires.run.faced.vs c.requires.run.faced.case
+    c.args.spots.now c.requires.run.faced.placed c.args.labelled.now.mesh c.args.labelled.now.count c.requires.run.faced.faces c.args.owners.now c.requires.owned (gaps_of c.args.cells.now) c.requires.run.outline
+    c.deref.result.now listed places c.in_ok-places.ensures found listed_notes notes named c.requires.run.timed in
     let held = c.in_ok-certificate.ensures in
     let at : c.args.positions.items ≡ positions_of vs = c.requires.run.positions_are in
     let told : Certifies d (claims c.in_ok-certificate.certificate) = subst (Certifies d) (sym held.parts)

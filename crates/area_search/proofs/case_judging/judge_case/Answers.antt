@@ -2,7 +2,7 @@ use Rattle.std.proofs.Common.{◌≡◌, ℕ, Option, Some, None, List, ◌<◌,
 use Rattle.std.proofs.lemmas.List.{length-map}
 use Rattle.plane.specs.Rule.Plans.{plan}
 use Rattle.plane.specs.declared.kinds.Curve.{Curve}
-use Rattle.area_search.specs.Cases.{spot_face, spot_faces}
+use Rattle.area_search.specs.Cases.{spot_face, spot_faces, edges_of}
 use Rattle.area_search.specs.CaseSides.{HasNoFree, IsBesideIn, IsLeastFree, beside_at}
 use Rattle.area_search.specs.Owners.{AreOwners, AreShared, IsLeastShare}
 use Rattle.area_search.specs.PointFaces.{IsFirstOutside}
@@ -20,24 +20,24 @@ faces_beside-requires-clause-case c = (c.requires.faced.vs, c.requires.faced.cas
 
 pub faces_of_spots-requires-clause-known : goal.faces_of_spots-requires-clause-known
 faces_of_spots-requires-clause-known c =
-    spots_have (plan c.args.case.now.drawing.now) c.args.case.now.level c.args.case.now.list.now.edges.items c.args.case.now.list.now.owners.items c.args.case.now.facings.now c.requires.faced.vs c.requires.faced.case
+    spots_have (plan c.args.case.now.drawing.now) c.args.case.now.level (edges_of c.args.case.now) c.args.case.now.owners.now c.args.case.now.facings.now c.requires.faced.vs c.requires.faced.case
     c.args.spots.now c.requires.faced.placed
 
 pub returns-in-Some : goal.returns-in-Some
 returns-in-Some c =
-    outside_answer (plan c.args.case.now.drawing.now) c.args.case.now.level c.args.case.now.list.now.edges.items c.args.case.now.list.now.owners.items c.args.case.now.facings.now c.requires.faced.vs c.requires.faced.case
+    outside_answer (plan c.args.case.now.drawing.now) c.args.case.now.level (edges_of c.args.case.now) c.args.case.now.owners.now c.args.case.now.facings.now c.requires.faced.vs c.requires.faced.case
     c.args.spots.now c.requires.faced.placed c.args.mesh.now c.args.count c.requires.faced.faces c.in-Some.point (c.args.case.now.level, c.requires.least)
     (subst (λ (fs : List ℕ). IsFirstOutside fs (Some c.in-Some.point)) (c.deref-2.ensures.value ∙ c.in_ok-faces.ensures) c.in-Some.ensures)
 
 pub owners_of-requires-clause-known : goal.owners_of-requires-clause-known
 owners_of-requires-clause-known c =
     subst (λ (fs : List ℕ). (j : ℕ) → j < length fs → slice_index fs j < c.args.count) (sym (c.deref-3.ensures.value ∙ c.in_ok-faces.ensures))
-    (point_known (plan c.args.case.now.drawing.now) c.args.case.now.level c.args.case.now.list.now.edges.items c.args.case.now.list.now.owners.items c.args.case.now.facings.now c.requires.faced.vs c.requires.faced.case
+    (point_known (plan c.args.case.now.drawing.now) c.args.case.now.level (edges_of c.args.case.now) c.args.case.now.owners.now c.args.case.now.facings.now c.requires.faced.vs c.requires.faced.case
     c.args.spots.now c.requires.faced.placed c.args.mesh.now c.args.count c.requires.faced.faces (λ i h. arc_first (plan c.args.case.now.drawing.now) c.args.case.now.level i (c.chains_have_edges.ensures.inner (plan c.args.case.now.drawing.now) c.args.case.now.level i c.requires.faced.case.tubes h) (c.chains_have_edges.ensures.outer (plan c.args.case.now.drawing.now) c.args.case.now.level i h)))
 
 pub returns-in-Some-shared : goal.returns-in-Some-shared
 returns-in-Some-shared c =
-    two_answer (plan c.args.case.now.drawing.now) c.args.case.now.level c.args.case.now.list.now.edges.items c.args.case.now.list.now.owners.items c.args.case.now.facings.now c.requires.faced.vs c.requires.faced.case
+    two_answer (plan c.args.case.now.drawing.now) c.args.case.now.level (edges_of c.args.case.now) c.args.case.now.owners.now c.args.case.now.facings.now c.requires.faced.vs c.requires.faced.case
     c.args.spots.now c.requires.faced.placed c.args.mesh.now c.args.count c.requires.faced.faces c.in-Some-shared.two (c.args.case.now.level, c.requires.least)
     (subst (λ (fs : List ℕ). IsFirstOutside fs None) (c.deref-2.ensures.value ∙ c.in_ok-faces.ensures) c.in_default.ensures)
     (subst (λ (fs : List ℕ). IsLeastShare fs (length fs) c.in-Some-shared.two.first c.in-Some-shared.two.second) (c.deref-3.ensures.value ∙ c.in_ok-faces.ensures)
@@ -48,7 +48,7 @@ first_free-requires-clause-known c =
     let e : length c.deref-6.result.now ≡ c.args.count = ap length c.deref-6.ensures.value ∙ c.in_ok-owners.ensures.size in
     subst (λ (n : ℕ). (i : ℕ) → i < length c.deref-5.result.now → IsBesideIn n (beside_at c.deref-5.result.now i)) (sym e)
     (subst (λ (bs : List Beside). (i : ℕ) → i < length bs → IsBesideIn c.args.count (beside_at bs i)) (sym c.deref-5.ensures.value)
-    (λ i l. besides_known (plan c.args.case.now.drawing.now) c.args.case.now.level c.args.case.now.list.now.edges.items c.args.case.now.list.now.owners.items c.args.case.now.facings.now c.requires.faced.vs c.requires.faced.case
+    (λ i l. besides_known (plan c.args.case.now.drawing.now) c.args.case.now.level (edges_of c.args.case.now) c.args.case.now.owners.now c.args.case.now.facings.now c.requires.faced.vs c.requires.faced.case
     c.args.spots.now c.requires.faced.placed c.args.mesh.now c.args.count c.requires.faced.faces (λ i h. arc_first (plan c.args.case.now.drawing.now) c.args.case.now.level i (c.chains_have_edges.ensures.inner (plan c.args.case.now.drawing.now) c.args.case.now.level i c.requires.faced.case.tubes h) (c.chains_have_edges.ensures.outer (plan c.args.case.now.drawing.now) c.args.case.now.level i h))
     c.in_ok-besides.besides.items c.in_ok-besides.ensures i (let s = c.in_ok-besides.ensures.size in omega (arith, l, s))))
 
@@ -59,7 +59,7 @@ pub returns-in-Some-first_free : goal.returns-in-Some-first_free
 returns-in-Some-first_free c =
     let o = c.in_ok-owners.ensures in
     let same = c.deref-3.ensures.value ∙ c.in_ok-faces.ensures in
-    empty_answer (plan c.args.case.now.drawing.now) c.args.case.now.level c.args.case.now.list.now.edges.items c.args.case.now.list.now.owners.items c.args.case.now.facings.now c.requires.faced.vs c.requires.faced.case
+    empty_answer (plan c.args.case.now.drawing.now) c.args.case.now.level (edges_of c.args.case.now) c.args.case.now.owners.now c.args.case.now.facings.now c.requires.faced.vs c.requires.faced.case
     c.args.spots.now c.requires.faced.placed c.args.mesh.now c.args.count c.requires.faced.faces (λ i h. arc_first (plan c.args.case.now.drawing.now) c.args.case.now.level i (c.chains_have_edges.ensures.inner (plan c.args.case.now.drawing.now) c.args.case.now.level i c.requires.faced.case.tubes h) (c.chains_have_edges.ensures.outer (plan c.args.case.now.drawing.now) c.args.case.now.level i h))
     c.in_ok-besides.besides.items c.in_ok-besides.ensures
     c.in_ok-owners.owners.of_face.items (subst (λ (fs : List ℕ). AreOwners fs (length fs) c.in_ok-owners.owners.of_face.items) same o.owners) o.size c.in-Some-first_free.side (c.args.case.now.level, c.requires.least)
@@ -81,7 +81,7 @@ returns c =
       outside = subst (λ (fs : List ℕ). IsFirstOutside fs None) (c.deref-2.ensures.value ∙ c.in_ok-faces.ensures) c.in_default.ensures;
       shared = subst (λ (n : ℕ). AreShared (spot_faces (plan c.args.case.now.drawing.now) c.args.case.now.level c.args.mesh.now.face c.args.spots.now) n None) size
           (subst (λ (fs : List ℕ). AreShared fs (length c.deref-3.result.now) None) same (subst (λ (s : Option Shared). AreShared c.deref-3.result.now (length c.deref-3.result.now) s) c.in_default-shared.is o.shared));
-      owned = all_owned (plan c.args.case.now.drawing.now) c.args.case.now.level c.args.case.now.list.now.edges.items c.args.case.now.list.now.owners.items c.args.case.now.facings.now c.requires.faced.vs c.requires.faced.case
+      owned = all_owned (plan c.args.case.now.drawing.now) c.args.case.now.level (edges_of c.args.case.now) c.args.case.now.owners.now c.args.case.now.facings.now c.requires.faced.vs c.requires.faced.case
           c.args.spots.now c.requires.faced.placed c.args.mesh.now c.args.count c.requires.faced.faces (λ i h. arc_first (plan c.args.case.now.drawing.now) c.args.case.now.level i (c.chains_have_edges.ensures.inner (plan c.args.case.now.drawing.now) c.args.case.now.level i c.requires.faced.case.tubes h) (c.chains_have_edges.ensures.outer (plan c.args.case.now.drawing.now) c.args.case.now.level i h))
           c.in_ok-besides.besides.items c.in_ok-besides.ensures
           c.in_ok-owners.owners.of_face.items (subst (λ (fs : List ℕ). AreOwners fs (length fs) c.in_ok-owners.owners.of_face.items) same o.owners) o.size

@@ -5,6 +5,7 @@ use Rattle.area_search.specs.CaseSides.{IsBeside, no_beside}
 use Rattle.area_search.proofs.CaseCurves.{next_fits, next_is, no_first}
 use Rattle.area_search.proofs.CaseEdges.{nth_curve_is}
 use Rattle.area_search.proofs.Small.{one_more, one_more_size}
+use Rattle.area_search.specs.Cases.{edges_of}
 use Rattle.area_search.proofs.case_sides.faces_beside.Goals as goal
 
 pub loop-number-init : goal.loop-number-init
@@ -16,7 +17,7 @@ loop-number-init c = record {
 pub overflow_add-first : goal.overflow_add-first
 overflow_add-first c =
     let l : c.loop-number.number < length c.args.case.now.drawing.now.curves.items = (let t = c.loop-number-test.true in let n = c.len-number-end.ensures in omega (arith, t, n)) in
-    let t = next_fits (plan c.args.case.now.drawing.now) c.args.case.now.level c.args.case.now.list.now.edges.items c.args.case.now.list.now.owners.items c.args.case.now.facings.now c.requires.case.0 c.requires.case.1
+    let t = next_fits (plan c.args.case.now.drawing.now) c.args.case.now.level (edges_of c.args.case.now) c.args.case.now.owners.now c.args.case.now.facings.now c.requires.case.0 c.requires.case.1
     c.index-curve.result.now c.loop-number.number c.loop-number.first l (nth_curve_is (plan c.args.case.now.drawing.now) c.loop-number.number c.index-curve.result.now l c.index-curve.ensures) c.loop-number.invariant.first
     c.edge_count-first.result c.edge_count-first.ensures in
     let f = c.requires.few in
@@ -27,7 +28,7 @@ loop-number-preserved c =
     let l : c.loop-number.number < length c.args.case.now.drawing.now.curves.items = (let t = c.loop-number-test.true in let n = c.len-number-end.ensures in omega (arith, t, n)) in
     let i = c.loop-number.invariant in
     record {
-      first = next_is (plan c.args.case.now.drawing.now) c.args.case.now.level c.args.case.now.list.now.edges.items c.args.case.now.list.now.owners.items c.args.case.now.facings.now c.requires.case.0 c.requires.case.1
+      first = next_is (plan c.args.case.now.drawing.now) c.args.case.now.level (edges_of c.args.case.now) c.args.case.now.owners.now c.args.case.now.facings.now c.requires.case.0 c.requires.case.1
           c.index-curve.result.now c.loop-number.number c.loop-number.first l (nth_curve_is (plan c.args.case.now.drawing.now) c.loop-number.number c.index-curve.result.now l c.index-curve.ensures) i.first
           c.edge_count-first.result c.edge_count-first.ensures;
       besides = record {

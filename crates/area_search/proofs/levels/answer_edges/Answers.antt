@@ -8,8 +8,8 @@ pub sweep-requires-clause-few : goal.sweep-requires-clause-few
 sweep-requires-clause-few c =
     let d = plan c.args.drawing.now in
     let r = c.requires in
-    let e = c.tubed_lists.ensures.edges d c.args.level c.args.list.now r.list in
-    let n = few_edges d c.args.level c.args.list.now e (c.few_edges.ensures d c.args.level r.least.low r.least.settled.tubes) r.few in
+    let e = c.tubed_lists.ensures.edges d c.args.level c.args.list r.list in
+    let n = few_edges d c.args.level c.args.list e (c.few_edges.ensures d c.args.level r.least.low r.least.settled.tubes) r.few in
     let f = ap length c.deref.ensures.value in
     omega (arith, n, f)
 
@@ -17,13 +17,13 @@ pub finish-requires-clause-few : goal.finish-requires-clause-few
 finish-requires-clause-few c =
     let d = plan c.args.drawing.now in
     let r = c.requires in
-    let e = c.tubed_lists.ensures.edges d c.args.level c.args.list.now r.list in
-    few_edges d c.args.level c.args.list.now e (c.few_edges.ensures d c.args.level r.least.low r.least.settled.tubes) r.few
+    let e = c.tubed_lists.ensures.edges d c.args.level c.args.list r.list in
+    few_edges d c.args.level c.args.list e (c.few_edges.ensures d c.args.level r.least.low r.least.settled.tubes) r.few
 
 pub unreachable-requires : goal.unreachable-requires
 unreachable-requires c =
     let d = plan c.args.drawing.now in
     let r = c.requires in
-    let e = c.tubed_lists.ensures.edges d c.args.level c.args.list.now r.list in
-    never_bad d c.args.level c.args.list.now e r.least.settled c.meetings_are_decided.ensures.apart c.meetings_are_decided.ensures.touch c.deref.result.now c.deref.ensures.value _ _
+    let e = c.tubed_lists.ensures.edges d c.args.level c.args.list r.list in
+    never_bad d c.args.level c.args.list e r.least.settled c.meetings_are_decided.ensures.apart c.meetings_are_decided.ensures.touch c.deref.result.now c.deref.ensures.value _ _
     (subst (IsRefused c.deref.result.now) c.in-Err-Bad.field-0-is c.in-Err-Bad.ensures.refused)

@@ -4,7 +4,6 @@ use Rattle.plane.specs.Runs.Moves.{steps_from}
 use Rattle.plane.specs.Runs.Steps.{Run}
 use Rattle.plane.specs.declared.kinds.Edge.{Edge}
 use Rattle.plane.specs.declared.kinds.Placed.{Placed}
-use Rattle.line_sweep.specs.Kinds.{moves_of}
 use Rattle.point_location.specs.Places.{ArePlaces}
 use Rattle.point_location.specs.declared.places.Place.{Place}
 use Rattle.straight_predicates.specs.EdgeLists.{edge_of}
@@ -21,7 +20,7 @@ locate-requires-clause-close c =
     let d = plan w in
     let es = c.deref-2.result.now in
     let ns = c.args.straights.now.numbers.items in
-    let vs = moves_of c.args.swept.now.events.items in
+    let vs = c.args.swept.now.events in
     let s = subst (λ (xs : List Edge). AreStraightsTo d.curves (length d.curves) xs ns) (sym c.deref-2.ensures.value) c.requires.straights in
     let r = subst (λ (xs : List Edge). Run (length xs) (edge_of xs) (steps_from [] vs)) (sym c.deref-2.ensures.value) c.requires.run in
     let p = c.deref-3.ensures.value ∙ c.in_ok-points.ensures ∙ ap (map (λ (x : Placed). x.at)) c.deref.ensures.value in
@@ -32,7 +31,7 @@ returns-in-Some c =
     let d = plan c.args.drawing.now in
     let es = c.deref-2.result.now in
     let ns = c.args.straights.now.numbers.items in
-    let vs = moves_of c.args.swept.now.events.items in
+    let vs = c.args.swept.now.events in
     let s = subst (λ (xs : List Edge). AreStraightsTo d.curves (length d.curves) xs ns) (sym c.deref-2.ensures.value) c.requires.straights in
     let r = subst (λ (xs : List Edge). Run (length xs) (edge_of xs) (steps_from [] vs)) (sym c.deref-2.ensures.value) c.requires.run in
     let p = c.deref-3.ensures.value ∙ c.in_ok-points.ensures ∙ ap (map (λ (x : Placed). x.at)) c.deref.ensures.value in
@@ -49,7 +48,7 @@ returns c =
     let d = plan c.args.drawing.now in
     let es = c.deref-2.result.now in
     let ns = c.args.straights.now.numbers.items in
-    let vs = moves_of c.args.swept.now.events.items in
+    let vs = c.args.swept.now.events in
     let s = subst (λ (xs : List Edge). AreStraightsTo d.curves (length d.curves) xs ns) (sym c.deref-2.ensures.value) c.requires.straights in
     let r = subst (λ (xs : List Edge). Run (length xs) (edge_of xs) (steps_from [] vs)) (sym c.deref-2.ensures.value) c.requires.run in
     let p = c.deref-3.ensures.value ∙ c.in_ok-points.ensures ∙ ap (map (λ (x : Placed). x.at)) c.deref.ensures.value in

@@ -1,7 +1,6 @@
-use Rattle.line_sweep.specs.Kinds.{moves_of}
 use Rattle.plane.specs.Rule.Plans.{plan}
 use Rattle.area_search.specs.OwnCorners.{AreOwn}
 use Rattle.area_search.proofs.own_corners.are_corners_own.Given as goal
 
 abbrev pub invariant-loop-number : goal.invariant-loop-number
-invariant-loop-number l = AreOwn (plan l.drawing) l.list (moves_of l.events) l.number
+invariant-loop-number l = AreOwn (plan l.drawing) l.list l.events l.number

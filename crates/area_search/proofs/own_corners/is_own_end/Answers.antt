@@ -1,6 +1,5 @@
 use Rattle.std.proofs.Common.{◌≡◌, ◌<◌, List, length, rules, arith, inl, inr, ap, ◌∙◌, subst}
 use Rattle.std.specs.Vec.{vec_len}
-use Rattle.line_sweep.specs.Kinds.{moves_of}
 use Rattle.plane.specs.Rule.Plans.{plan}
 use Rattle.plane.specs.declared.kinds.Edge.{Edge}
 use Rattle.tubes.specs.declared.kinds.Owner.{Owner}
@@ -28,7 +27,7 @@ returns-then-eq c =
     let w = c.chains_have_edges.ensures.owner d c.requires.list.0 c.args.number (subst (λ (es : List Edge). c.args.number < length es) t.edges c.requires.there) in
     let k : o.curve < length c.args.drawing.now.curves.items = omega (arith, q, w) in
     let x = c.index-curve.result.now in
-    λ h. end_of_curve d c.requires.list.0 list t (λ e l. c.tubed_lists.ensures.owners d c.requires.list.0 list no_owner e t l) (moves_of c.args.events.now) c.args.number o x c.args.at n c.requires.there c.index.ensures k c.index-curve.ensures
+    λ h. end_of_curve d c.requires.list.0 list t (λ e l. c.tubed_lists.ensures.owners d c.requires.list.0 list no_owner e t l) c.args.events.now c.args.number o x c.args.at n c.requires.there c.index.ensures k c.index-curve.ensures
     (elim c.then-eq.branch [
       | then-eq-via-then-eq w ↦ inl (same_point x.from c.args.at c.eq.result c.eq.ensures w.if-eq.true)
       | then-eq-via-else-eq+then-eq-2 w ↦ inr (same_point x.to c.args.at w.eq-else-eq.result w.eq-else-eq.ensures w.if-eq-2.true)
@@ -42,4 +41,4 @@ returns-then-number-gt0 c =
     let s = c.if-number-gt0.true in
     λ h. earlier_end d c.requires.list.0 list t (λ e l. c.tubed_lists.ensures.owners d c.requires.list.0 list no_owner e t l)
     (λ e l. c.chains_have_edges.ensures.half_arc d c.requires.list.0 e (subst (λ (es : List Edge). e < length es) t.edges l))
-    (moves_of c.args.events.now) c.args.number _ c.args.at c.requires.there c.requires.tube (c.is_other_at-then-number-gt0.ensures h) (c.requires.before _ (omega (arith, s)))
+    c.args.events.now c.args.number _ c.args.at c.requires.there c.requires.tube (c.is_other_at-then-number-gt0.ensures h) (c.requires.before _ (omega (arith, s)))

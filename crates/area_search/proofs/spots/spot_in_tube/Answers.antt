@@ -1,5 +1,4 @@
 use Rattle.std.proofs.Common.{sym, subst}
-use Rattle.line_sweep.specs.Kinds.{moves_of}
 use Rattle.plane.specs.Rule.Curves.{arc}
 use Rattle.plane.specs.Rule.HalfArcs.{HasSide}
 use Rattle.plane.specs.Rule.Places.{point}
@@ -12,5 +11,5 @@ use Rattle.area_search.proofs.spots.spot_in_tube.Goals as goal
 pub side_in_tube-requires : goal.side_in_tube-requires
 side_in_tube-requires c = record {
   side = subst (λ (x : Curve). HasSide (arc x) (point c.args.at)) (sym (nth_curve_is (plan c.args.case.now.drawing.now) c.args.number c.index.result.now c.requires.tube.there c.index.ensures))
-      (tube_side (plan c.args.case.now.drawing.now) c.args.case.now.level c.args.case.now.list.now.edges.items c.args.case.now.list.now.owners.items c.args.case.now.facings.now (moves_of c.args.case.now.swept.now.events.items) c.requires.case c.args.at c.args.number c.requires.tube);
+      (tube_side (plan c.args.case.now.drawing.now) c.args.case.now.level c.args.case.now.edges.now c.args.case.now.owners.now c.args.case.now.facings.now c.args.case.now.swept.now.events c.requires.case c.args.at c.args.number c.requires.tube);
 }

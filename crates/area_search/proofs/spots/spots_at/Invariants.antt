@@ -1,5 +1,4 @@
 use Rattle.std.proofs.Common.{◌≡◌, ℕ, ◌<◌, length}
-use Rattle.line_sweep.specs.Kinds.{moves_of}
 use Rattle.plane.specs.Rule.Plans.{object, plan}
 use Rattle.area_search.specs.Cases.{IsSpot, spot_at}
 use Rattle.area_search.proofs.spots.spots_at.Given as goal
@@ -7,5 +6,5 @@ use Rattle.area_search.proofs.spots.spots_at.Given as goal
 abbrev pub invariant-loop-number : goal.invariant-loop-number
 invariant-loop-number l = record {
   size : length l.spots.items ≡ l.number;
-  each : (j : ℕ) → j < l.number → IsSpot (plan l.case.drawing.now) l.case.level (moves_of l.case.swept.now.events.items) (object (plan l.case.drawing.now) j) (spot_at l.spots.items j);
+  each : (j : ℕ) → j < l.number → IsSpot (plan l.case.drawing.now) l.case.level l.case.swept.now.events (object (plan l.case.drawing.now) j) (spot_at l.spots.items j);
 }

@@ -3,12 +3,8 @@ use Rattle.plane.specs.Lists.{Has}
 use Rattle.half_edges.specs.HalfEdges.{HalfEdges, size}
 use Rattle.line_sweep.specs.declared.kinds.Cell.{Cell}
 use Rattle.line_sweep.specs.Kinds.{gaps_of}
-use Rattle.faces.specs.Joined.{AreKnown}
 use Rattle.faces.specs.Ranking.{AreRooted}
 use Rattle.faces.proofs.linking.links.Goals as goal
-
-pub new-requires-clause-known : goal.new-requires-clause-known
-new-requires-clause-known c = subst (λ (cs : List Cell). AreKnown (size c.args.labelled.now.mesh) (gaps_of cs)) (sym c.deref.ensures.value) c.requires.known
 
 pub ranks_from-requires-clause-within : goal.ranks_from-requires-clause-within
 ranks_from-requires-clause-within c = subst (λ (m : HalfEdges). (h : ℕ) → Has h c.args.roots.now → h < size m) (sym c.in_ok-graph.ensures.mesh) c.requires.within
@@ -16,5 +12,4 @@ ranks_from-requires-clause-within c = subst (λ (m : HalfEdges). (h : ℕ) → H
 pub ranks_from-requires-clause-rooted : goal.ranks_from-requires-clause-rooted
 ranks_from-requires-clause-rooted c =
     subst (λ (m : HalfEdges). AreRooted m (gaps_of c.in_ok-graph.graph.cells.now) c.args.roots.now) (sym c.in_ok-graph.ensures.mesh)
-    (subst (λ (cs : List Cell). AreRooted c.args.labelled.now.mesh (gaps_of cs) c.args.roots.now) (sym c.in_ok-graph.ensures.cells)
-    (subst (λ (cs : List Cell). AreRooted c.args.labelled.now.mesh (gaps_of cs) c.args.roots.now) (sym c.deref.ensures.value) c.requires.rooted))
+    (subst (λ (cs : List Cell). AreRooted c.args.labelled.now.mesh (gaps_of cs) c.args.roots.now) (sym c.in_ok-graph.ensures.cells) c.requires.rooted)

@@ -1,5 +1,5 @@
-use Rattle.std.proofs.Common.{sym, subst, ℕ, length, List}
-use Rattle.straight_predicates.specs.EdgeLists.{edge_of, AreBelow, IsCloseToAll}
+use Rattle.std.proofs.Common.{sym, subst}
+use Rattle.straight_predicates.specs.EdgeLists.{edge_of, IsCloseToAll}
 use Rattle.straight_predicates.specs.Tables.{table_of}
 use Rattle.line_sweep.specs.Blocks.{IsBlock, IsThrough}
 use Rattle.line_sweep.proofs.EventEdges.{close_event}

@@ -4,7 +4,6 @@ use Rattle.plane.specs.Runs.Moves.{steps_from}
 use Rattle.plane.specs.Runs.Steps.{Run}
 use Rattle.plane.specs.declared.kinds.Edge.{Edge}
 use Rattle.straight_predicates.specs.EdgeLists.{edge_of}
-use Rattle.line_sweep.specs.Kinds.{moves_of}
 use Rattle.meetings.specs.StraightEdges.{AreStraightsTo}
 use Rattle.meetings.proofs.StraightLists.{all_close, none_is_bad, pair_is_bad}
 use Rattle.meetings.proofs.straight_runs.sweep_straights.Goals as goal
@@ -22,7 +21,7 @@ returns-in-Ok c =
     let s = c.in_ok-straights.straights in
     record {
       straights = c.in_ok-straights.ensures;
-      run = subst (λ (es : List Edge). Run (length es) (edge_of es) (steps_from [] (moves_of c.in-Ok.swept.events.items))) c.deref.ensures.value c.in-Ok.ensures.run;
+      run = subst (λ (es : List Edge). Run (length es) (edge_of es) (steps_from [] c.in-Ok.swept.events)) c.deref.ensures.value c.in-Ok.ensures.run;
       fit = c.in-Ok.ensures.fit;
       clear = none_is_bad (plan d) c.deref.result.now s.numbers.items (subst (λ es. AreStraightsTo d.curves.items (length d.curves.items) es s.numbers.items) (sym c.deref.ensures.value) c.in_ok-straights.ensures) c.in-Ok.ensures.clear;
     }

@@ -1,4 +1,4 @@
-use Rattle.std.proofs.Common.{rules, arith, ap, subst, sym, ◌≡◌, ◌∙◌, ◌<◌, ◌<ℤ◌, ◌≤ℤ◌, pos, ℕ, get_or, length}
+use Rattle.std.proofs.Common.{rules, arith, subst, sym, ◌≡◌, ◌∙◌, ◌<◌, ◌<ℤ◌, ◌≤ℤ◌, pos, ℕ, length}
 use Rattle.plane.specs.Lists.{Has}
 use Rattle.plane.specs.Runs.Positions.{turn_at}
 use Rattle.straight_predicates.specs.EdgeLists.{edge_of}

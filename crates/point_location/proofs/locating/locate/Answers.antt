@@ -1,11 +1,8 @@
-use Rattle.std.proofs.Common.{List, length, get_or, arith, sym, ◌∙◌, subst, rules, refl}
+use Rattle.std.proofs.Common.{List, get_or, arith, sym, ◌∙◌, subst, rules}
 use Rattle.std.proofs.lemmas.List.{length-set}
-use Rattle.line_sweep.specs.declared.kinds.Event.{Event}
-use Rattle.line_sweep.specs.Kinds.{moves_of}
 use Rattle.point_location.specs.declared.numbered.Numbered.{Numbered}
 use Rattle.point_location.specs.Numbered.{IsInOrder, nothing}
 use Rattle.point_location.specs.Places.{IsPlaceOf}
-use Rattle.point_location.specs.Replaying.{IsApplied}
 use Rattle.point_location.proofs.Placed.{before_next, moment_at, placed_all, placed_next}
 use Rattle.point_location.proofs.locating.locate.Goals as goal
 
@@ -17,14 +14,10 @@ loop-point-init c = record {
   each = λ i l. absurd (omega (arith, l));
 }
 
-pub apply_before-requires-clause-begun : goal.apply_before-requires-clause-begun
-apply_before-requires-clause-begun c = subst (λ (es : List Event). IsApplied (moves_of es) c.loop-point.applied c.loop-point.live) (sym c.deref.ensures.value) c.loop-point.invariant.done
-
 pub place_at-requires-clause-moment : goal.place_at-requires-clause-moment
 place_at-requires-clause-moment c =
     let a = c.in_ok-applied in let live = c.apply_before.new.live in
-    moment_at c.args.swept.now.events.items c.deref.result.now c.deref-in-loop-point.result.now c.deref.ensures.value c.deref-in-loop-point.ensures.value
-    c.loop-point.applied a.applied live (get_or c.deref-point-items.result.now c.loop-point.point-index nothing).at
+    moment_at c.args.swept.now.events c.loop-point.applied a.applied live (get_or c.deref-point-items.result.now c.loop-point.point-index nothing).at
     (λ j l. c.loop-point.invariant.passed j l c.loop-point-test.true) a.ensures.applied a.ensures.passed a.ensures.coming
 
 pub loop-point-preserved : goal.loop-point-preserved
@@ -32,21 +25,19 @@ loop-point-preserved c =
     let a = c.in_ok-applied in let live = c.apply_before.new.live in
     let order = c.deref-point-items.result.now in
     let k = c.loop-point.point-index in
-    let moves = moves_of c.args.swept.now.events.items in
+    let moves = c.args.swept.now.events in
     let o : IsInOrder c.args.points.now order = subst (λ (ns : List Numbered). IsInOrder c.args.points.now ns) (sym c.deref-point-items.ensures.value) c.in_ok-order.ensures in
-    let m = moment_at c.args.swept.now.events.items c.deref.result.now c.args.swept.now.events.items c.deref.ensures.value refl
-    c.loop-point.applied a.applied live (get_or order k nothing).at
+    let m = moment_at moves c.loop-point.applied a.applied live (get_or order k nothing).at
     (λ j l. c.loop-point.invariant.passed j l c.loop-point-test.true) a.ensures.applied a.ensures.passed a.ensures.coming in
     record {
-      done = subst (λ (es : List Event). IsApplied (moves_of es) a.applied live) c.deref.ensures.value a.ensures.applied;
+      done = a.ensures.applied;
       passed = λ j l h. before_next c.args.points.now order o k h _ (m.passed j l);
       size = length-set c.loop-point.places.items _ c.place_at.result ∙ c.loop-point.invariant.size;
       each = placed_next (IsPlaceOf c.args.edges.now moves) c.args.points.now order o c.loop-point.places.items c.loop-point.invariant.size k c.loop-point-test.true c.place_at.result
-          (subst (λ (es : List Event). IsPlaceOf c.args.edges.now (moves_of es) (get_or order k nothing).at c.place_at.result) c.deref-in-loop-point.ensures.value c.place_at.ensures)
-          c.loop-point.invariant.each;
+          c.place_at.ensures c.loop-point.invariant.each;
     }
 
 pub returns : goal.returns
 returns c =
-    placed_all c.args.edges.now (moves_of c.args.swept.now.events.items) c.args.points.now c.deref-point-items.result.now c.loop-point.places.items c.loop-point.point-index
+    placed_all c.args.edges.now c.args.swept.now.events c.args.points.now c.deref-point-items.result.now c.loop-point.places.items c.loop-point.point-index
     (subst (λ (ns : List Numbered). IsInOrder c.args.points.now ns) (sym c.deref-point-items.ensures.value) c.in_ok-order.ensures) c.loop-point-test.false c.loop-point.invariant.size c.loop-point.invariant.each

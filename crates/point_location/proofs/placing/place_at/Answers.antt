@@ -1,58 +1,45 @@
-use Rattle.std.proofs.Common.{◌≡◌, ◌+◌, ◌<◌, ◌≤◌, length, arith, ap, sym, ◌∙◌, subst, true, false, Bool}
+use Rattle.std.proofs.Common.{◌≡◌, ◌+◌, ◌<◌, ◌≤◌, length, arith, sym, ◌∙◌, subst, true, false, Bool}
 use Rattle.plane.specs.Runs.Moves.{Move}
-use Rattle.line_sweep.specs.Kinds.{moves_of}
 use Rattle.point_location.specs.Replaying.{EndsOrStarts}
 use Rattle.plane.specs.Runs.Moves.{step_of}
 use Rattle.point_location.proofs.PlaneLaws.{decides_equal}
 use Rattle.point_location.proofs.PointPlaces.{event_fits, least_at_event, now_known, now_room, place_is, some_edge}
-use Rattle.point_location.proofs.Replays.{move_is, moves_size}
 use Rattle.point_location.proofs.placing.place_at.Goals as goal
-use Rattle.point_location.proofs.placing.place_at.Goals.{else-applied-events-via-then-applied-events+else-eq, else-applied-events-via-else-applied-events}
+use Rattle.point_location.proofs.placing.place_at.Goals.{else-applied-len-via-then-applied-len+else-eq, else-applied-len-via-else-applied-len}
 
 pub edge_of_event-requires-clause-block : goal.edge_of_event-requires-clause-block
 edge_of_event-requires-clause-block c =
-    let v = c.index-events-applied-then-eq in
-    subst (λ (u : Move). u.position + u.ending ≤ length c.args.live.now) (move_is c.args.events.now c.args.applied v.result c.if-applied-events.true v.is)
-    (event_fits (moves_of c.args.events.now) c.args.applied c.args.live.now c.args.at c.requires.moment c.requires.fit (let n = moves_size c.args.events.now in let t = c.if-applied-events.true in omega (arith, n, t)))
+    subst (λ (u : Move). u.position + u.ending ≤ length c.args.live.now) (sym c.get.ensures)
+    (event_fits c.args.events.now c.args.applied c.args.live.now c.args.at c.requires.moment c.requires.fit (let n = c.len.ensures in let t = c.if-applied-len.true in omega (arith, n, t)))
 
 pub edge_of_event-requires-clause-some : goal.edge_of_event-requires-clause-some
 edge_of_event-requires-clause-some c =
-    let v = c.index-events-applied-then-eq in
-    let u = c.index-events-applied in
-    let is = move_is c.args.events.now c.args.applied v.result c.if-applied-events.true v.is in
-    let was = move_is c.args.events.now c.args.applied u.result c.if-applied-events.true u.is in
-    let here = ap (λ (w : Move). w.at) was ∙ ap (λ w. w.at) u.is ∙ (decides_equal _ _ c.eq.result c.eq.ensures).0 c.if-eq.true in
-    let l : c.args.applied < length (moves_of c.args.events.now) = (let n = moves_size c.args.events.now in let t = c.if-applied-events.true in omega (arith, n, t)) in
-    let (e, b, h) = some_edge c.args.edges.now (moves_of c.args.events.now) c.requires.run c.args.applied c.args.live.now c.args.at c.requires.moment l here c.requires.few in
-    (e, b, subst (λ (w : Move). EndsOrStarts (step_of c.args.live.now w) e) is h)
+    let here = sym c.at.ensures ∙ (decides_equal _ _ c.eq.result c.eq.ensures).0 c.if-eq.true in
+    let l : c.args.applied < length c.args.events.now = (let n = c.len.ensures in let t = c.if-applied-len.true in omega (arith, n, t)) in
+    let (e, b, h) = some_edge c.args.edges.now c.args.events.now c.requires.run c.args.applied c.args.live.now c.args.at c.requires.moment l here c.requires.few in
+    (e, b, subst (λ (w : Move). EndsOrStarts (step_of c.args.live.now w) e) (sym c.get.ensures) h)
 
 pub returns-then-eq : goal.returns-then-eq
 returns-then-eq c =
-    let v = c.index-events-applied-then-eq in
-    let u = c.index-events-applied in
-    let is = move_is c.args.events.now c.args.applied v.result c.if-applied-events.true v.is in
-    let was = move_is c.args.events.now c.args.applied u.result c.if-applied-events.true u.is in
-    let here = ap (λ (w : Move). w.at) was ∙ ap (λ w. w.at) u.is ∙ (decides_equal _ _ c.eq.result c.eq.ensures).0 c.if-eq.true in
-    let l : c.args.applied < length (moves_of c.args.events.now) = (let n = moves_size c.args.events.now in let t = c.if-applied-events.true in omega (arith, n, t)) in
-    least_at_event c.args.edges.now (moves_of c.args.events.now) c.requires.run c.args.applied c.args.live.now c.args.at c.requires.moment l here c.edge_of_event.result
-    (subst (λ (w : Move). EndsOrStarts (step_of c.args.live.now w) c.edge_of_event.result) (sym is) c.edge_of_event.ensures.is)
-    (λ d h. c.edge_of_event.ensures.least d (subst (λ (w : Move). EndsOrStarts (step_of c.args.live.now w) d) is h))
+    let here = sym c.at.ensures ∙ (decides_equal _ _ c.eq.result c.eq.ensures).0 c.if-eq.true in
+    let l : c.args.applied < length c.args.events.now = (let n = c.len.ensures in let t = c.if-applied-len.true in omega (arith, n, t)) in
+    least_at_event c.args.edges.now c.args.events.now c.requires.run c.args.applied c.args.live.now c.args.at c.requires.moment l here c.edge_of_event.result
+    (subst (λ (w : Move). EndsOrStarts (step_of c.args.live.now w) c.edge_of_event.result) c.get.ensures c.edge_of_event.ensures.is)
+    (λ d h. c.edge_of_event.ensures.least d (subst (λ (w : Move). EndsOrStarts (step_of c.args.live.now w) d) (sym c.get.ensures) h))
 
 pub place_between-requires-clause-few : goal.place_between-requires-clause-few
-place_between-requires-clause-few c = let r = now_room c.args.edges.now (moves_of c.args.events.now) c.requires.run c.args.applied c.args.live.now c.args.at c.requires.moment in let f = c.requires.few in omega (arith, r, f)
+place_between-requires-clause-few c = let r = now_room c.args.edges.now c.args.events.now c.requires.run c.args.applied c.args.live.now c.args.at c.requires.moment in let f = c.requires.few in omega (arith, r, f)
 
 pub place_between-requires-clause-known : goal.place_between-requires-clause-known
-place_between-requires-clause-known c = now_known c.args.edges.now (moves_of c.args.events.now) c.requires.run c.args.applied c.args.live.now c.args.at c.requires.moment
+place_between-requires-clause-known c = now_known c.args.edges.now c.args.events.now c.requires.run c.args.applied c.args.live.now c.args.at c.requires.moment
 
 pub returns : goal.returns
 returns c =
-    place_is c.args.edges.now (moves_of c.args.events.now) c.requires.run c.args.applied c.args.live.now c.args.at c.requires.moment
-    (λ l q. elim c.else-applied-events.branch [
-      | else-applied-events-via-then-applied-events+else-eq w ↦
-          let u = w.index-events-applied in
-          let was = move_is c.args.events.now c.args.applied u.result w.if-applied-events.true u.is in
-          clash w.eq.result ((decides_equal _ _ w.eq.result w.eq.ensures).1 (ap (λ w. w.at) (sym u.is) ∙ ap (λ (w : Move). w.at) (sym was) ∙ q)) w.if-eq.false
-      | else-applied-events-via-else-applied-events w ↦ absurd (let n = moves_size c.args.events.now in let t = w.if-applied-events.false in omega (arith, n, t, l))
+    place_is c.args.edges.now c.args.events.now c.requires.run c.args.applied c.args.live.now c.args.at c.requires.moment
+    (λ l q. elim c.else-applied-len.branch [
+      | else-applied-len-via-then-applied-len+else-eq w ↦
+          clash w.eq.result ((decides_equal _ _ w.eq.result w.eq.ensures).1 (w.at.ensures ∙ q)) w.if-eq.false
+      | else-applied-len-via-else-applied-len w ↦ absurd (let n = c.len.ensures in let t = w.if-applied-len.false in omega (arith, n, t, l))
     ])
     c.place_between.result c.place_between.ensures
   where
