@@ -1,6 +1,6 @@
 #!/usr/bin/env python3
-"""Prints the table of crates/certificate_checker/src/number_tests.rt: a certificate's numbers, and
-what is broken where one of them is changed. The rules are read by second_checker.py.
+"""Prints the table of crates/plane_tests/src/changed_numbers.rt: the numbers of a certificate,
+and what is broken where one of them is changed. The rules are read by second_checker.py.
 
 usage: changed_numbers.py
 """

@@ -3,4 +3,3 @@ pub mod Writing
 pub mod Apart
 pub mod TurnedEvents
 pub mod MovedEvents
-pub mod SquareMesh

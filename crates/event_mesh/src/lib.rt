@@ -23,8 +23,6 @@
 
 mod building;
 pub mod laws;
-#[cfg(test)]
-mod tests;
 mod turning;
 
 pub use building::mesh_of;

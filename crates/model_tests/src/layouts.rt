@@ -1,56 +1,45 @@
 // The layout of a topic with one table: a parcel has a number, which identifies it, and a form,
 // which is an AREA.
+ghost use Rattle.std.specs.Prelude.{IfSome};
 ghost use Rattle.table_layout.specs.Valid.{IsValid};
 ghost use Rattle.table_layout.specs.Values.{layout_view};
 
 use super::texts::resolved;
 use std::alloc::Global;
-use std::process::Abort;
 use table_layout::{AreaOf, Layout, Role, Table, TableId, layout, table_of};
 
-const PARCEL: &str = "TABLE Parcel = Nr: TEXT*12; Form: AREA WITH (ARCS) VERTEX Metres \
-    WITHOUT OVERLAPS > 0.050; IDENT Nr; END Parcel;";
+const PARCEL: &[u8] = b"TRANSFER One; DOMAIN Metres = COORD2 0.000 0.000 1000.000 1000.000;\n\
+    MODEL M TOPIC T =\nTABLE Parcel = Nr: TEXT*12; Form: AREA WITH (ARCS) VERTEX Metres \
+    WITHOUT OVERLAPS > 0.050; IDENT Nr; END Parcel;\nEND T. END M. FORMAT FREE; \
+    CODE BLANK = DEFAULT, UNDEFINED = DEFAULT, CONTINUE = DEFAULT; TID = ANY; END.\n";
 
-fn laid(rt: &impl Abort, alloc: Global) -> Layout
-    ensures { IsValid (layout_view result) }
+fn laid(alloc: Global) -> Option<Layout>
+    ensures { IfSome result (λ layout. IsValid (layout_view layout)) }
 {
-    let metres = "DOMAIN Metres = COORD2 0.000 0.000 1000.000 1000.000;";
-    let model = resolved(rt, alloc, metres, PARCEL);
-    match layout(alloc, &model) {
-        Ok(layout) => layout,
-        Err(_) => panic!(rt; "memory"),
-    }
+    let model = resolved(alloc, PARCEL)?;
+    layout(alloc, &model).ok()
 }
 
-fn helper_holds(rt: &impl Abort, helper: &Table) {
-    assert_eq!(rt; helper.name.bytes(), b"Parcel_Form".as_slice());
-    let main = TableId(1);
-    assert!(rt; helper.role == Role::AreaLines { main, column: 1 });
-    assert_eq!(rt; (helper.columns.len(), helper.lines.len()), (0, 1));
+fn is_table(table: &Table, name: &[u8], role: Role, counts: (usize, usize)) -> bool {
+    table.name.bytes() == name
+        && table.role == role
+        && (table.columns.len(), table.lines.len()) == counts
 }
 
-fn parcel_holds(rt: &impl Abort, parcel: &Table) {
-    assert_eq!(rt; parcel.name.bytes(), b"Parcel".as_slice());
-    assert!(rt; parcel.role == Role::Main);
-    assert_eq!(rt; (parcel.columns.len(), parcel.lines.len()), (2, 0));
+const HELPER: Role = Role::AreaLines {
+    main: TableId(1),
+    column: 1,
+};
+
+// Whether there is the helper table before the table, each with its columns and lines.
+fn are_tables(tables: &[Table]) -> bool {
+    tables.len() == 2
+        && is_table(&tables[0], b"Parcel_Form", HELPER, (0, 1))
+        && is_table(&tables[1], b"Parcel", Role::Main, (2, 0))
 }
 
-fn areas_hold(rt: &impl Abort, areas: &[AreaOf]) {
-    assert_eq!(rt; areas.len(), 1);
-    assert_eq!(rt; areas[0].name.bytes(), b"Form".as_slice());
-}
-
-fn tables_hold(rt: &impl Abort, tables: &[Table]) {
-    assert_eq!(rt; tables.len(), 2);
-    helper_holds(rt, &tables[0]);
-    parcel_holds(rt, &tables[1]);
-}
-
-#[test]
-fn an_area_has_a_helper_table_before_its_table(rt: HostRuntime) {
-    let layout = laid(&rt, rt.alloc());
-    tables_hold(&rt, &layout.tables);
-    areas_hold(&rt, &layout.areas);
+fn is_area(areas: &[AreaOf]) -> bool {
+    areas.len() == 1 && areas[0].name.bytes() == b"Form".as_slice()
 }
 
 // A topic, a name, and the number of the table.
@@ -62,17 +51,28 @@ const CASES: [(u32, &str, Option<u32>); 5] = [
     (0, "", None),
 ];
 
-fn finds_tables(rt: &impl Abort, layout: &Layout)
+fn finds_tables(layout: &Layout) -> bool
     requires { IsValid (layout_view layout.now) }
 {
     for (topic, name, number) in &CASES {
-        let found = table_of(layout, *topic, name.as_bytes());
-        assert!(rt; found == number.map(TableId), "{name}");
+        if table_of(layout, *topic, name.as_bytes()) != number.map(TableId) {
+            return false;
+        }
+    }
+    true
+}
+
+// Whether the layout is that of the page, and its tables are found.
+fn is_laid(alloc: Global) -> bool {
+    match laid(alloc) {
+        Some(layout) => {
+            are_tables(&layout.tables) && is_area(&layout.areas) && finds_tables(&layout)
+        }
+        None => false,
     }
 }
 
 #[test]
-fn a_table_is_found_by_its_topic_and_name(rt: HostRuntime) {
-    let layout = laid(&rt, rt.alloc());
-    finds_tables(&rt, &layout);
+fn an_area_has_a_helper_table_before_its_table(rt: HostRuntime) {
+    assert!(rt; is_laid(rt.alloc()));
 }

@@ -1,5 +1,6 @@
 //! Tests of the crates that read a model, by their public items alone: numbers with a point,
-//! tokens, the grammar, the rules on names and types, and the layout of tables.
+//! tokens, what is read of a model, and the layout of tables. The faults of models are rows of
+//! `worked_rows`.
 //!
 //! They stand in a crate of their own since a library with tests is proved once more with them.
 #![tactic(auto)]
@@ -8,8 +9,6 @@
 mod grammar;
 #[cfg(test)]
 mod layouts;
-#[cfg(test)]
-mod names;
 #[cfg(test)]
 mod numbers;
 #[cfg(test)]

@@ -63,24 +63,23 @@ const ROWS: [(&str, u8, Result<i64, DecimalFault>); 55] = [
     ("99999999999999999999999999999999999999999", 0, Err(TooLong)),
 ];
 
+fn is_value(text: &str, scale: u8, want: Result<i64, DecimalFault>) -> bool {
+    scale <= 9 && read_scaled(text.as_bytes(), scale) == want
+}
+
 #[test]
 fn a_text_has_its_value_or_its_first_fault(rt: HostRuntime) {
     for (text, scale, want) in &ROWS {
-        assert!(rt; *scale <= 9, "a scale");
-        let got = read_scaled(text.as_bytes(), *scale);
-        assert_eq!(rt; got, *want, "{text} at {scale}");
+        assert!(rt; is_value(text, *scale, *want), "{text} at {scale}");
     }
 }
 
 #[test]
 fn a_text_of_any_length_is_read(rt: HostRuntime) {
     for (digit, want) in [(b'0', Ok(7)), (b'9', Err(TooLong)), (b'x', Err(NotNumber))] {
-        let mut text = Vec::new(rt.alloc());
-        for _ in 0..3000 {
-            text.push(digit).expect(&rt, "memory");
-        }
-        text.push(b'7').expect(&rt, "memory");
-        assert_eq!(rt; read_scaled(&text, 0), want);
+        let mut text = [digit; 3001];
+        text[3000] = b'7';
+        assert!(rt; read_scaled(&text, 0) == want, "of {digit}");
     }
 }
 
@@ -110,22 +109,20 @@ const WRITTEN: [(i64, u8, &str); 22] = [
     (-NINES, 9, "-999999999.999999999"),
 ];
 
+// Whether the text is written of the value, read back, and nothing is written after it.
+fn is_written(value: i64, scale: u8, want: &[u8]) -> bool {
+    if scale > 9 || value.unsigned_abs() >= 1_000_000_000_000_000_000 {
+        return false;
+    }
+    let mut into = [b'#'; 24];
+    let length = write_scaled(value, scale, &mut into).min(24);
+    let (text, rest) = into.split_at(length);
+    text == want && read_scaled(text, scale) == Ok(value) && rest.iter().all(|byte| *byte == b'#')
+}
+
 #[test]
 fn a_value_is_written_with_its_decimals_and_read_back(rt: HostRuntime) {
     for (value, scale, want) in &WRITTEN {
-        assert!(rt;
-            value.unsigned_abs() < 1_000_000_000_000_000_000,
-            "18 digits"
-        );
-        assert!(rt; *scale <= 9, "a scale");
-        let mut into = [b'#'; 24];
-        let length = write_scaled(*value, *scale, &mut into);
-        assert!(rt; length <= into.len(), "a length");
-        assert_eq!(rt; &into[..length], want.as_bytes(), "{value} at {scale}");
-        assert!(rt;
-            into[length..].iter().all(|byte| *byte == b'#'),
-            "behind {want}"
-        );
-        assert_eq!(rt; read_scaled(&into[..length], *scale), Ok(*value), "{want}");
+        assert!(rt; is_written(*value, *scale, want.as_bytes()), "{want}");
     }
 }

@@ -1,5 +1,5 @@
-// Texts read as far as a test wants them.
-ghost use Rattle.std.specs.Prelude.{◌≤◌, length};
+// Texts read as far as a test wants them; nothing comes of a text that is no model.
+ghost use Rattle.std.specs.Prelude.{◌≤◌, IfSome, length};
 ghost use Rattle.ili_lexer.specs.Tokens.{AreTokens};
 ghost use Rattle.ili_grammar.specs.Values.{model_of};
 ghost use Rattle.ili_grammar.specs.Limits.{IsWithinLimits};
@@ -10,53 +10,27 @@ use ili_grammar::{ModelSyntax, parse};
 use ili_lexer::{Token, lex};
 use resolver::{ResolvedModel, resolve};
 use std::alloc::Global;
-use std::process::Abort;
 
-// A model with these domains, and with this text in its one topic.
-pub fn text_of(rt: &impl Abort, alloc: Global, domains: &str, topic: &str) -> Vec<u8> {
-    let parts = [
-        "TRANSFER One; ",
-        domains,
-        "\nMODEL M TOPIC T =\n",
-        topic,
-        "\nEND T. END M. FORMAT FREE; CODE BLANK = DEFAULT, UNDEFINED = DEFAULT, ",
-        "CONTINUE = DEFAULT; TID = ANY; END.\n",
-    ];
-    let mut text = Vec::new(alloc);
-    for part in parts {
-        text.extend_from_slice(part.as_bytes()).expect(rt, "memory");
+pub fn tokens_of(alloc: Global, text: &[u8]) -> Option<Vec<Token>>
+    ensures short { IfSome result (λ tokens. length text.now ≤ 4194304) }
+    ensures tokens { IfSome result (λ tokens. AreTokens text.now tokens.items) }
+{
+    if text.len() > 4_194_304 {
+        return None;
     }
-    text
+    lex(alloc, text).ok()
 }
 
-pub fn tokens_of(rt: &impl Abort, alloc: Global, text: &[u8]) -> Vec<Token>
-    ensures short { length text.now ≤ 4194304 }
-    ensures tokens { AreTokens text.now result.items }
+pub fn syntax_of(alloc: Global, text: &[u8]) -> Option<ModelSyntax>
+    ensures { IfSome result (λ syntax. IsWithinLimits (model_of syntax)) }
 {
-    assert!(rt; text.len() <= 4194304);
-    match lex(alloc, text) {
-        Ok(tokens) => tokens,
-        Err(fault) => panic!(rt; "{fault}"),
-    }
+    let tokens = tokens_of(alloc, text)?;
+    parse(alloc, text, &tokens).ok()
 }
 
-pub fn syntax_of(rt: &impl Abort, alloc: Global, text: &[u8]) -> ModelSyntax
-    ensures { IsWithinLimits (model_of result) }
+pub fn resolved(alloc: Global, text: &[u8]) -> Option<ResolvedModel>
+    ensures { IfSome result (λ model. IsSound (resolved_of model)) }
 {
-    let tokens = tokens_of(rt, alloc, text);
-    match parse(alloc, text, &tokens) {
-        Ok(syntax) => syntax,
-        Err(fault) => panic!(rt; "{fault}"),
-    }
-}
-
-pub fn resolved(rt: &impl Abort, alloc: Global, domains: &str, topic: &str) -> ResolvedModel
-    ensures { IsSound (resolved_of result) }
-{
-    let text = text_of(rt, alloc, domains, topic);
-    let syntax = syntax_of(rt, alloc, &text);
-    match resolve(alloc, &syntax) {
-        Ok(model) => model,
-        Err(_) => panic!(rt; "a fault in {topic}"),
-    }
+    let syntax = syntax_of(alloc, text)?;
+    resolve(alloc, &syntax).ok()
 }

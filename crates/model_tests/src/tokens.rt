@@ -1,24 +1,7 @@
 // The tokens of a text.
 use super::texts::tokens_of;
-use ili_lexer::{Keyword, Kind, LexFault, Mark, Token, lex};
+use ili_lexer::{Keyword, Kind, Mark, Token};
 use std::alloc::Global;
-use std::process::Abort;
-
-fn has_kinds(rt: &impl Abort, alloc: Global, text: &[u8], kinds: &[Kind]) {
-    let tokens = tokens_of(rt, alloc, text);
-    assert_eq!(rt; tokens.len(), kinds.len(), "length");
-    for (token, kind) in tokens.iter().zip(kinds.iter()) {
-        assert_eq!(rt; token.kind, *kind, "kind");
-    }
-}
-
-fn is_at_fault(rt: &impl Abort, alloc: Global, text: &[u8], fault: LexFault) {
-    assert!(rt; text.len() <= 4194304);
-    match lex(alloc, text) {
-        Ok(_) => panic!(rt; "no fault"),
-        Err(found) => assert_eq!(rt; found, fault),
-    }
-}
 
 const NUMBER: Kind = Kind::Number;
 
@@ -28,6 +11,7 @@ const PERIOD: Kind = Kind::Mark(Mark::Period);
 
 const TWO_PERIODS: Kind = Kind::Mark(Mark::TwoPeriods);
 
+// A text, and the kinds of its tokens.
 const KINDS: [(&[u8], &[Kind]); 23] = [
     (b"", &[]),
     (b"+0x1", &[NUMBER, NAME]),
@@ -66,14 +50,7 @@ const KINDS: [(&[u8], &[Kind]); 23] = [
     (b"!!\xff\x0c//\nN!!", &[NAME]),
 ];
 
-#[test]
-fn tokens_are_the_longest_at_their_place(rt: HostRuntime) {
-    for (text, kinds) in &KINDS {
-        has_kinds(&rt, rt.alloc(), text, kinds);
-    }
-}
-
-const WORDS: &str = "TRANSFER DOMAIN MODEL TOPIC TABLE OPTIONAL END NO IDENT COORD2 COORD3 DIM1 \
+const WORDS: &[u8] = b"TRANSFER DOMAIN MODEL TOPIC TABLE OPTIONAL END NO IDENT COORD2 COORD3 DIM1 \
     DIM2 RADIANS GRADS DEGREES TEXT DATE HALIGNMENT VALIGNMENT POLYLINE SURFACE AREA WITH \
     STRAIGHTS ARCS VERTEX BASE WITHOUT OVERLAPS LINEATTR FORMAT FREE FIX CODE FONT BLANK \
     UNDEFINED CONTINUE DEFAULT TID I16 I32 ANY VIEW DERIVATIVES";
@@ -94,20 +71,57 @@ const MARKS: [Kind; 13] = [
     Kind::Mark(Mark::Arrow),
 ];
 
-fn are_keywords(rt: &impl Abort, tokens: &[Token]) {
-    assert_eq!(rt; tokens.len(), 46);
-    for token in tokens {
-        assert!(rt; matches!(token.kind, Kind::Keyword(_)), "a keyword");
+fn are_kinds(tokens: &[Token], kinds: &[Kind]) -> bool {
+    for (token, kind) in tokens.iter().zip(kinds) {
+        if token.kind != *kind {
+            return false;
+        }
     }
-    assert_eq!(rt; tokens[0].kind, Kind::Keyword(Keyword::Transfer));
-    assert_eq!(rt; tokens[45].kind, Kind::Keyword(Keyword::Derivatives));
+    tokens.len() == kinds.len()
+}
+
+fn has_kinds(alloc: Global, text: &[u8], kinds: &[Kind]) -> bool {
+    match tokens_of(alloc, text) {
+        Some(tokens) => are_kinds(&tokens, kinds),
+        None => false,
+    }
+}
+
+// Whether there are 46 keywords, from the first one of the table to the last.
+fn are_keywords(tokens: &[Token]) -> bool {
+    for token in tokens {
+        if !matches!(token.kind, Kind::Keyword(_)) {
+            return false;
+        }
+    }
+    let first = tokens.first().map(|token| token.kind);
+    let last = tokens.last().map(|token| token.kind);
+    tokens.len() == 46
+        && first == Some(Kind::Keyword(Keyword::Transfer))
+        && last == Some(Kind::Keyword(Keyword::Derivatives))
+}
+
+fn has_keywords(alloc: Global) -> bool {
+    match tokens_of(alloc, WORDS) {
+        Some(tokens) => are_keywords(&tokens),
+        None => false,
+    }
 }
 
 #[test]
-fn each_keyword_and_each_mark_is_read(rt: HostRuntime) {
-    let tokens = tokens_of(&rt, rt.alloc(), WORDS.as_bytes());
-    are_keywords(&rt, &tokens);
-    has_kinds(&rt, rt.alloc(), b"; : , = ( ) [ ] * > . .. ->", &MARKS);
+fn tokens_are_the_longest_at_their_place(rt: HostRuntime) {
+    for (text, kinds) in &KINDS {
+        assert!(rt;
+            has_kinds(rt.alloc(), text, kinds),
+            "{} tokens",
+            kinds.len()
+        );
+    }
+    assert!(rt;
+        has_kinds(rt.alloc(), b"; : , = ( ) [ ] * > . .. ->", &MARKS),
+        "the marks"
+    );
+    assert!(rt; has_keywords(rt.alloc()), "the keywords");
 }
 
 // The line, the column, the first byte and the byte after the last of each token.
@@ -120,74 +134,25 @@ const PLACES: [(u32, u32, u32, u32); 6] = [
     (4, 2, 22, 25),
 ];
 
-fn are_at_places(rt: &impl Abort, tokens: &[Token]) {
-    assert_eq!(rt; tokens.len(), 6);
-    for (token, place) in tokens.iter().zip(PLACES.iter()) {
-        assert_eq!(rt; (token.line, token.column, token.from, token.upto), *place);
+fn are_at_places(tokens: &[Token]) -> bool {
+    for (token, place) in tokens.iter().zip(&PLACES) {
+        if (token.line, token.column, token.from, token.upto) != *place {
+            return false;
+        }
+    }
+    tokens.len() == PLACES.len()
+}
+
+const PLACED: &[u8] = b"a\r\n //\n// +1.50;\rb!!\n\tc_9 ";
+
+fn has_places(alloc: Global) -> bool {
+    match tokens_of(alloc, PLACED) {
+        Some(tokens) => are_at_places(&tokens),
+        None => false,
     }
 }
 
 #[test]
 fn tokens_know_their_places(rt: HostRuntime) {
-    let tokens = tokens_of(&rt, rt.alloc(), b"a\r\n //\n// +1.50;\rb!!\n\tc_9 ");
-    are_at_places(&rt, &tokens);
-}
-
-const FAULTS: [(&[u8], LexFault); 22] = [
-    (
-        b"TRANSFER One;\n#MODEL M\n",
-        LexFault::BadByte { line: 2, column: 1 },
-    ),
-    (b"a\n[0x .. 10]", LexFault::BadByte { line: 2, column: 2 }),
-    (b"0x", LexFault::BadByte { line: 1, column: 1 }),
-    (b"0xg", LexFault::BadByte { line: 1, column: 1 }),
-    (b"a\x0cb", LexFault::BadByte { line: 1, column: 2 }),
-    (b"a\x0bb", LexFault::BadByte { line: 1, column: 2 }),
-    (
-        b"VIEW FIX #",
-        LexFault::BadByte {
-            line: 1,
-            column: 10,
-        },
-    ),
-    (b"\x00", LexFault::BadByte { line: 1, column: 1 }),
-    (b"a\xe4", LexFault::BadByte { line: 1, column: 2 }),
-    (b"_a", LexFault::BadByte { line: 1, column: 1 }),
-    (b"- 5", LexFault::BadByte { line: 1, column: 1 }),
-    (b"+a", LexFault::BadByte { line: 1, column: 1 }),
-    (b"a /", LexFault::BadByte { line: 1, column: 3 }),
-    (b"/////", LexFault::BadByte { line: 1, column: 5 }),
-    (b"+.5", LexFault::BadByte { line: 1, column: 1 }),
-    (b"!", LexFault::BadByte { line: 1, column: 1 }),
-    (b"\n ///", LexFault::OpenExplanation { line: 2, column: 2 }),
-    (
-        b"// // // #",
-        LexFault::OpenExplanation { line: 1, column: 7 },
-    ),
-    (
-        b"0000000000000000000",
-        LexFault::LongNumber { line: 1, column: 1 },
-    ),
-    (
-        b"a 0.0000000000",
-        LexFault::LongNumber { line: 1, column: 3 },
-    ),
-    (
-        b"-1234567890.123456789",
-        LexFault::LongNumber { line: 1, column: 1 },
-    ),
-    (
-        b"123456789012345678 123456789.123456789 #",
-        LexFault::BadByte {
-            line: 1,
-            column: 40,
-        },
-    ),
-];
-
-#[test]
-fn the_first_fault_of_a_text_is_named(rt: HostRuntime) {
-    for (text, fault) in &FAULTS {
-        is_at_fault(&rt, rt.alloc(), text, *fault);
-    }
+    assert!(rt; has_places(rt.alloc()));
 }

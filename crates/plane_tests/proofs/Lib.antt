@@ -1,1 +1,2 @@
+pub mod SquareMesh
 pub mod TestMeshes

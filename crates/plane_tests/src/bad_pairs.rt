@@ -1,57 +1,12 @@
 // Drawings with half arcs, and the pair of their curves that is named as bad.
-ghost use Rattle.std.specs.Prelude.{◌≡◌, IsTrue, pos};
-ghost use Rattle.plane.specs.Rule.Turns.{cross};
-
-use super::areas::is_inside;
-use super::meetings_of_edges::are_close;
+use super::drawn::Line::{Arc, Straight};
+use super::drawn::{Line, WINDOWS, at, drawn, is_inside};
 use meetings::{BadPair, arc_meeting, bad_meeting, is_on, reach};
 use near_pairs::Reach;
 use plane::{Drawing, Point, Window2};
 use ports::Memory;
 use std::alloc::Global;
-use std::process::Abort;
 use std::test::Fail;
-use straight_predicates::{Turn, turn};
-
-// The coordinates of a line's vertices, from the window's low corner: two of a straight, three of
-// an arc, which is two half arcs.
-#[derive(Clone, Copy)]
-pub enum Line {
-    Straight([i64; 4]),
-    Arc([i64; 6]),
-}
-
-use Line::{Arc, Straight};
-
-pub const WINDOWS: [Window2; 3] = [
-    Window2 {
-        low: Point { x: 0, y: 0 },
-        high: Point {
-            x: 1_000_000,
-            y: 1_000_000,
-        },
-    },
-    Window2 {
-        low: Point {
-            x: 999_999_999_998_999_999,
-            y: -999_999_999_999_999_999,
-        },
-        high: Point {
-            x: 999_999_999_999_999_999,
-            y: -999_999_999_998_999_999,
-        },
-    },
-    Window2 {
-        low: Point {
-            x: -999_999_999_999_999_999,
-            y: 999_999_999_998_999_999,
-        },
-        high: Point {
-            x: -999_999_999_998_999_999,
-            y: 999_999_999_999_999_999,
-        },
-    },
-];
 
 type Case = (&'static str, &'static [Line], Option<[u32; 2]>);
 
@@ -170,101 +125,6 @@ const CASES: [Case; 19] = [
     ),
 ];
 
-fn are_bent(a: Point, b: Point, c: Point) -> bool
-    ensures { IsTrue result → cross a b c ≡ pos 0 → ⊥ }
-{
-    if !are_close(a, b) || !are_close(a, c) {
-        return false;
-    }
-    match turn(a, b, c) {
-        Turn::Straight => false,
-        Turn::Left => true,
-        Turn::Right => true,
-    }
-}
-
-fn at(window: &Window2, x: i64, y: i64) -> Option<Point> {
-    let x = window.low.x.checked_add(x)?;
-    let y = window.low.y.checked_add(y)?;
-    Some(Point { x, y })
-}
-
-// False where the line cannot be drawn.
-fn add_line(drawing: &mut Drawing, line: &Line) -> Result<bool, Memory> {
-    match line {
-        Straight(ends) => {
-            let from = at(&drawing.window, ends[0], ends[1]);
-            let to = at(&drawing.window, ends[2], ends[3]);
-            match (from, to) {
-                (Some(from), Some(to)) => add_straight(drawing, from, to),
-                _ => Ok(false),
-            }
-        }
-        Arc(places) => {
-            let start = at(&drawing.window, places[0], places[1]);
-            let on = at(&drawing.window, places[2], places[3]);
-            let end = at(&drawing.window, places[4], places[5]);
-            match (start, on, end) {
-                (Some(start), Some(on), Some(end)) => add_arc(drawing, start, on, end),
-                _ => Ok(false),
-            }
-        }
-    }
-}
-
-fn add_straight(drawing: &mut Drawing, from: Point, to: Point) -> Result<bool, Memory> {
-    if from != to
-        && drawing.curves.len() < 100
-        && is_inside(&drawing.window, from)
-        && is_inside(&drawing.window, to)
-    {
-        drawing.add_straight(from, to, 0)?;
-        return Ok(true);
-    }
-    Ok(false)
-}
-
-fn add_arc(drawing: &mut Drawing, start: Point, on: Point, end: Point) -> Result<bool, Memory> {
-    if are_bent(start, on, end)
-        && drawing.curves.len() < 100
-        && is_inside(&drawing.window, start)
-        && is_inside(&drawing.window, on)
-        && is_inside(&drawing.window, end)
-    {
-        drawing.add_arc(start, on, end, 0, 0)?;
-        return Ok(true);
-    }
-    Ok(false)
-}
-
-pub fn drawn(alloc: Global, window: Window2, lines: &[Line]) -> Result<Option<Drawing>, Memory> {
-    let mut drawing = Drawing::new(alloc, window);
-    for line in lines {
-        if !add_line(&mut drawing, line)? {
-            return Ok(None);
-        }
-    }
-    Ok(Some(drawing))
-}
-
-fn named(pair: Option<[u32; 2]>) -> Option<BadPair> {
-    let [first, second] = pair?;
-    Some(BadPair { first, second })
-}
-
-fn meets(rt: &impl Abort, alloc: Global, window: Window2, case: &Case) -> Result<(), Fail> {
-    match drawn(alloc, window, case.1)? {
-        Some(drawing) => {
-            let pair = bad_meeting(alloc, &drawing)?;
-            assert_eq!(rt; pair, named(case.2), "{}", case.0);
-        }
-        None => {
-            assert!(rt; false, "{} is not drawn", case.0);
-        }
-    }
-    Ok(())
-}
-
 // A line, one of its curves, a point, and whether it is on that curve.
 type Place = (&'static str, Line, usize, [i64; 2], bool);
 
@@ -311,11 +171,49 @@ const EXTENTS: [Extent; 4] = [
     ),
 ];
 
+fn named(pair: Option<[u32; 2]>) -> Option<BadPair> {
+    let [first, second] = pair?;
+    Some(BadPair { first, second })
+}
+
+// The bad pair of the lines; none where they are not drawn.
+fn met(alloc: Global, window: Window2, lines: &[Line]) -> Result<Option<Option<BadPair>>, Memory> {
+    match drawn(alloc, window, lines)? {
+        Some(drawing) => Ok(Some(bad_meeting(alloc, &drawing)?)),
+        None => Ok(None),
+    }
+}
+
+#[test]
+fn bad_pairs_are_named(rt: HostRuntime) -> Result<(), Fail> {
+    for window in &WINDOWS {
+        for (name, lines, want) in &CASES {
+            let pair = met(rt.alloc(), *window, lines)?;
+            assert!(rt; pair == Some(named(*want)), "{name}");
+        }
+    }
+    Ok(())
+}
+
+// Two straights that cross are no bad pair with an arc.
+fn met_with_arc(alloc: Global) -> Result<Option<Option<BadPair>>, Memory> {
+    let lines = [Straight([0, 0, 9, 9]), Straight([0, 9, 9, 0])];
+    match drawn(alloc, WINDOWS[0], &lines)? {
+        Some(drawing) => Ok(Some(arc_meeting(alloc, &drawing)?)),
+        None => Ok(None),
+    }
+}
+
 fn is_on_curve(drawing: &Drawing, number: usize, p: Point) -> Option<bool> {
     if number < drawing.curves.len() && is_inside(&drawing.window, p) {
         return Some(is_on(&drawing.curves[number], p));
     }
     None
+}
+
+fn placed(drawing: &Drawing, number: usize, place: [i64; 2]) -> Option<bool> {
+    let p = at(&drawing.window, place[0], place[1])?;
+    is_on_curve(drawing, number, p)
 }
 
 fn box_of_curve(drawing: &Drawing, number: usize) -> Option<Reach> {
@@ -325,54 +223,35 @@ fn box_of_curve(drawing: &Drawing, number: usize) -> Option<Reach> {
     None
 }
 
-fn is_placed(rt: &impl Abort, drawing: &Drawing, place: &Place) -> Result<(), Fail> {
-    let p = at(&drawing.window, place.3[0], place.3[1]).expect(rt, "a point");
-    let answer = is_on_curve(drawing, place.2, p);
-    assert_eq!(rt; answer, Some(place.4), "{}", place.0);
-    Ok(())
+fn corners(window: &Window2, corners: [i64; 4]) -> Option<Reach> {
+    let low = at(window, corners[0], corners[1])?;
+    let high = at(window, corners[2], corners[3])?;
+    Some(Reach { low, high })
 }
 
-fn is_extended(rt: &impl Abort, drawing: &Drawing, extent: &Extent) -> Result<(), Fail> {
-    let corners = extent.3;
-    let low = at(&drawing.window, corners[0], corners[1]).expect(rt, "a corner");
-    let high = at(&drawing.window, corners[2], corners[3]).expect(rt, "a corner");
-    let answer = box_of_curve(drawing, extent.2);
-    assert_eq!(rt; answer, Some(Reach { low, high }), "{}", extent.0);
-    Ok(())
-}
-
-#[test]
-fn points_are_on_curves(rt: HostRuntime) -> Result<(), Fail> {
-    for place in PLACES {
-        let drawing = drawn(rt.alloc(), WINDOWS[1], &[place.1])?.expect(&rt, "a drawing");
-        is_placed(&rt, &drawing, &place)?;
+// Whether the place is on its curve as it is wanted.
+fn is_placed(alloc: Global, place: &Place) -> Result<bool, Memory> {
+    match drawn(alloc, WINDOWS[1], &[place.1])? {
+        Some(drawing) => Ok(placed(&drawing, place.2, place.3) == Some(place.4)),
+        None => Ok(false),
     }
-    Ok(())
 }
 
-#[test]
-fn boxes_hold_curves(rt: HostRuntime) -> Result<(), Fail> {
-    for extent in EXTENTS {
-        let drawing = drawn(rt.alloc(), WINDOWS[2], &[extent.1])?.expect(&rt, "a drawing");
-        is_extended(&rt, &drawing, &extent)?;
+fn is_extended(alloc: Global, extent: &Extent) -> Result<bool, Memory> {
+    match drawn(alloc, WINDOWS[2], &[extent.1])? {
+        Some(drawing) => Ok(box_of_curve(&drawing, extent.2) == corners(&WINDOWS[2], extent.3)),
+        None => Ok(false),
     }
-    Ok(())
 }
 
 #[test]
-fn straights_are_no_pair_with_an_arc(rt: HostRuntime) -> Result<(), Fail> {
-    let lines = [Straight([0, 0, 9, 9]), Straight([0, 9, 9, 0])];
-    let drawing = drawn(rt.alloc(), WINDOWS[0], &lines)?.expect(&rt, "a drawing");
-    assert_eq!(rt; arc_meeting(rt.alloc(), &drawing)?, None);
-    Ok(())
-}
-
-#[test]
-fn bad_pairs_are_named(rt: HostRuntime) -> Result<(), Fail> {
-    for window in WINDOWS {
-        for case in &CASES {
-            meets(&rt, rt.alloc(), window, case)?;
-        }
+fn points_and_boxes_are_on_curves(rt: HostRuntime) -> Result<(), Fail> {
+    for place in &PLACES {
+        assert!(rt; is_placed(rt.alloc(), place)?, "{}", place.0);
     }
+    for extent in &EXTENTS {
+        assert!(rt; is_extended(rt.alloc(), extent)?, "{}", extent.0);
+    }
+    assert!(rt; met_with_arc(rt.alloc())? == Some(None), "two straights");
     Ok(())
 }

@@ -1,14 +1,13 @@
 // Drawings with half arcs at a level, and the two curves that are named as those that break it.
 ghost use Rattle.std.specs.Prelude.{◌≤◌};
 
-use super::bad_pairs::Line::{Arc, Straight};
-use super::bad_pairs::{Line, WINDOWS, drawn};
+use super::drawn::Line::{Arc, Straight};
+use super::drawn::{Line, WINDOWS, drawn};
 use level_breaks::{LevelBreak, first_break};
 use meetings::bad_meeting;
 use plane::{Drawing, Window2};
 use ports::Memory;
 use std::alloc::Global;
-use std::process::Abort;
 use std::test::Fail;
 
 // What is drawn, the level, and the pair that breaks it.
@@ -131,25 +130,27 @@ fn answer(alloc: Global, drawing: &Drawing, level: u8) -> Result<Option<Option<L
     }
 }
 
-fn breaks(rt: &impl Abort, alloc: Global, window: Window2, case: &Case) -> Result<(), Fail> {
-    let level = case.2;
-    match drawn(alloc, window, case.1)? {
-        Some(drawing) if level <= 5 => {
-            let pair = answer(alloc, &drawing, level)?;
-            assert_eq!(rt; pair, Some(named(case.3)), "{}", case.0);
-        }
-        _ => {
-            assert!(rt; false, "{} is not drawn", case.0);
-        }
+// What `answer` says of the lines, none where they are not drawn.
+fn broken(
+    alloc: Global,
+    window: Window2,
+    lines: &[Line],
+    level: u8,
+) -> Result<Option<Option<LevelBreak>>, Memory>
+    requires { level ≤ 5 }
+{
+    match drawn(alloc, window, lines)? {
+        Some(drawing) => answer(alloc, &drawing, level),
+        None => Ok(None),
     }
-    Ok(())
 }
 
 #[test]
 fn least_pair_that_breaks_a_level_is_named(rt: HostRuntime) -> Result<(), Fail> {
-    for window in WINDOWS {
-        for case in &CASES {
-            breaks(&rt, rt.alloc(), window, case)?;
+    for window in &WINDOWS {
+        for (name, lines, level, want) in &CASES {
+            let pair = broken(rt.alloc(), *window, lines, (*level).min(5))?;
+            assert!(rt; pair == Some(named(*want)), "{name}");
         }
     }
     Ok(())

@@ -1,85 +1,62 @@
-// Certificates that are written and read, and texts that are none.
-use certificate::{CertFault, Certificate, HalfNote, Link, PointPlace, read, write};
-use ports::{Memory, MemoryShelf, Name, Shelf};
+// Certificates that are written and read, and texts that are none. What is filed for whole areas
+// are rows of `worked_rows`.
+use super::changed_numbers::blank;
+use certificate::{CertFault, Certificate, read, write};
+use ports::{Memory, MemoryShelf, Shelf};
 use std::alloc::Global;
+use std::test::Fail;
 
 const SQUARE: &[u8] =
     b"ITFCERT 1\nAREAS 1\nAREA Cover Parcel Form\nSIZES 0 4 4 1\nV 0\nV 1\nV 0\nV 0\n\
     E 0 R 0 1 R 0\nE 0 R 0 1 N 1\nE 1 R 0 0 R 0\nE 1 N 1 0 R 0\nP 1\nEND\n";
 
-fn note(label: u32, link: Link, rank: u32) -> HalfNote {
-    HalfNote { label, link, rank }
-}
+// A line of the square's text, what stands there in its place, with an LF or not, and the fault.
+type Change = (usize, &'static [u8], Option<CertFault>);
 
-// The certificate of a square with one object.
-fn square(alloc: Global) -> Result<Certificate, Memory> {
-    let notes = [
-        note(0, Link::Root, 0),
-        note(1, Link::Root, 0),
-        note(0, Link::Root, 0),
-        note(1, Link::Next, 1),
-        note(1, Link::Root, 0),
-        note(0, Link::Root, 0),
-        note(1, Link::Next, 1),
-        note(0, Link::Root, 0),
-    ];
-    Ok(Certificate {
-        topic: Name::new(alloc, b"Cover".as_slice())?,
-        table: Name::new(alloc, b"Parcel".as_slice())?,
-        attribute: Name::new(alloc, b"Form".as_slice())?,
-        level: 0,
-        positions: Vec::from_slice(alloc, &[0, 1, 0, 0])?,
-        notes: Vec::from_slice(alloc, &notes)?,
-        places: Vec::from_slice(alloc, &[PointPlace::Cell(1)])?,
-    })
-}
+const CHANGES: [Change; 41] = [
+    (10, b"E 0 R 0 1 C4 1\n", None),
+    (10, b"E 0 R 0 1 P 4294967295\n", None),
+    (3, b"AREA Cover Parcel Shape\n", None),
+    (4, b"SIZES 255 4 4 1\n", None),
+    (13, b"P T 0 I\n", None),
+    (13, b"P T 7 O\n", None),
+    (2, b"AREAS 0\n", Some(CertFault::Line(3))),
+    (4, b"SIZES 0 4294967295 4 1\n", Some(CertFault::Line(13))),
+    (13, b"P 01\n", Some(CertFault::Number(13))),
+    (14, b"", Some(CertFault::Short(14))),
+    (5, b"V 00\n", Some(CertFault::Number(5))),
+    (14, b"END", Some(CertFault::Line(14))),
+    (14, b"END\nV 0\n", Some(CertFault::Line(15))),
+    (14, b"END\n\n", Some(CertFault::Line(15))),
+    (4, b"SIZES 256 4 4 1\n", Some(CertFault::Line(4))),
+    (4, b"SIZES 256 4 4 01\n", Some(CertFault::Number(4))),
+    (4, b"SIZES 4294967296 4 4 1\n", Some(CertFault::Number(4))),
+    (4, b"SIZES 0 4 5 1\n", Some(CertFault::Line(9))),
+    (3, b"AREA  Parcel Form\n", Some(CertFault::Line(3))),
+    (3, b"AREA Cover Parcel \n", Some(CertFault::Line(3))),
+    (8, b"V 4294967296\n", Some(CertFault::Number(8))),
+    (8, b"V 18446744073709551617\n", Some(CertFault::Number(8))),
+    (8, b"V -1\n", Some(CertFault::Line(8))),
+    (8, b"V  1\n", Some(CertFault::Line(8))),
+    (8, b"V 1 \n", Some(CertFault::Line(8))),
+    (8, b"V 1\r\n", Some(CertFault::Line(8))),
+    (8, b"V\n", Some(CertFault::Line(8))),
+    (8, b"\n", Some(CertFault::Line(8))),
+    (8, b"v 1\n", Some(CertFault::Line(8))),
+    (9, b"E 0 R 0 1 C\n", Some(CertFault::Line(9))),
+    (9, b"E 0 R 0 1 C 4 1\n", Some(CertFault::Line(9))),
+    (9, b"E 0 R 0 1 C04 1\n", Some(CertFault::Number(9))),
+    (9, b"E 0 R 00 1 X 1\n", Some(CertFault::Line(9))),
+    (9, b"E 0 R 0 1 R\n", Some(CertFault::Line(9))),
+    (13, b"P T 01 I\n", Some(CertFault::Number(13))),
+    (13, b"P T 01 X\n", Some(CertFault::Line(13))),
+    (1, b"ITFCERT 01\n", Some(CertFault::Number(1))),
+    (1, b"ITFCERT 2\n", Some(CertFault::Line(1))),
+    (1, b"\xef\xbb\xbfITFCERT 1\n", Some(CertFault::Line(1))),
+    (2, b"AREAS 2\n", Some(CertFault::Short(15))),
+    (2, b"AREAS 4294967296\n", Some(CertFault::Number(2))),
+];
 
-#[test]
-fn the_square_is_written_and_read(rt: HostRuntime) {
-    let alloc = rt.alloc();
-    let mut shelf = MemoryShelf::new(alloc);
-    let mut all = Vec::new(alloc);
-    all.push(square(alloc).expect(&rt, "memory"))
-        .expect(&rt, "memory");
-    write(&all, &mut shelf, "c").expect(&rt, "write");
-    let mut bytes = [0u8; 200];
-    let n = shelf.read("c", 0, &mut bytes).expect(&rt, "read");
-    assert_eq!(rt; n, 135);
-    assert_eq!(rt; &bytes[..n], SQUARE);
-    let back = read(alloc, SQUARE).expect(&rt, "a certificate");
-    assert_eq!(rt; back.len(), 1);
-    assert_eq!(rt; back[0].topic.bytes(), b"Cover".as_slice());
-    assert_eq!(rt; back[0].attribute.bytes(), b"Form".as_slice());
-    assert_eq!(rt; back[0].level, 0);
-    assert_eq!(rt; back[0].positions.as_slice(), all[0].positions.as_slice());
-    assert_eq!(rt; back[0].notes.as_slice(), all[0].notes.as_slice());
-    assert_eq!(rt; back[0].places.as_slice(), all[0].places.as_slice());
-}
-
-#[test]
-fn the_empty_list_has_two_lines(rt: HostRuntime) {
-    let mut shelf = MemoryShelf::new(rt.alloc());
-    write(&[], &mut shelf, "c").expect(&rt, "write");
-    let mut bytes = [0u8; 40];
-    let n = shelf.read("c", 0, &mut bytes).expect(&rt, "read");
-    assert_eq!(rt; &bytes[..n], b"ITFCERT 1\nAREAS 0\n".as_slice());
-    let none = read(rt.alloc(), &bytes[..18]).expect(&rt, "the empty list");
-    assert!(rt; none.is_empty());
-}
-
-// The square's text with another line of that number, and its fault.
-#[derive(Clone, Copy)]
-struct Change {
-    line: usize,
-    text: &'static [u8],
-    fault: Option<CertFault>,
-}
-
-const fn becomes(line: usize, text: &'static [u8], fault: Option<CertFault>) -> Change {
-    Change { line, text, fault }
-}
-
-// The square's text with a line changed. A changed line has its LF or not.
 fn changed(alloc: Global, line: usize, text: &[u8]) -> Result<Vec<u8>, Memory> {
     let mut bytes = Vec::new(alloc);
     let mut at: usize = 1;
@@ -105,67 +82,21 @@ fn fault_of(alloc: Global, bytes: &[u8]) -> Option<CertFault> {
 }
 
 #[test]
-fn the_first_bad_line_is_named(rt: HostRuntime) {
-    let changes = [
-        becomes(10, b"E 0 R 0 1 C4 1\n", None),
-        becomes(10, b"E 0 R 0 1 P 4294967295\n", None),
-        becomes(3, b"AREA Cover Parcel Shape\n", None),
-        becomes(4, b"SIZES 255 4 4 1\n", None),
-        becomes(13, b"P T 0 I\n", None),
-        becomes(13, b"P T 7 O\n", None),
-        becomes(2, b"AREAS 0\n", Some(CertFault::Line(3))),
-        becomes(4, b"SIZES 0 4294967295 4 1\n", Some(CertFault::Line(13))),
-        becomes(13, b"P 01\n", Some(CertFault::Number(13))),
-        becomes(14, b"", Some(CertFault::Short(14))),
-        becomes(5, b"V 00\n", Some(CertFault::Number(5))),
-        becomes(14, b"END", Some(CertFault::Line(14))),
-        becomes(14, b"END\nV 0\n", Some(CertFault::Line(15))),
-        becomes(14, b"END\n\n", Some(CertFault::Line(15))),
-        becomes(4, b"SIZES 256 4 4 1\n", Some(CertFault::Line(4))),
-        becomes(4, b"SIZES 256 4 4 01\n", Some(CertFault::Number(4))),
-        becomes(4, b"SIZES 4294967296 4 4 1\n", Some(CertFault::Number(4))),
-        becomes(4, b"SIZES 0 4 5 1\n", Some(CertFault::Line(9))),
-        becomes(3, b"AREA  Parcel Form\n", Some(CertFault::Line(3))),
-        becomes(3, b"AREA Cover Parcel \n", Some(CertFault::Line(3))),
-        becomes(8, b"V 4294967296\n", Some(CertFault::Number(8))),
-        becomes(8, b"V 18446744073709551617\n", Some(CertFault::Number(8))),
-        becomes(8, b"V -1\n", Some(CertFault::Line(8))),
-        becomes(8, b"V  1\n", Some(CertFault::Line(8))),
-        becomes(8, b"V 1 \n", Some(CertFault::Line(8))),
-        becomes(8, b"V 1\r\n", Some(CertFault::Line(8))),
-        becomes(8, b"V\n", Some(CertFault::Line(8))),
-        becomes(8, b"\n", Some(CertFault::Line(8))),
-        becomes(8, b"v 1\n", Some(CertFault::Line(8))),
-        becomes(9, b"E 0 R 0 1 C\n", Some(CertFault::Line(9))),
-        becomes(9, b"E 0 R 0 1 C 4 1\n", Some(CertFault::Line(9))),
-        becomes(9, b"E 0 R 0 1 C04 1\n", Some(CertFault::Number(9))),
-        becomes(9, b"E 0 R 00 1 X 1\n", Some(CertFault::Line(9))),
-        becomes(9, b"E 0 R 0 1 R\n", Some(CertFault::Line(9))),
-        becomes(13, b"P T 01 I\n", Some(CertFault::Number(13))),
-        becomes(13, b"P T 01 X\n", Some(CertFault::Line(13))),
-        becomes(1, b"ITFCERT 01\n", Some(CertFault::Number(1))),
-        becomes(1, b"ITFCERT 2\n", Some(CertFault::Line(1))),
-        becomes(1, b"\xef\xbb\xbfITFCERT 1\n", Some(CertFault::Line(1))),
-        becomes(2, b"AREAS 2\n", Some(CertFault::Short(15))),
-        becomes(2, b"AREAS 4294967296\n", Some(CertFault::Number(2))),
-    ];
-    for change in &changes {
-        let bytes = changed(rt.alloc(), change.line, change.text).expect(&rt, "memory");
-        let fault = fault_of(rt.alloc(), &bytes);
-        assert!(rt;
-            fault == change.fault,
-            "line {} at row {}",
-            change.line,
-            change.text.len()
-        );
+fn the_first_bad_line_is_named(rt: HostRuntime) -> Result<(), Fail> {
+    for (line, text, want) in &CHANGES {
+        let fault = fault_of(rt.alloc(), &changed(rt.alloc(), *line, text)?);
+        assert!(rt; fault == *want, "line {line} at row {}", text.len());
     }
-    let fault = read(rt.alloc(), b"".as_slice()).err();
-    assert!(rt; fault == Some(CertFault::Short(1)), "the empty text");
+    assert!(rt;
+        fault_of(rt.alloc(), b"") == Some(CertFault::Short(1)),
+        "the empty text"
+    );
+    Ok(())
 }
 
 // A certificate whose text takes several pages.
 fn long(alloc: Global) -> Result<Certificate, Memory> {
-    let mut certificate = square(alloc)?;
+    let mut certificate = blank(alloc)?;
     for i in 0..4000u32 {
         certificate.positions.push(i)?;
     }
@@ -174,46 +105,37 @@ fn long(alloc: Global) -> Result<Certificate, Memory> {
 
 // The bytes of the file, none where there is none.
 fn file(alloc: Global, shelf: &mut MemoryShelf) -> Result<Vec<u8>, Memory> {
-    let mut piece = [0u8; 128];
-    let mut bytes = Vec::new(alloc);
-    for _ in 0..400 {
-        match shelf.read("c", bytes.len() as u64, &mut piece) {
-            Ok(n) => bytes.extend_from_slice(&piece[..n])?,
-            Err(_) => break,
-        }
-    }
-    Ok(bytes)
+    let mut bytes = [0u8; 30_000];
+    let length = shelf.read("c", 0, &mut bytes).unwrap_or(0);
+    Ok(Vec::from_slice(alloc, &bytes[..length.min(30_000)])?)
 }
 
-// The file after a writing of which a call fails, none where the writing did not fail.
-fn failed_at(alloc: Global, all: &[Certificate], call: u64) -> Result<Option<Vec<u8>>, Memory> {
+// The file after a writing of which that call fails, and whether the writing did.
+fn failed_at(alloc: Global, all: &[Certificate], call: u64) -> Result<(bool, Vec<u8>), Memory> {
     let mut shelf = MemoryShelf::new(alloc);
     shelf.fail_call(call)?;
-    if write(all, &mut shelf, "c").is_ok() {
-        return Ok(None);
-    }
-    Ok(Some(file(alloc, &mut shelf)?))
+    let failed = write(all, &mut shelf, "c").is_err();
+    Ok((failed, file(alloc, &mut shelf)?))
+}
+
+// Whether the file is a front of the whole text, of so many pages but for their last bytes.
+fn is_front(whole: &[u8], front: &[u8], pages: usize) -> bool {
+    let most = pages.saturating_mul(4096);
+    let least = most.saturating_sub(pages.saturating_mul(20));
+    least <= front.len() && front.len() <= most && whole.starts_with(front)
 }
 
 #[test]
-fn a_failed_write_leaves_a_front(rt: HostRuntime) {
-    let alloc = rt.alloc();
-    let mut all = Vec::new(alloc);
-    all.push(long(alloc).expect(&rt, "memory"))
-        .expect(&rt, "memory");
-    let mut shelf = MemoryShelf::new(alloc);
-    write(&all, &mut shelf, "c").expect(&rt, "write");
-    let whole = file(alloc, &mut shelf).expect(&rt, "memory");
-    assert_eq!(rt; whole.len(), 27028);
-    for call in 1..=7u64 {
-        let front = failed_at(alloc, &all, call).expect(&rt, "memory");
-        let front = front.expect(&rt, "a failure");
-        let pages = call - 1;
-        assert!(rt; front.len() as u64 <= pages * 4096, "length at call {call}");
+fn a_failed_write_leaves_a_front(rt: HostRuntime) -> Result<(), Fail> {
+    let all = [long(rt.alloc())?];
+    let (failed, whole) = failed_at(rt.alloc(), &all, 0)?;
+    assert!(rt; !failed, "no call fails");
+    for pages in 0..7u8 {
+        let (failed, front) = failed_at(rt.alloc(), &all, u64::from(pages) + 1)?;
         assert!(rt;
-            front.len() as u64 + 20 * pages >= pages * 4096,
-            "pages at call {call}"
+            failed && is_front(&whole, &front, usize::from(pages)),
+            "after {pages} pages"
         );
-        assert!(rt; whole.starts_with(&front), "front at call {call}");
     }
+    Ok(())
 }

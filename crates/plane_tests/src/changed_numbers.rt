@@ -1,27 +1,31 @@
 // A ring with a hole that is a parcel too; a line into the ring, and one that stands free in it.
 // Each number of the certificate is changed in four ways. Both tables are what
 // bench/changed_numbers.py prints, which has a second reading of the rules.
-use super::changed_certificates::{Broken, Line, broken, drawing};
+use super::drawn::Line::Straight;
+use super::drawn::{Line, WINDOWS, drawn, is_inside};
 use certificate::{Certificate, HalfNote, Link, PointPlace};
-use certificate_checker::check;
-use plane::Drawing;
+use certificate_checker::{Verdict, check};
+use plane::{Drawing, Point};
 use ports::{Memory, Name};
 use std::alloc::Global;
 use std::test::Fail;
 
-const STRAIGHTS: [Line; 9] = [
-    [10, 10, 90, 10],
-    [90, 10, 90, 90],
-    [90, 90, 10, 90],
-    [10, 90, 10, 10],
-    [30, 30, 60, 30],
-    [60, 30, 60, 60],
-    [60, 60, 30, 30],
-    [90, 90, 70, 70],
-    [20, 70, 40, 80],
+const LINES: [Line; 9] = [
+    Straight([10, 10, 90, 10]),
+    Straight([90, 10, 90, 90]),
+    Straight([90, 90, 10, 90]),
+    Straight([10, 90, 10, 10]),
+    Straight([30, 30, 60, 30]),
+    Straight([60, 30, 60, 60]),
+    Straight([60, 60, 30, 30]),
+    Straight([90, 90, 70, 70]),
+    Straight([20, 70, 40, 80]),
 ];
 
 const POINTS: [[i64; 2]; 2] = [[20, 20], [50, 40]];
+
+// The first broken rule and its place, (0, 0) where all rules hold.
+type Broken = (u8, u32);
 
 // The numbers of the certificate, labels, links and ranks by half-edge. A link is the number 0 for
 // R, 1 for N, 2 for P, and h + 3 for C h.
@@ -155,8 +159,23 @@ fn link(number: u32) -> Link {
     }
 }
 
-fn notes(alloc: Global, numbers: &Numbers) -> Result<Vec<HalfNote>, Memory> {
-    let mut notes = Vec::new(alloc);
+// A certificate of nothing.
+pub fn blank(alloc: Global) -> Result<Certificate, Memory> {
+    let topic = Name::new(alloc, b"Cover")?;
+    let table = Name::new(alloc, b"Parcel")?;
+    let attribute = Name::new(alloc, b"Form")?;
+    Ok(Certificate {
+        topic,
+        table,
+        attribute,
+        level: 0,
+        positions: Vec::new(alloc),
+        notes: Vec::new(alloc),
+        places: Vec::new(alloc),
+    })
+}
+
+fn add_notes(notes: &mut Vec<HalfNote>, numbers: &Numbers) -> Result<(), Memory> {
     for half in 0..18usize {
         notes.push(HalfNote {
             label: numbers[11 + half],
@@ -164,36 +183,77 @@ fn notes(alloc: Global, numbers: &Numbers) -> Result<Vec<HalfNote>, Memory> {
             rank: numbers[47 + half],
         })?;
     }
-    Ok(notes)
+    Ok(())
 }
 
-fn certificate(alloc: Global, numbers: &Numbers) -> Result<Certificate, Memory> {
-    let places = [PointPlace::Cell(numbers[65]), PointPlace::Cell(numbers[66])];
-    Ok(Certificate {
-        topic: Name::new(alloc, b"Cover")?,
-        table: Name::new(alloc, b"Parcel")?,
-        attribute: Name::new(alloc, b"Form")?,
-        level: numbers[0].min(255) as u8,
-        positions: Vec::from_slice(alloc, &numbers[1..11])?,
-        notes: notes(alloc, numbers)?,
-        places: Vec::from_slice(alloc, &places)?,
-    })
+// Makes the certificate that of the numbers.
+fn fill(certificate: &mut Certificate, numbers: &Numbers) -> Result<(), Memory> {
+    certificate.level = numbers[0].min(255) as u8;
+    certificate.positions.clear();
+    certificate.positions.extend_from_slice(&numbers[1..11])?;
+    certificate.notes.clear();
+    add_notes(&mut certificate.notes, numbers)?;
+    certificate.places.clear();
+    for cell in &numbers[65..67] {
+        certificate.places.push(PointPlace::Cell(*cell))?;
+    }
+    Ok(())
 }
 
-fn judge(alloc: Global, drawing: &Drawing, numbers: &Numbers) -> Result<Broken, Memory> {
-    let certificate = certificate(alloc, numbers)?;
-    Ok(broken(check(alloc, drawing, &certificate)?))
+fn judge(
+    alloc: Global,
+    drawing: &Drawing,
+    certificate: &mut Certificate,
+    numbers: &Numbers,
+) -> Result<Broken, Memory> {
+    fill(certificate, numbers)?;
+    match check(alloc, drawing, certificate)? {
+        Verdict::Proved => Ok((0, 0)),
+        Verdict::NotProved { rule, place } => Ok((rule, place)),
+    }
+}
+
+fn add_points(drawing: &mut Drawing) -> Result<(), Memory> {
+    for point in &POINTS {
+        let at = Point {
+            x: point[0],
+            y: point[1],
+        };
+        if drawing.points.len() < 10 && is_inside(&drawing.window, at) {
+            drawing.add_point(at, 0)?;
+        }
+    }
+    Ok(())
+}
+
+// The ring with its points, none where it cannot be drawn.
+fn ring(alloc: Global) -> Result<Option<Drawing>, Memory> {
+    let Some(mut drawing) = drawn(alloc, WINDOWS[0], &LINES)? else {
+        return Ok(None);
+    };
+    add_points(&mut drawing)?;
+    Ok(Some(drawing))
+}
+
+// The number of the first change, in its first way, with another answer.
+fn first_other(alloc: Global, drawing: &Drawing) -> Result<Option<(usize, usize)>, Memory> {
+    let mut certificate = blank(alloc)?;
+    for (at, row) in BROKEN.iter().enumerate() {
+        for (way, want) in row.iter().enumerate() {
+            if judge(alloc, drawing, &mut certificate, &changed(at, way))? != *want {
+                return Ok(Some((at, way)));
+            }
+        }
+    }
+    Ok(None)
 }
 
 #[test]
 fn each_changed_number_breaks_its_rule_at_its_place(rt: HostRuntime) -> Result<(), Fail> {
-    let drawing = drawing(rt.alloc(), &STRAIGHTS, &POINTS)?;
-    assert_eq!(rt; judge(rt.alloc(), &drawing, &NUMBERS)?, (0, 0));
-    for (at, row) in BROKEN.iter().enumerate() {
-        for (way, want) in row.iter().enumerate() {
-            let answer = judge(rt.alloc(), &drawing, &changed(at, way))?;
-            assert_eq!(rt; answer, *want, "number {at}, way {way}");
-        }
-    }
+    let drawing = ring(rt.alloc())?.expect(&rt, "a drawing");
+    let mut certificate = blank(rt.alloc())?;
+    let proved = judge(rt.alloc(), &drawing, &mut certificate, &NUMBERS)?;
+    let other = first_other(rt.alloc(), &drawing)?;
+    assert_eq!(rt; (proved, other), ((0, 0), None));
     Ok(())
 }

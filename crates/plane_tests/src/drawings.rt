@@ -1,47 +1,50 @@
 // A drawing, as curves and points are added to it.
 use plane::{Curve, CurveKind, Drawing, Placed, Point, Window2};
+use ports::Memory;
 
 const WINDOW: Window2 = Window2 {
     low: Point { x: 0, y: 0 },
     high: Point { x: 1000, y: 1000 },
 };
 
-#[test]
-fn a_drawing_gains_what_is_added(rt: HostRuntime) {
-    let mut drawing = Drawing::new(rt.alloc(), WINDOW);
-    let a = Point { x: 0, y: 0 };
-    let b = Point { x: 500, y: 0 };
-    let c = Point { x: 1000, y: 500 };
-    drawing.add_straight(a, b, 7).expect(&rt, "memory");
-    drawing.add_arc(b, c, a, 8, 9).expect(&rt, "memory");
-    drawing.add_point(b, 10).expect(&rt, "memory");
-    let straight = Curve {
+const A: Point = Point { x: 0, y: 0 };
+
+const B: Point = Point { x: 500, y: 0 };
+
+const C: Point = Point { x: 1000, y: 500 };
+
+const CURVES: [Curve; 3] = [
+    Curve {
         kind: CurveKind::Straight,
-        from: a,
-        to: b,
-        third: b,
+        from: A,
+        to: B,
+        third: B,
         line: 7,
-    };
-    let first = Curve {
+    },
+    Curve {
         kind: CurveKind::HalfArc,
-        from: b,
-        to: c,
-        third: a,
+        from: B,
+        to: C,
+        third: A,
         line: 8,
-    };
-    let second = Curve {
+    },
+    Curve {
         kind: CurveKind::HalfArc,
-        from: c,
-        to: a,
-        third: b,
+        from: C,
+        to: A,
+        third: B,
         line: 9,
-    };
-    assert_eq!(rt;
-        drawing.curves.as_slice(),
-        [straight, first, second].as_slice()
-    );
-    assert_eq!(rt;
-        drawing.points.as_slice(),
-        [Placed { at: b, line: 10 }].as_slice()
-    );
+    },
+];
+
+#[test]
+fn a_drawing_gains_what_is_added(rt: HostRuntime) -> Result<(), Memory> {
+    let mut drawing = Drawing::new(rt.alloc(), WINDOW);
+    drawing.add_straight(A, B, 7)?;
+    drawing.add_arc(B, C, A, 8, 9)?;
+    drawing.add_point(B, 10)?;
+    let points = [Placed { at: B, line: 10 }];
+    let same = drawing.curves.as_slice() == CURVES.as_slice();
+    assert!(rt; same && drawing.points.as_slice() == points.as_slice());
+    Ok(())
 }

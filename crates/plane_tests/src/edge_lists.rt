@@ -1,22 +1,34 @@
 // The edges of small drawings, and the sides that face their tubes.
-use plane::{Drawing, Edge, Point, Window2};
+ghost use Rattle.std.specs.Prelude.{◌≤◌};
+
+use super::drawn::Line::{Arc, Straight};
+use super::drawn::{Line, WINDOWS, drawn};
+use plane::Drawing;
+use ports::Memory;
+use std::alloc::Global;
 use std::test::Fail;
 use tubes::{EdgeList, Facing, Owner, Part, edge_list, facings};
 
-const WINDOW: Window2 = Window2 {
-    low: Point { x: 0, y: 0 },
-    high: Point { x: 100, y: 100 },
-};
+/// The ends of an edge, what it is of which curve, and the side that faces its tube.
+type Row = ([i64; 4], u32, Part, Facing);
 
-const A: Point = Point { x: 0, y: 0 };
+const THREE: [Line; 3] = [
+    Straight([0, 50, 0, 0]),
+    Straight([0, 50, 50, 50]),
+    Straight([50, 50, 0, 0]),
+];
 
-const B: Point = Point { x: 0, y: 50 };
+const SIDES: [Row; 3] = [
+    ([0, 0, 0, 50], 0, Part::Straight, Facing::Neither),
+    ([0, 50, 50, 50], 1, Part::Straight, Facing::Neither),
+    ([0, 0, 50, 50], 2, Part::Straight, Facing::Neither),
+];
 
-const C: Point = Point { x: 50, y: 50 };
+/// The straight from C to A and the half arcs from A over B to C.
+const SECTOR: [Line; 2] = [Straight([50, 50, 0, 0]), Arc([0, 0, 0, 50, 50, 50])];
 
-/// The ends of the edges of the straight from C to A and of the half arcs from A over B to C, at
-/// level 0, what each edge is of which curve, and the side that faces its tube.
-const TUBED: [([i64; 4], u32, Part, Facing); 11] = [
+/// Its edges at level 0.
+const TUBED: [Row; 11] = [
     ([0, 0, 50, 50], 0, Part::Straight, Facing::Neither),
     ([-10, 25, 0, 0], 1, Part::Inner, Facing::Below),
     ([-10, 25, 0, 50], 1, Part::Inner, Facing::Above),
@@ -30,60 +42,66 @@ const TUBED: [([i64; 4], u32, Part, Facing); 11] = [
     ([43, 70, 50, 50], 2, Part::Outer, Facing::Below),
 ];
 
-#[test]
-fn straights_have_one_edge_each(rt: HostRuntime) -> Result<(), Fail> {
-    let mut drawing = Drawing::new(rt.alloc(), WINDOW);
-    drawing.add_straight(B, A, 1)?;
-    drawing.add_straight(B, C, 2)?;
-    drawing.add_straight(C, A, 3)?;
-    let list = edge_list(rt.alloc(), &drawing, 0)?;
-    let EdgeList { edges, owners } = list.expect(&rt, "edges");
-    let want = [
-        Edge { low: A, high: B },
-        Edge { low: B, high: C },
-        Edge { low: A, high: C },
-    ];
-    assert_eq!(rt; edges.as_slice(), want.as_slice());
-    assert_eq!(rt; owners.len(), 3);
-    let last = Owner {
-        curve: 2,
-        part: Part::Straight,
-    };
-    assert_eq!(rt; owners[2], last);
-    drawing.add_arc(A, B, C, 4, 5)?;
-    assert!(rt; edge_list(rt.alloc(), &drawing, 5)?.is_none());
-    Ok(())
-}
-
-#[test]
-fn half_arcs_have_the_chains_of_their_tubes(rt: HostRuntime) -> Result<(), Fail> {
-    let alloc = rt.alloc();
-    let mut drawing = Drawing::new(alloc, WINDOW);
-    drawing.add_straight(C, A, 1)?;
-    drawing.add_arc(A, B, C, 2, 3)?;
-    let list = edge_list(alloc, &drawing, 0)?.expect(&rt, "edges");
-    let sides = facings(alloc, &drawing, &list)?;
-    assert_eq!(rt; list.edges.len(), TUBED.len());
-    assert_eq!(rt; list.owners.len(), TUBED.len());
-    assert_eq!(rt; sides.len(), TUBED.len());
+// Whether the edges, their curves and their sides are those of the table.
+fn are_rows(list: &EdgeList, sides: &[Facing], rows: &[Row]) -> bool {
     for (((edge, owner), side), (ends, curve, part, facing)) in list
         .edges
         .iter()
         .zip(&list.owners)
-        .zip(&sides)
-        .zip(TUBED)
+        .zip(sides)
+        .zip(rows)
     {
-        let [low_x, low_y, high_x, high_y] = ends;
-        let want = Edge {
-            low: Point { x: low_x, y: low_y },
-            high: Point {
-                x: high_x,
-                y: high_y,
-            },
-        };
-        assert_eq!(rt; *edge, want);
-        assert_eq!(rt; *owner, Owner { curve, part });
-        assert_eq!(rt; *side, facing);
+        let found = [edge.low.x, edge.low.y, edge.high.x, edge.high.y];
+        let owned = (owner.curve, owner.part, *side);
+        if found != *ends || owned != (*curve, *part, *facing) {
+            return false;
+        }
     }
+    let count = rows.len();
+    list.edges.len() == count && list.owners.len() == count && sides.len() == count
+}
+
+// Whether the drawing has these edges at the level; none where it has no edges there.
+fn has_edges(
+    alloc: Global,
+    drawing: &Drawing,
+    level: u8,
+    rows: &[Row],
+) -> Result<Option<bool>, Memory>
+    requires { level ≤ 5 }
+{
+    match edge_list(alloc, drawing, level)? {
+        Some(list) => {
+            let sides = facings(alloc, drawing, &list)?;
+            Ok(Some(are_rows(&list, &sides, rows)))
+        }
+        None => Ok(None),
+    }
+}
+
+// Whether the lines have these edges, false where they are not drawn.
+fn have_edges(
+    alloc: Global,
+    lines: &[Line],
+    level: u8,
+    rows: &[Row],
+) -> Result<Option<bool>, Memory>
+    requires { level ≤ 5 }
+{
+    match drawn(alloc, WINDOWS[0], lines)? {
+        Some(drawing) => has_edges(alloc, &drawing, level, rows),
+        None => Ok(Some(false)),
+    }
+}
+
+#[test]
+fn straights_and_half_arcs_have_their_edges(rt: HostRuntime) -> Result<(), Fail> {
+    let alloc = rt.alloc();
+    let answers = [
+        have_edges(alloc, &THREE, 0, &SIDES)?,
+        have_edges(alloc, &SECTOR, 0, &TUBED)?,
+        have_edges(alloc, &SECTOR, 5, &TUBED)?,
+    ];
+    assert_eq!(rt; answers, [Some(true), Some(true), None]);
     Ok(())
 }

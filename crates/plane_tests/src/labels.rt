@@ -12,20 +12,19 @@ use super::stars::{built, is_among};
 use certificate::{HalfNote, Link};
 use faces::{Labelled, label, links};
 use half_edges::{HalfEdgeId, Mesh};
-use line_sweep::{Cell, Swept};
+use line_sweep::{Cell, CellEdge};
 use ports::Memory;
 use std::alloc::Global;
-use std::process::Abort;
 use std::test::Fail;
 
 // What is to be built, the edges beside each cell, and the face of each half-edge and the number of
 // faces then. With these roots the half-edges have these links and ranks.
-#[derive(Drop)]
+#[derive(Clone, Copy)]
 struct Case<'a> {
     vertices: u32,
     edges: &'a [(u32, u32)],
     stars: &'a [&'a [u32]],
-    cells: &'a [(Option<u32>, Option<u32>)],
+    cells: &'a [(Option<u16>, Option<u16>)],
     faces: &'a [u32],
     count: u32,
     roots: &'a [u32],
@@ -143,72 +142,82 @@ const TOUCHING: Case<'static> = Case {
     ],
 };
 
-#[test]
-fn tables(rt: HostRuntime) -> Result<(), Fail> {
-    for case in &[NOTHING, LONE, SQUARE, HOLE, TOUCHING] {
-        let mesh = built(&rt, rt.alloc(), case.vertices, case.edges, case.stars)?;
-        let swept = Swept {
-            events: Vec::new(rt.alloc()),
-            cells: cells_of(rt.alloc(), case.cells)?,
-        };
-        match labelled(rt.alloc(), mesh, &swept)? {
-            Some(labelled) => {
-                expect_faces(&rt, &labelled, case);
-                expect_notes(&rt, rt.alloc(), &labelled, &swept, case)?;
-            }
-            None => assert!(rt; false),
+// Whether the half-edges have the faces of the table.
+fn has_faces(labelled: &Labelled, case: &Case) -> bool {
+    if 2 * labelled.mesh.edges() as usize != case.faces.len() {
+        return false;
+    }
+    for (h, face) in case.faces.iter().enumerate() {
+        if labelled.mesh.face(HalfEdgeId(h as u32)).0 != *face {
+            return false;
         }
     }
-    Ok(())
+    labelled.count == case.count
 }
 
-fn expect_faces(rt: &impl Abort, labelled: &Labelled, case: &Case) {
-    assert_eq!(rt; labelled.count, case.count);
-    assert_eq!(rt; 2 * labelled.mesh.edges() as usize, case.faces.len());
-    for (h, face) in case.faces.iter().enumerate() {
-        assert_eq!(rt; labelled.mesh.face(HalfEdgeId(h as u32)).0, *face);
+// Whether the notes are the faces with the links and ranks of the table.
+fn has_notes(notes: &[HalfNote], case: &Case) -> bool {
+    for ((note, (link, rank)), face) in notes.iter().zip(case.notes).zip(case.faces) {
+        if (note.label, note.link, note.rank) != (*face, *link, *rank) {
+            return false;
+        }
     }
+    notes.len() == case.notes.len() && notes.len() == case.faces.len()
 }
 
-fn expect_notes(
-    rt: &impl Abort,
+fn is_linked(
     alloc: Global,
     labelled: &Labelled,
-    swept: &Swept,
+    cells: &[Cell],
     case: &Case,
-) -> Result<(), Memory> {
+) -> Result<bool, Memory> {
     let roots: Vec<HalfEdgeId> = case.roots.iter().map(|h| HalfEdgeId(*h)).collect(alloc)?;
-    match linked(alloc, labelled, swept, &roots)? {
-        Some(notes) => {
-            assert_eq!(rt; notes.len(), case.notes.len());
-            for (h, (link, rank)) in case.notes.iter().enumerate() {
-                assert!(rt; h < notes.len() && h < case.faces.len());
-                assert_eq!(rt; notes[h].label, case.faces[h]);
-                assert_eq!(rt; notes[h].link, *link);
-                assert_eq!(rt; notes[h].rank, *rank);
-            }
+    match linked(alloc, labelled, cells, &roots)? {
+        Some(notes) => Ok(has_notes(&notes, case)),
+        None => Ok(false),
+    }
+}
+
+// Whether the labels and links of the mesh are those of the table.
+fn is_labelled(alloc: Global, mesh: Mesh, cells: &[Cell], case: &Case) -> Result<bool, Memory> {
+    match labelled(alloc, mesh, cells)? {
+        Some(labelled) => {
+            Ok(has_faces(&labelled, case) && is_linked(alloc, &labelled, cells, case)?)
         }
-        None => assert!(rt; false),
+        None => Ok(false),
+    }
+}
+
+fn agrees(alloc: Global, case: &Case) -> Result<bool, Memory> {
+    let cells = cells_of(alloc, case.cells)?;
+    let mesh = built(alloc, case.vertices, case.edges, case.stars)?;
+    is_labelled(alloc, mesh, &cells, case)
+}
+
+#[test]
+fn tables(rt: HostRuntime) -> Result<(), Fail> {
+    for case in [&NOTHING, &LONE, &SQUARE, &HOLE, &TOUCHING] {
+        assert!(rt; agrees(rt.alloc(), case)?, "{} edges", case.edges.len());
     }
     Ok(())
 }
 
 /// The labelled mesh, or none where the cells name other edges.
-fn labelled(alloc: Global, mesh: Mesh, swept: &Swept) -> Result<Option<Labelled>, Memory> {
-    if !are_known(swept, &mesh) {
+fn labelled(alloc: Global, mesh: Mesh, cells: &[Cell]) -> Result<Option<Labelled>, Memory> {
+    if !are_known(cells, &mesh) {
         return Ok(None);
     }
-    Ok(Some(label(alloc, mesh, swept)?))
+    Ok(Some(label(alloc, mesh, cells)?))
 }
 
 /// The links, or none where the roots are not what `links` asks for.
 fn linked(
     alloc: Global,
     labelled: &Labelled,
-    swept: &Swept,
+    cells: &[Cell],
     roots: &[HalfEdgeId],
 ) -> Result<Option<Vec<HalfNote>>, Memory> {
-    if !are_known(swept, &labelled.mesh) {
+    if !are_known(cells, &labelled.mesh) {
         return Ok(None);
     }
     if !are_within(&labelled.mesh, roots) {
@@ -217,19 +226,26 @@ fn linked(
     if !are_rooted(&labelled.mesh, roots) {
         return Ok(None);
     }
-    Ok(Some(links(alloc, labelled, swept, roots)?))
+    Ok(Some(links(alloc, labelled, cells, roots)?))
 }
 
-fn cells_of(alloc: Global, rows: &[(Option<u32>, Option<u32>)]) -> Result<Vec<Cell>, Memory> {
+fn cells_of(alloc: Global, rows: &[(Option<u16>, Option<u16>)]) -> Result<Vec<Cell>, Memory> {
     let mut cells = Vec::new(alloc);
     for (lower, upper) in rows {
         cells.push(Cell {
-            lower: *lower,
-            upper: *upper,
+            lower: edge_of(*lower),
+            upper: edge_of(*upper),
             event: 0,
         })?;
     }
     Ok(cells)
+}
+
+fn edge_of(edge: Option<u16>) -> CellEdge {
+    match edge {
+        Some(number) => CellEdge::new(Some(u32::from(number))),
+        None => CellEdge::new(None),
+    }
 }
 
 fn is_below(edge: Option<u32>, edges: u32) -> bool
@@ -244,20 +260,20 @@ fn is_below(edge: Option<u32>, edges: u32) -> bool
 fn is_known(cell: &Cell, edges: u32) -> bool
     ensures { IsTrue result → AreKnown (2 * edges) (gap_of cell.now ∷ []) }
 {
-    let low = is_below(cell.lower, edges);
-    let high = is_below(cell.upper, edges);
+    let low = is_below(cell.lower.get(), edges);
+    let high = is_below(cell.upper.get(), edges);
     if low {
         return high;
     }
     false
 }
 
-fn are_known(swept: &Swept, mesh: &Mesh) -> bool
-    ensures { IsTrue result → AreKnown (size mesh.now) (gaps_of swept.now.cells.items) }
+fn are_known(cells: &[Cell], mesh: &Mesh) -> bool
+    ensures { IsTrue result → AreKnown (size mesh.now) (gaps_of cells.now) }
 {
     let edges = mesh.edges();
-    for i in 0..swept.cells.len() {
-        if !is_known(&swept.cells[i], edges) {
+    for i in 0..cells.len() {
+        if !is_known(&cells[i], edges) {
             return false;
         }
     }

@@ -1,14 +1,11 @@
 //! Tests of the crates of the plane, by their public items alone: predicates, circles, drawings,
 //! boxes, bad pairs of curves, pairs that break a level, meshes, the sweep, places of points,
-//! faces, certificates, their checker, and whole areas.
+//! faces, certificates and their checker. Whole areas, and certificates that are changed in a line,
+//! are rows of `worked_rows`.
 //!
 //! They stand in a crate of their own since a library with tests is proved once more with them.
 #![tactic(auto)]
 
-#[cfg(test)]
-mod arc_certificates;
-#[cfg(test)]
-mod areas;
 #[cfg(test)]
 mod bad_pairs;
 #[cfg(test)]
@@ -16,15 +13,17 @@ mod broken_levels;
 #[cfg(test)]
 mod certificates;
 #[cfg(test)]
-mod changed_certificates;
-#[cfg(test)]
 mod changed_numbers;
 #[cfg(test)]
 mod circles;
 #[cfg(test)]
 mod drawings;
 #[cfg(test)]
+mod drawn;
+#[cfg(test)]
 mod edge_lists;
+#[cfg(test)]
+mod event_squares;
 #[cfg(test)]
 mod foreign_corners;
 #[cfg(test)]

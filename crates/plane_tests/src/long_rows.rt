@@ -92,8 +92,8 @@ fn change_both(
 fn length_after(alloc: Global) -> Result<Option<usize>, Memory> {
     let mut row = Row::new(alloc);
     let mut list = Vec::new(alloc);
-    for change in CHANGES {
-        if !change_both(alloc, &mut row, &mut list, change)? {
+    for change in &CHANGES {
+        if !change_both(alloc, &mut row, &mut list, *change)? {
             return Ok(None);
         }
     }

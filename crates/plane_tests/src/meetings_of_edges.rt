@@ -53,7 +53,8 @@ fn edge(e: [i64; 4]) -> Edge {
 
 type Pair = (&'static str, [i64; 4], [i64; 4], Meet);
 
-const ACROSS: [Pair; 14] = [
+const PAIRS: [Pair; 41] = [
+    // Edges across each other or beside.
     ("cross", [0, 0, 4, 4], [0, 4, 4, 0], Meet::Bad),
     (
         "cross between whole places",
@@ -123,9 +124,7 @@ const ACROSS: [Pair; 14] = [
         [0, 0, 4, 0],
         Meet::Apart,
     ),
-];
-
-const IN_LINE: [Pair; 11] = [
+    // In one line.
     ("equal", [0, 0, 4, 2], [0, 0, 4, 2], Meet::Bad),
     (
         "second inside the first",
@@ -167,9 +166,7 @@ const IN_LINE: [Pair; 11] = [
     ("first goes on", [2, 1, 6, 3], [0, 0, 2, 1], Meet::CommonEnd),
     ("gap, second later", [0, 0, 2, 1], [4, 2, 6, 3], Meet::Apart),
     ("gap, first later", [4, 2, 6, 3], [0, 0, 2, 1], Meet::Apart),
-];
-
-const UPRIGHT: [Pair; 10] = [
+    // Upright.
     ("upright equal", [1, 0, 1, 5], [1, 0, 1, 5], Meet::Bad),
     ("upright overlap", [1, 0, 1, 5], [1, 3, 1, 9], Meet::Bad),
     ("upright inside", [1, 0, 1, 9], [1, 3, 1, 5], Meet::Bad),
@@ -200,9 +197,7 @@ const UPRIGHT: [Pair; 10] = [
         Meet::Bad,
     ),
     ("corner", [0, 0, 0, 5], [0, 0, 5, 0], Meet::CommonEnd),
-];
-
-const LARGE: [Pair; 6] = [
+    // As large as may be.
     (
         "wide cross",
         [0, 0, WIDE, WIDE],
@@ -243,38 +238,32 @@ const LARGE: [Pair; 6] = [
 
 #[test]
 fn edges_meet_as_worked_by_hand(rt: HostRuntime) {
-    for (name, s, t, want) in ACROSS {
-        assert_eq!(rt; meeting_of(s, t), Some(want), "{name}");
-    }
-    for (name, s, t, want) in IN_LINE {
-        assert_eq!(rt; meeting_of(s, t), Some(want), "{name}");
-    }
-    for (name, s, t, want) in UPRIGHT {
-        assert_eq!(rt; meeting_of(s, t), Some(want), "{name}");
-    }
-    for (name, s, t, want) in LARGE {
-        assert_eq!(rt; meeting_of(s, t), Some(want), "{name}");
+    for (name, s, t, want) in &PAIRS {
+        assert!(rt; meeting_of(*s, *t) == Some(*want), "{name}");
     }
 }
 
 #[test]
-fn a_way_turns(rt: HostRuntime) {
+fn ways_turn_and_points_come_in_order(rt: HostRuntime) {
     let a = Point { x: 0, y: 0 };
     let b = Point {
         x: WIDE,
         y: WIDE - 1,
     };
-    assert_eq!(rt; turn(a, b, Point { x: WIDE, y: WIDE }), Turn::Left);
-    assert_eq!(rt; turn(a, b, b), Turn::Straight);
-    assert_eq!(rt; turn(a, b, Point { x: 2, y: 1 }), Turn::Right);
-}
-
-#[test]
-fn points_come_by_x_then_y(rt: HostRuntime) {
+    let turns = [
+        turn(a, b, Point { x: WIDE, y: WIDE }),
+        turn(a, b, b),
+        turn(a, b, Point { x: 2, y: 1 }),
+    ];
     let p = Point { x: 1, y: 9 };
     let q = Point { x: 2, y: 3 };
-    assert!(rt; before(p, q), "by x");
-    assert!(rt; before(p, Point { x: 1, y: 10 }), "by y");
-    assert!(rt; !before(q, p), "after");
-    assert!(rt; !before(p, p), "equal");
+    // By x, by y, the later one, and equal ones.
+    let come = [
+        before(p, q),
+        before(p, Point { x: 1, y: 10 }),
+        before(q, p),
+        before(p, p),
+    ];
+    assert!(rt; turns == [Turn::Left, Turn::Straight, Turn::Right], "turns");
+    assert!(rt; come == [true, true, false, false], "order");
 }

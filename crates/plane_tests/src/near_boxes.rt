@@ -6,7 +6,6 @@ use near_pairs::{NearPair, PairTest, Reach, least};
 use plane::Point;
 use ports::Memory;
 use std::alloc::Global;
-use std::process::Abort;
 use std::test::Fail;
 
 /// All pairs that share a place and of which one is marked, from a first number on.
@@ -178,18 +177,13 @@ fn first_from(pairs: &[[u32; 2]], from: u32) -> Option<NearPair> {
     None
 }
 
-fn passes(rt: &impl Abort, alloc: Global, case: &Case) -> Result<(), Fail> {
-    for from in 0..4 {
-        let pair = found(alloc, case, from).expect(rt, "memory");
-        assert_eq!(rt; pair, first_from(case.3, from), "{} from {}", case.0, from);
-    }
-    Ok(())
-}
-
 #[test]
 fn least_pairs_are_found(rt: HostRuntime) -> Result<(), Fail> {
-    for case in CASES {
-        passes(&rt, rt.alloc(), &case)?;
+    for case in &CASES {
+        for from in 0..4 {
+            let pair = found(rt.alloc(), case, from)?;
+            assert!(rt; pair == first_from(case.3, from), "{} from {from}", case.0);
+        }
     }
     Ok(())
 }

@@ -158,7 +158,7 @@ fn agrees(alloc: Global, rows: &[[i64; 4]], wanted: &[(i64, i64, Place)]) -> Res
 
 #[test]
 fn points_have_their_places(rt: HostRuntime) -> Result<(), Fail> {
-    for (name, edges, points) in ROWS {
+    for (name, edges, points) in &ROWS {
         assert!(rt; agrees(rt.alloc(), edges, points)?, "{name}");
     }
     Ok(())

@@ -7,11 +7,9 @@ ghost use Rattle.half_edges.specs.Stars.{IsOnce, IsStar, IsLoose};
 use half_edges::{HalfEdgeId, Mesh, VertexId};
 use ports::Memory;
 use std::alloc::Global;
-use std::process::Abort;
 
-/// The mesh of these edges, whose vertices have these stars.
+/// The mesh of these edges, whose vertices have these stars; an error too where they make none.
 pub fn built(
-    rt: &impl Abort,
     alloc: Global,
     vertices: u32,
     edges: &[(u32, u32)],
@@ -20,37 +18,80 @@ pub fn built(
     ensures { IfOk result (λ mesh. mesh.vertices ≡ vertices) }
 {
     let mut mesh = Mesh::new(alloc, vertices)?;
-    for &(low, high) in edges {
-        assert!(rt; low < vertices && high < vertices);
-        add(rt, &mut mesh, low, high)?;
-    }
-    for star in stars {
-        let around: Vec<HalfEdgeId> = star.iter().map(|h| HalfEdgeId(*h)).collect(alloc)?;
-        link(rt, &mut mesh, &around);
+    add_all(&mut mesh, vertices, edges)?;
+    if !link_all(&mut mesh, stars) {
+        return Err(Memory);
     }
     Ok(mesh)
 }
 
-pub fn add(rt: &impl Abort, mesh: &mut Mesh, low: u32, high: u32) -> Result<(), Memory>
+fn add_all(mesh: &mut Mesh, vertices: u32, edges: &[(u32, u32)]) -> Result<(), Memory>
+    requires { mesh.old.vertices ≡ vertices }
+    ensures { OnOk result (mesh.new.vertices ≡ vertices) }
+{
+    for &(low, high) in edges {
+        if low >= vertices || high >= vertices {
+            return Err(Memory);
+        }
+        add(mesh, low, high)?;
+    }
+    Ok(())
+}
+
+/// Adds an edge; an error too where its ends are one, or there are many edges.
+pub fn add(mesh: &mut Mesh, low: u32, high: u32) -> Result<(), Memory>
     requires low { low < mesh.old.vertices }
     requires high { high < mesh.old.vertices }
     ensures { OnOk result (mesh.new.vertices ≡ mesh.old.vertices) }
 {
-    assert!(rt; low != high);
     let edges = mesh.edges();
-    assert!(rt; edges < 100);
+    if low == high || edges >= 100 {
+        return Err(Memory);
+    }
     let down = mesh.add_edge(VertexId(low), VertexId(high))?;
-    assert_eq!(rt; down, HalfEdgeId(2 * edges));
+    if down != HalfEdgeId(2 * edges) {
+        return Err(Memory);
+    }
     Ok(())
 }
 
-// Links the half-edges that begin at one vertex, whose numbers are given.
-pub fn link(rt: &impl Abort, mesh: &mut Mesh, around: &[HalfEdgeId])
+fn link_all(mesh: &mut Mesh, stars: &[&[u32]]) -> bool
     ensures { mesh.new.vertices ≡ mesh.old.vertices }
 {
-    assert!(rt; is_star(mesh, around));
-    assert!(rt; is_loose(mesh, around));
+    for star in stars {
+        if !link_star(mesh, star) {
+            return false;
+        }
+    }
+    true
+}
+
+// Links a vertex at which at most four edges end.
+fn link_star(mesh: &mut Mesh, star: &[u32]) -> bool
+    ensures { mesh.new.vertices ≡ mesh.old.vertices }
+{
+    let mut around = [HalfEdgeId(0); 4];
+    if star.len() > 4 {
+        return false;
+    }
+    for k in 0..star.len() {
+        around[k] = HalfEdgeId(star[k]);
+    }
+    link(mesh, &around[..star.len()])
+}
+
+/// Links the half-edges that begin at one vertex, if these are all of them and none is linked.
+pub fn link(mesh: &mut Mesh, around: &[HalfEdgeId]) -> bool
+    ensures { mesh.new.vertices ≡ mesh.old.vertices }
+{
+    if !is_star(mesh, around) {
+        return false;
+    }
+    if !is_loose(mesh, around) {
+        return false;
+    }
     mesh.link(around);
+    true
 }
 
 fn is_star(mesh: &Mesh, around: &[HalfEdgeId]) -> bool

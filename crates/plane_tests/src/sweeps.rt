@@ -140,8 +140,8 @@ fn agrees(alloc: Global, rows: &[[i64; 4]], cells: usize, bad: bool) -> Result<b
 
 #[test]
 fn the_sweep_and_all_pairs_agree(rt: HostRuntime) -> Result<(), Fail> {
-    for (name, rows, cells, bad) in ROWS {
-        assert!(rt; agrees(rt.alloc(), rows, cells, bad)?, "{name}");
+    for (name, rows, cells, bad) in &ROWS {
+        assert!(rt; agrees(rt.alloc(), rows, *cells, *bad)?, "{name}");
     }
     Ok(())
 }

@@ -1,285 +1,268 @@
 // Logical lines: words, fields, continuation and faults.
-ghost use Rattle.std.specs.Prelude.{◌≤◌, ◌<◌, length};
+ghost use Rattle.std.specs.Prelude.{◌≤◌, length};
 
-use super::layouts::CODES;
 use ili_grammar::Codes;
-use itf_lines::{Field, Line, LineFault, LineFeed, LineWord, Lines, logical_lines};
+use itf_lines::{Field, Line, LineFault, LineFeed, Lines, logical_lines};
 use ports::Memory;
 use std::alloc::Global;
-use std::process::Abort;
+use std::fmt::Write;
+use std::test::Fail;
 
-fn lines_of(rt: &impl Abort, alloc: Global, code: u8, text: &[u8]) -> Lines {
-    let codes = Codes {
-        blank: b'_',
-        undefined: b'@',
-        continued: code,
-    };
-    assert!(rt; text.len() <= 268435456);
-    match logical_lines(alloc, text, &codes) {
-        Ok(lines) => lines,
-        Err(_) => panic!(rt; "out of memory"),
+// The code of continuation, a text, and what `shown` says of its lines.
+type Row = (u8, &'static [u8], &'static str);
+
+const ROWS: [Row; 47] = [
+    // The head, as it is.
+    (b'\\', b"", "None 0"),
+    (b'\\', b"\n", "1 Other; None 1"),
+    (b'\\', b"\n\n", "1 Other; 2 Other; None 2"),
+    (b'\\', b"SCNT", "1 Scnt; None 1"),
+    (b'\\', b"////\nSCNT\n", "1 Slashes; 2 Scnt; None 2"),
+    (
+        b'\\',
+        b"SCNT\n//// \t\nENDE",
+        "1 Scnt; 2 Slashes; 3 Ende; None 3",
+    ),
+    (
+        b'\\',
+        b"SCNT\n ////\n//// x\n/////\n",
+        "1 Scnt; 2 Other; 3 Other x; 4 Other; None 4",
+    ),
+    (b'\\', b"SCNT\n////\r", "1 Scnt; 2 Other; None 2"),
+    (b'\\', b"SCNT\r\n////\r\n", "1 Scnt; 2 Slashes; None 2"),
+    (
+        b'\\',
+        b"\nSCNT \\\nCONT 1\n\nMOTR\nENDE\n////\n////\nMOTR 2\n",
+        "1 Other; 2 Scnt \\; 3 Other 1; 4 Other; 5 Motr; 6 Ende; 7 Slashes; 8 Other; 9 Motr \
+            2; None 9",
+    ),
+    (b'\\', b"SCNT\nCONT \\\n", "1 Scnt; 2 Other \\; None 2"),
+    (b'\\', b" \t SCNT  a\t\tb \n", "1 Scnt a b; None 1"),
+    // Lines that go on.
+    (
+        b'\\',
+        b"SCNT\n////\nOBJE 1 \\ \t\nCONT 2\n",
+        "1 Scnt; 2 Slashes; 3 Obje 1 2; None 4",
+    ),
+    (
+        b'\\',
+        b"SCNT\n////\nOBJE 1 \\ \r \nCONT 2\n",
+        "1 Scnt; 2 Slashes; 3 Obje 1 \\ \r; Some(StrayCont(4)) 4",
+    ),
+    (
+        b'\\',
+        b"SCNT\n////\nOBJE 1 \\\r\nCONT 2\r\n",
+        "1 Scnt; 2 Slashes; 3 Obje 1 2; None 4",
+    ),
+    (
+        b'\\',
+        b"SCNT\n////\nOBJE x\\\\\nCONT y\n",
+        "1 Scnt; 2 Slashes; 3 Obje x\\ y; None 4",
+    ),
+    (
+        b'\\',
+        b"SCNT\n////\nOBJE x\\y\nETAB\n",
+        "1 Scnt; 2 Slashes; 3 Obje x\\y; 4 Etab; None 4",
+    ),
+    (
+        b'\\',
+        b"SCNT\n////\nOBJE x \\ \\\nCONT\n",
+        "1 Scnt; 2 Slashes; 3 Obje x \\; None 4",
+    ),
+    (
+        b'\\',
+        b"SCNT\n////\n\\\nCONT OBJE 1\n",
+        "1 Scnt; 2 Slashes; 3 Obje 1; None 4",
+    ),
+    (
+        b'\\',
+        b"SCNT\n////\n\\\nCONT\n",
+        "1 Scnt; 2 Slashes; None 4",
+    ),
+    (
+        b'\\',
+        b"SCNT\n////\n\\\nCONT CONT 1\n",
+        "1 Scnt; 2 Slashes; 3 Other 1; None 4",
+    ),
+    (
+        b'\\',
+        b"SCNT\n////\n\\\nCONT \\\nCONT OBJE 1",
+        "1 Scnt; 2 Slashes; 3 Obje 1; None 5",
+    ),
+    (
+        b'\\',
+        b"SCNT\n////\nMTID\nOBJE 1 \\\nCONT 2 3 \\\nCONT\\\nCONT 4\nELIN\n",
+        "1 Scnt; 2 Slashes; 3 Mtid; 4 Obje 1 2 3 4; 8 Elin; None 8",
+    ),
+    (
+        b'\\',
+        b"SCNT\n////\nOB\\\nCONT JE\n",
+        "1 Scnt; 2 Slashes; 3 Other JE; None 4",
+    ),
+    // The first fault of continuation ends the lines.
+    (
+        b'\\',
+        b"SCNT\n////\nCONT 5\nETAB\nENDE\n",
+        "1 Scnt; 2 Slashes; Some(StrayCont(3)) 5",
+    ),
+    (
+        b'\\',
+        b"SCNT\n////\nCONT",
+        "1 Scnt; 2 Slashes; Some(StrayCont(3)) 3",
+    ),
+    (
+        b'\\',
+        b"SCNT\n////\nCONT \\\nCONT 1\n",
+        "1 Scnt; 2 Slashes; Some(StrayCont(3)) 4",
+    ),
+    (
+        b'\\',
+        b"SCNT\n////\nMTID x\nCONT 5\n",
+        "1 Scnt; 2 Slashes; 3 Mtid x; Some(StrayCont(4)) 4",
+    ),
+    (
+        b'\\',
+        b"SCNT\n////\nOBJE 1 \\\nCONT 2\nCONT 3\n",
+        "1 Scnt; 2 Slashes; 3 Obje 1 2; Some(StrayCont(5)) 5",
+    ),
+    (
+        b'\\',
+        b"SCNT\n////\nOBJE 1 5 @ \\\n",
+        "1 Scnt; 2 Slashes; Some(OpenContinue(3)) 3",
+    ),
+    (
+        b'\\',
+        b"SCNT\n////\nFOO \\",
+        "1 Scnt; 2 Slashes; Some(OpenContinue(3)) 3",
+    ),
+    (
+        b'\\',
+        b"SCNT\n////\nOBJE 1 \\\n\nCONT 2\n",
+        "1 Scnt; 2 Slashes; Some(OpenContinue(3)) 5",
+    ),
+    (
+        b'\\',
+        b"SCNT\n////\nOBJE 1 \\\nETAB\nCONT\n",
+        "1 Scnt; 2 Slashes; Some(OpenContinue(3)) 5",
+    ),
+    (
+        b'\\',
+        b"SCNT\n////\nMTID\nMODL a\nTOPI b\nTABL c\nOBJE 1 \\\nCONT 2 \\\nETAB\n",
+        "1 Scnt; 2 Slashes; 3 Mtid; 4 Modl a; 5 Topi b; 6 Tabl c; Some(OpenContinue(8)) 9",
+    ),
+    (
+        b'\\',
+        b"SCNT\n////\nOBJE 1 \\\nFOO \\\nCONT 1\n",
+        "1 Scnt; 2 Slashes; Some(OpenContinue(3)) 5",
+    ),
+    (
+        b'\\',
+        b"SCNT\n////\nENDE\n\n  \nMOTR\nCONT\n",
+        "1 Scnt; 2 Slashes; 3 Ende; 6 Motr; Some(StrayCont(7)) 7",
+    ),
+    // Other codes.
+    (
+        b'B',
+        b"SCNT\n////\nETAB\nCONT x\n",
+        "1 Scnt; 2 Slashes; 3 Other x; None 4",
+    ),
+    (
+        b'T',
+        b"SCNT\n////\nOBJE 1 T\nCONT\nCONT\n",
+        "1 Scnt; 2 Slashes; Some(OpenContinue(3)) 5",
+    ),
+    (
+        b'T',
+        b"SCNT\n////\nCONTT\n",
+        "1 Scnt; 2 Slashes; Some(StrayCont(3)) 3",
+    ),
+    (
+        b'T',
+        b"SCNT\n////\nOBJE 1 T\nCONTT\nCONT 2 T",
+        "1 Scnt; 2 Slashes; Some(OpenContinue(5)) 5",
+    ),
+    (
+        b'/',
+        b"SCNT\n////\nOBJE /\nCONT 1\n",
+        "1 Scnt; 2 Slashes; 3 Obje 1; None 4",
+    ),
+    // Lines without fields are left out and counted.
+    (
+        b'\\',
+        b"SCNT\n////\n\n \t\nENDE",
+        "1 Scnt; 2 Slashes; 5 Ende; None 5",
+    ),
+    (b'\\', b"SCNT\n////\n\n\n", "1 Scnt; 2 Slashes; None 4"),
+    (
+        b'\\',
+        b"SCNT\n////\nENDE\r\n\r\n",
+        "1 Scnt; 2 Slashes; 3 Ende; None 4",
+    ),
+    (
+        b'\\',
+        b"SCNT\n////\nENDE\r",
+        "1 Scnt; 2 Slashes; 3 Other; None 3",
+    ),
+    (
+        b'\\',
+        b"SCNT\n////\nENDE\r\r\n",
+        "1 Scnt; 2 Slashes; 3 Other; None 3",
+    ),
+    // Each word.
+    (
+        b'\\',
+        b"SCNT\n////\nSCNT\nMTID\nMODL\nMOTR\nTOPI\nTABL\nOBJE\nSTPT\nLIPT\nARCP\nELIN\nETAB\n\
+            ETOP\nEMOD\nENDE\n////\nobje\nOBJEC\nOBJ\n",
+        "1 Scnt; 2 Slashes; 3 Scnt; 4 Mtid; 5 Modl; 6 Motr; 7 Topi; 8 Tabl; 9 Obje; 10 Stpt; \
+            11 Lipt; 12 Arcp; 13 Elin; 14 Etab; 15 Etop; 16 Emod; 17 Ende; 18 Other; 19 Other; \
+            20 Other; 21 Other; None 21",
+    ),
+];
+
+// Adds the number, the word and the fields of a line.
+fn add_line(text: &mut String, line: &Line) -> Result<(), Memory> {
+    write!(text, "{} {:?}", line.number, line.word)?;
+    for field in &line.fields {
+        let field = std::str::from_utf8(field.bytes()).unwrap_or("?");
+        write!(text, " {field}")?;
     }
+    text.push_str("; ")?;
+    Ok(())
 }
 
-// Each line as its number, its word and its fields with a blank before each, then a LF.
-fn shown(rt: &impl Abort, alloc: Global, lines: &Lines) -> String {
+// Each line, and then the fault and the total.
+fn shown(alloc: Global, lines: &Lines) -> Result<String, Memory> {
     let mut text = String::new(alloc);
     for line in &lines.lines {
-        let word = format!(in alloc; "{} {:?}", line.number, line.word).expect(rt, "memory");
-        text.push_str(&word).expect(rt, "memory");
-        for field in &line.fields {
-            text.push_str(" ").expect(rt, "memory");
-            let field = std::str::from_utf8(field.bytes()).unwrap_or("?");
-            text.push_str(field).expect(rt, "memory");
-        }
-        text.push_str("\n").expect(rt, "memory");
+        add_line(&mut text, line)?;
     }
-    text
+    write!(text, "{:?} {}", lines.fault, lines.total)?;
+    Ok(text)
 }
 
-// A text after the lines `SCNT` and `////`, the lines that it adds, the fault, and the total.
-type Row = (&'static [u8], &'static str, Option<LineFault>, u32);
-
-fn passes(rt: &impl Abort, alloc: Global, code: u8, head: &str, rows: &[Row]) {
-    for (text, want, fault, total) in rows {
-        let mut whole = Vec::new(alloc);
-        let mut wanted = String::new(alloc);
-        if !head.is_empty() {
-            whole
-                .extend_from_slice(b"SCNT\n////\n")
-                .expect(rt, "memory");
-        }
-        wanted.push_str(head).expect(rt, "memory");
-        whole.extend_from_slice(text).expect(rt, "memory");
-        wanted.push_str(want).expect(rt, "memory");
-        let lines = lines_of(rt, alloc, code, &whole);
-        assert_eq!(rt; shown(rt, alloc, &lines), wanted, "lines");
-        assert_eq!(rt; lines.fault, *fault, "fault of {}", want);
-        assert_eq!(rt; lines.total, *total, "total of {}", want);
+fn codes(continued: u8) -> Codes {
+    Codes {
+        blank: b'_',
+        undefined: b'@',
+        continued,
     }
 }
 
-const HEAD: &str = "1 Scnt\n2 Slashes\n";
-
-const HEADS: [Row; 12] = [
-    (b"", "", None, 0),
-    (b"\n", "1 Other\n", None, 1),
-    (b"\n\n", "1 Other\n2 Other\n", None, 2),
-    (b"SCNT", "1 Scnt\n", None, 1),
-    (b"////\nSCNT\n", "1 Slashes\n2 Scnt\n", None, 2),
-    (
-        b"SCNT\n//// \t\nENDE",
-        "1 Scnt\n2 Slashes\n3 Ende\n",
-        None,
-        3,
-    ),
-    (
-        b"SCNT\n ////\n//// x\n/////\n",
-        "1 Scnt\n2 Other\n3 Other x\n4 Other\n",
-        None,
-        4,
-    ),
-    (b"SCNT\n////\r", "1 Scnt\n2 Other\n", None, 2),
-    (b"SCNT\r\n////\r\n", "1 Scnt\n2 Slashes\n", None, 2),
-    (
-        b"\nSCNT \\\nCONT 1\n\nMOTR\nENDE\n////\n////\nMOTR 2\n",
-        "1 Other\n2 Scnt \\\n3 Other 1\n4 Other\n5 Motr\n6 Ende\n7 Slashes\n8 Other\n9 Motr 2\n",
-        None,
-        9,
-    ),
-    (b"SCNT\nCONT \\\n", "1 Scnt\n2 Other \\\n", None, 2),
-    (b" \t SCNT  a\t\tb \n", "1 Scnt a b\n", None, 1),
-];
-
-#[test]
-fn the_head_is_taken_as_it_is(rt: HostRuntime) {
-    passes(&rt, rt.alloc(), b'\\', "", &HEADS);
-}
-
-const CONTINUED_ONCE: [Row; 12] = [
-    (b"OBJE 1 \\ \t\nCONT 2\n", "3 Obje 1 2\n", None, 4),
-    (
-        b"OBJE 1 \\ \r \nCONT 2\n",
-        "3 Obje 1 \\ \r\n",
-        Some(LineFault::StrayCont(4)),
-        4,
-    ),
-    (b"OBJE 1 \\\r\nCONT 2\r\n", "3 Obje 1 2\n", None, 4),
-    (b"OBJE x\\\\\nCONT y\n", "3 Obje x\\ y\n", None, 4),
-    (b"OBJE x\\y\nETAB\n", "3 Obje x\\y\n4 Etab\n", None, 4),
-    (b"OBJE x \\ \\\nCONT\n", "3 Obje x \\\n", None, 4),
-    (b"\\\nCONT OBJE 1\n", "3 Obje 1\n", None, 4),
-    (b"\\\nCONT\n", "", None, 4),
-    (b"\\\nCONT CONT 1\n", "3 Other 1\n", None, 4),
-    (b"\\\nCONT \\\nCONT OBJE 1", "3 Obje 1\n", None, 5),
-    (
-        b"MTID\nOBJE 1 \\\nCONT 2 3 \\\nCONT\\\nCONT 4\nELIN\n",
-        "3 Mtid\n4 Obje 1 2 3 4\n8 Elin\n",
-        None,
-        8,
-    ),
-    (b"OB\\\nCONT JE\n", "3 Other JE\n", None, 4),
-];
-
-#[test]
-fn a_line_goes_on_by_one_code_at_its_end(rt: HostRuntime) {
-    passes(&rt, rt.alloc(), b'\\', HEAD, &CONTINUED_ONCE);
-}
-
-const CONTINUED_BADLY: [Row; 12] = [
-    (
-        b"CONT 5\nETAB\nENDE\n",
-        "",
-        Some(LineFault::StrayCont(3)),
-        5,
-    ),
-    (b"CONT", "", Some(LineFault::StrayCont(3)), 3),
-    (b"CONT \\\nCONT 1\n", "", Some(LineFault::StrayCont(3)), 4),
-    (
-        b"MTID x\nCONT 5\n",
-        "3 Mtid x\n",
-        Some(LineFault::StrayCont(4)),
-        4,
-    ),
-    (
-        b"OBJE 1 \\\nCONT 2\nCONT 3\n",
-        "3 Obje 1 2\n",
-        Some(LineFault::StrayCont(5)),
-        5,
-    ),
-    (b"OBJE 1 5 @ \\\n", "", Some(LineFault::OpenContinue(3)), 3),
-    (b"FOO \\", "", Some(LineFault::OpenContinue(3)), 3),
-    (
-        b"OBJE 1 \\\n\nCONT 2\n",
-        "",
-        Some(LineFault::OpenContinue(3)),
-        5,
-    ),
-    (
-        b"OBJE 1 \\\nETAB\nCONT\n",
-        "",
-        Some(LineFault::OpenContinue(3)),
-        5,
-    ),
-    (
-        b"MTID\nMODL a\nTOPI b\nTABL c\nOBJE 1 \\\nCONT 2 \\\nETAB\n",
-        "3 Mtid\n4 Modl a\n5 Topi b\n6 Tabl c\n",
-        Some(LineFault::OpenContinue(8)),
-        9,
-    ),
-    (
-        b"OBJE 1 \\\nFOO \\\nCONT 1\n",
-        "",
-        Some(LineFault::OpenContinue(3)),
-        5,
-    ),
-    (
-        b"ENDE\n\n  \nMOTR\nCONT\n",
-        "3 Ende\n6 Motr\n",
-        Some(LineFault::StrayCont(7)),
-        7,
-    ),
-];
-
-#[test]
-fn the_first_fault_of_continuation_ends_the_lines(rt: HostRuntime) {
-    passes(&rt, rt.alloc(), b'\\', HEAD, &CONTINUED_BADLY);
-}
-
-const WITH_T: [Row; 3] = [
-    (
-        b"OBJE 1 T\nCONT\nCONT\n",
-        "",
-        Some(LineFault::OpenContinue(3)),
-        5,
-    ),
-    (b"CONTT\n", "", Some(LineFault::StrayCont(3)), 3),
-    (
-        b"OBJE 1 T\nCONTT\nCONT 2 T",
-        "",
-        Some(LineFault::OpenContinue(5)),
-        5,
-    ),
-];
-
-#[test]
-fn the_code_may_be_any_byte(rt: HostRuntime) {
-    passes(
-        &rt,
-        rt.alloc(),
-        b'B',
-        HEAD,
-        &[(b"ETAB\nCONT x\n", "3 Other x\n", None, 4)],
-    );
-    passes(&rt, rt.alloc(), b'T', HEAD, &WITH_T);
-    passes(
-        &rt,
-        rt.alloc(),
-        b'/',
-        HEAD,
-        &[(b"OBJE /\nCONT 1\n", "3 Obje 1\n", None, 4)],
-    );
-}
-
-const EMPTY: [Row; 5] = [
-    (b"\n \t\nENDE", "5 Ende\n", None, 5),
-    (b"\n\n", "", None, 4),
-    (b"ENDE\r\n\r\n", "3 Ende\n", None, 4),
-    (b"ENDE\r", "3 Other\n", None, 3),
-    (b"ENDE\r\r\n", "3 Other\n", None, 3),
-];
-
-#[test]
-fn empty_lines_are_skipped_and_counted(rt: HostRuntime) {
-    passes(&rt, rt.alloc(), b'\\', HEAD, &EMPTY);
-}
-
-const EACH_WORD: [Row; 1] = [(
-    b"SCNT\nMTID\nMODL\nMOTR\nTOPI\nTABL\nOBJE\nSTPT\nLIPT\nARCP\nELIN\nETAB\nETOP\nEMOD\n\
-        ENDE\n////\nobje\nOBJEC\nOBJ\n",
-    "3 Scnt\n4 Mtid\n5 Modl\n6 Motr\n7 Topi\n8 Tabl\n9 Obje\n10 Stpt\n11 Lipt\n12 Arcp\n\
-        13 Elin\n14 Etab\n15 Etop\n16 Emod\n17 Ende\n18 Other\n19 Other\n20 Other\n21 Other\n",
-    None,
-    21,
-)];
-
-#[test]
-fn each_word_is_recognized(rt: HostRuntime) {
-    passes(&rt, rt.alloc(), b'\\', HEAD, &EACH_WORD);
-}
-
-// The lines of a text whose first piece has `first` bytes, and each other at most `size`.
-fn in_pieces(alloc: Global, text: &[u8], first: usize, size: usize) -> Result<Lines, Memory>
-    requires first { first ≤ length text.now }
-    requires size { 0 < size }
-    requires few { length text.now ≤ 268435456 }
-{
-    let mut lines = Vec::new(alloc);
-    let mut feed = LineFeed::new(alloc, &CODES);
-    feed.feed(&text[..first], &mut lines)?;
-    let mut at = first;
-    while at < text.len() {
-        let upto = (at + size.min(268435456)).min(text.len());
-        feed.feed(&text[at..upto], &mut lines)?;
-        at = upto;
+// No lines of a text that is longer than any that is read.
+fn lines_of(alloc: Global, code: u8, text: &[u8]) -> Result<Lines, Memory> {
+    if text.len() > 268_435_456 {
+        return Err(Memory);
     }
-    let end = feed.finish(&mut lines)?;
-    Ok(Lines {
-        lines,
-        fault: end.fault,
-        total: end.total,
-    })
+    logical_lines(alloc, text, &codes(code))
 }
 
-fn is_same(rt: &impl Abort, alloc: Global, whole: &Lines, pieces: &Lines, cut: usize) {
-    assert_eq!(rt;
-        shown(rt, alloc, pieces),
-        shown(rt, alloc, whole),
-        "lines, cut at {}",
-        cut
-    );
-    assert_eq!(rt; pieces.fault, whole.fault, "fault, cut at {}", cut);
-    assert_eq!(rt; pieces.total, whole.total, "total, cut at {}", cut);
+#[test]
+fn lines_are_as_worked_by_hand(rt: HostRuntime) -> Result<(), Fail> {
+    for (code, text, want) in &ROWS {
+        let lines = shown(rt.alloc(), &lines_of(rt.alloc(), *code, text)?)?;
+        assert_eq!(rt; lines.as_str(), *want);
+    }
+    Ok(())
 }
 
 const DRAWN: &[u8] = b"SCNT\n////\nMTID Rows\nMODL Land\nTOPI Cover\nTABL Parcel_Form\nOBJE 1\n\
@@ -290,97 +273,115 @@ const DRAWN: &[u8] = b"SCNT\n////\nMTID Rows\nMODL Land\nTOPI Cover\nTABL Parcel
 const CONTINUED: &[u8] = b"SCNT\r\nfree\r\n//// \r\n\r\nMTID a \\\r\n\
     CONT b\\ \r\nCONT\r\n\\\r\nCONT ETAB\r\n\r\r\nOBJE 1 \\\r\nENDE\r";
 
+// The lines of a text that comes as two pieces.
+fn in_two(alloc: Global, front: &[u8], rest: &[u8]) -> Result<Lines, Memory>
+    requires front { length front.now ≤ 268435456 }
+    requires rest { length rest.now ≤ 268435456 }
+{
+    let mut lines = Vec::new(alloc);
+    let mut feed = LineFeed::new(alloc, &codes(b'\\'));
+    feed.feed(front, &mut lines)?;
+    feed.feed(rest, &mut lines)?;
+    let end = feed.finish(&mut lines)?;
+    Ok(Lines {
+        lines,
+        fault: end.fault,
+        total: end.total,
+    })
+}
+
+// What comes of the text cut there, nothing of a text that is too long or shorter.
+fn cut_at(alloc: Global, text: &[u8], cut: usize) -> Result<Option<String>, Memory> {
+    if cut > text.len() || text.len() > 268_435_456 {
+        return Ok(None);
+    }
+    let lines = in_two(alloc, &text[..cut], &text[cut..])?;
+    Ok(Some(shown(alloc, &lines)?))
+}
+
 #[test]
-fn the_cut_into_pieces_does_not_matter(rt: HostRuntime) {
-    let alloc = rt.alloc();
+fn the_cut_into_pieces_does_not_matter(rt: HostRuntime) -> Result<(), Fail> {
     for text in [DRAWN, CONTINUED] {
-        let whole = lines_of(&rt, alloc, b'\\', text);
+        let whole = shown(rt.alloc(), &lines_of(rt.alloc(), b'\\', text)?)?;
         for cut in 0..text.len() + 1 {
-            for size in [1, 7, 1000] {
-                assert!(&rt; text.len() <= 268435456);
-                match in_pieces(alloc, text, cut, size) {
-                    Ok(pieces) => is_same(&rt, alloc, &whole, &pieces, cut),
-                    Err(_) => panic!(&rt; "out of memory"),
-                }
-            }
+            let pieces = cut_at(rt.alloc(), text, cut)?;
+            assert!(rt; pieces.as_deref() == Some(whole.as_str()), "cut at {cut}");
         }
     }
+    Ok(())
 }
 
 #[test]
-fn a_field_keeps_its_bytes(rt: HostRuntime) {
-    let alloc = rt.alloc();
+fn a_field_keeps_its_bytes(rt: HostRuntime) -> Result<(), Fail> {
+    let bytes = [b'x'; 1000];
     for length in [0, 1, 13, 14, 15, 16, 1000] {
-        let mut bytes = Vec::new(alloc);
-        for i in 0..length {
-            let byte = u8::try_from(i % 251_u32).unwrap_or(0);
-            bytes.push(byte).expect(&rt, "memory");
-        }
-        match Field::new(alloc, &bytes) {
-            Ok(field) => assert_eq!(rt; field.bytes(), bytes.as_slice(), "length {}", length),
-            Err(_) => panic!(rt; "out of memory"),
-        }
+        let field = Field::new(rt.alloc(), &bytes[..length])?;
+        assert!(rt; field.bytes() == &bytes[..length], "length {length}");
     }
+    Ok(())
 }
 
-// Adds the piece that many times.
-fn repeat(rt: &impl Abort, text: &mut Vec<u8>, piece: &[u8], times: u32) {
-    for _ in 0..times {
-        text.extend_from_slice(piece).expect(rt, "memory");
-    }
-}
+// How many lines there are, physical lines, the fault, and the fields of the last line.
+type Counts = (usize, u32, Option<LineFault>, usize);
 
-// A text that is repeated 100,000 times after the head, the lines then, and the total.
-const MANY: [(&[u8], usize, u32); 4] = [
-    (b"OBJE 1 2600020.000 1200000.000\n", 100002, 100002),
-    (b"\n", 2, 100002),
+// A front, a piece that comes 100,000 times after it, an end, and the counts then.
+const MANY: [(&[u8], &[u8], &[u8], Counts); 6] = [
     (
-        b"OBJE a_field_that_is_longer_than_its_room\n",
-        100002,
-        100002,
+        b"SCNT\n////\n",
+        b"OBJE 1 2600020.000 1200000.000\n",
+        b"",
+        (100_002, 100_002, None, 3),
     ),
-    (b"OBJE 1 \\\nCONT 2\n", 100002, 200002),
+    (b"SCNT\n////\n", b"\n", b"", (2, 100_002, None, 0)),
+    (
+        b"SCNT\n////\n",
+        b"OBJE a_field_that_is_longer_than_its_room\n",
+        b"",
+        (100_002, 100_002, None, 1),
+    ),
+    (
+        b"SCNT\n////\n",
+        b"OBJE 1 \\\nCONT 2\n",
+        b"",
+        (100_002, 200_002, None, 2),
+    ),
+    (
+        b"SCNT\n////\nOBJE \\\n",
+        b"CONT x \\\n",
+        b"",
+        (2, 100_003, Some(LineFault::OpenContinue(100_003)), 0),
+    ),
+    (
+        b"SCNT\n////\nOBJE \\\n",
+        b"CONT x \\\n",
+        b"CONT y",
+        (3, 100_004, None, 100_001),
+    ),
 ];
 
-fn has_lines(rt: &impl Abort, found: &Lines, lines: usize, total: u32) {
-    assert_eq!(rt;
-        (found.lines.len(), found.total, found.fault),
-        (lines, total, None)
-    );
+fn counts(lines: &Lines) -> Counts {
+    let fields = match lines.lines.last() {
+        Some(line) => line.fields.len(),
+        None => 0,
+    };
+    (lines.lines.len(), lines.total, lines.fault, fields)
 }
 
-#[test]
-fn many_lines_are_read(rt: HostRuntime) {
-    let alloc = rt.alloc();
-    for (piece, lines, total) in &MANY {
-        let mut text = Vec::new(alloc);
-        repeat(&rt, &mut text, b"SCNT\n////\n", 1);
-        repeat(&rt, &mut text, piece, 100000);
-        has_lines(&rt, &lines_of(&rt, alloc, b'\\', &text), *lines, *total);
+fn repeated(alloc: Global, front: &[u8], piece: &[u8], end: &[u8]) -> Result<Vec<u8>, Memory> {
+    let mut text = Vec::from_slice(alloc, front)?;
+    for _ in 0..100_000 {
+        text.extend_from_slice(piece)?;
     }
-}
-
-fn is_open(rt: &impl Abort, open: &Lines) {
-    assert_eq!(rt; open.fault, Some(LineFault::OpenContinue(200003)));
-    assert_eq!(rt; open.lines.len(), 2);
-}
-
-fn is_third_of_many_pieces(rt: &impl Abort, lines: &[Line]) {
-    assert!(rt; lines.len() > 2);
-    let last = &lines[2];
-    assert_eq!(rt; (last.number, last.word), (3, LineWord::Obje));
-    assert_eq!(rt; last.fields.len(), 200001);
+    text.extend_from_slice(end)?;
+    Ok(text)
 }
 
 #[test]
-fn a_line_may_have_many_pieces(rt: HostRuntime) {
-    let alloc = rt.alloc();
-    let mut text = Vec::new(alloc);
-    repeat(&rt, &mut text, b"SCNT\n////\nOBJE \\\n", 1);
-    repeat(&rt, &mut text, b"CONT x \\\n", 200000);
-    is_open(&rt, &lines_of(&rt, alloc, b'\\', &text));
-    repeat(&rt, &mut text, b"CONT y", 1);
-    let whole = lines_of(&rt, alloc, b'\\', &text);
-    has_lines(&rt, &whole, 3, 200004);
-    is_third_of_many_pieces(&rt, &whole.lines);
+fn many_lines_are_read(rt: HostRuntime) -> Result<(), Fail> {
+    for (front, piece, end, want) in &MANY {
+        let text = repeated(rt.alloc(), front, piece, end)?;
+        let lines = lines_of(rt.alloc(), b'\\', &text)?;
+        assert_eq!(rt; counts(&lines), *want);
+    }
+    Ok(())
 }

@@ -1,16 +1,27 @@
-// Whole transfers: their rows, and the line and the code of the first line at fault.
+// Whole transfers: their rows, in pieces too, and the findings of their values and keys.
+ghost use Rattle.std.specs.Prelude.{◌≤◌, ◌<◌, IfOk, length};
 ghost use Rattle.table_layout.specs.Valid.{IsValid};
 ghost use Rattle.table_layout.specs.Values.{layout_view};
 
-use super::layouts::{CODES, layout_of};
+use super::layouts::layout_of;
+use domain_rules::{check_values, field_ok};
+use field_values::leaves_are_spelled;
+use ident_refs::check_keys;
+use ili_grammar::Codes;
 use itf_lines::{Field, LineEnd, Lines, logical_lines};
-use itf_reader::{
-    Code, Fault, Finding, Names, ReadRefusal, Row, RowFeed, Structure, Transfer, TransferFeed,
-    read_transfer, sort_findings,
-};
+use itf_reader::{Code, Finding, ReadRefusal, Row, Stroke, Transfer, TransferFeed, read_transfer};
+use ports::Memory;
+use resolver::Form;
 use std::alloc::Global;
-use std::process::Abort;
+use std::fmt::Write;
+use std::test::Fail;
 use table_layout::Layout;
+
+const CODES: Codes = Codes {
+    blank: b'_',
+    undefined: b'@',
+    continued: b'\\',
+};
 
 // Topic T with the tables A and L, of no and of two lines, and topic U with a table A of one.
 const MODEL: &str = "TRANSFER Small; DOMAIN K = COORD2 0.000 0.000 1000.000 1000.000;
@@ -28,194 +39,7 @@ FORMAT FREE;
 CODE BLANK = DEFAULT, UNDEFINED = DEFAULT, CONTINUE = DEFAULT; TID = ANY; END.
 ";
 
-fn read(rt: &impl Abort, alloc: Global, front: &str, text: &str) -> Result<Transfer, ReadRefusal> {
-    let layout = layout_of(rt, alloc, MODEL);
-    let mut whole = String::new(alloc);
-    whole.push_str(front).expect(rt, "memory");
-    whole.push_str(text).expect(rt, "memory");
-    assert!(rt; whole.len() <= 268435456);
-    match logical_lines(alloc, whole.as_bytes(), &CODES) {
-        Ok(lines) => {
-            assert!(rt; lines.total < 4294967295);
-            read_transfer(alloc, &layout, &lines)
-        }
-        Err(_) => panic!(rt; "out of memory"),
-    }
-}
-
-fn push_fields(rt: &impl Abort, text: &mut String, fields: &[Field]) {
-    for field in fields {
-        text.push_str(" ").expect(rt, "memory");
-        let field = std::str::from_utf8(field.bytes()).unwrap_or("?");
-        text.push_str(field).expect(rt, "memory");
-    }
-}
-
-// The number and the fields of its line, then ` |` and the vertices of each stroke, then a LF.
-fn push_row(rt: &impl Abort, alloc: Global, text: &mut String, row: &Row) {
-    let number = format!(in alloc; "{}", row.line).expect(rt, "memory");
-    text.push_str(&number).expect(rt, "memory");
-    push_fields(rt, text, &row.fields);
-    for stroke in &row.strokes {
-        text.push_str(" |").expect(rt, "memory");
-        let mut rest = stroke.vertices.as_slice();
-        for _ in 0..rest.len() {
-            let Some((vertex, others)) = rest.split_first() else {
-                break;
-            };
-            let kind = format!(in alloc; " {} {:?}", vertex.line, vertex.kind).expect(rt, "memory");
-            text.push_str(&kind).expect(rt, "memory");
-            push_fields(rt, text, vertex.fields);
-            rest = others;
-        }
-    }
-    text.push_str("\n").expect(rt, "memory");
-}
-
-// `table` and its rows, for each table.
-fn shown(rt: &impl Abort, alloc: Global, transfer: &Transfer) -> String {
-    let mut text = String::new(alloc);
-    for table in &transfer.tables {
-        text.push_str("table\n").expect(rt, "memory");
-        for row in &table.rows {
-            push_row(rt, alloc, &mut text, row);
-        }
-    }
-    text
-}
-
-fn reads(rt: &impl Abort, alloc: Global, text: &str, want: &str) {
-    match read(rt, alloc, HEAD, text) {
-        Ok(transfer) => assert_eq!(rt; shown(rt, alloc, &transfer).as_str(), want, "text {}", text),
-        Err(refusal) => panic!(rt; "{:?} for {}", refusal, text),
-    }
-}
-
-// A text, and the line and the code at which it is refused.
-type Refused = (&'static str, u32, Structure);
-
-fn refuses(rt: &impl Abort, alloc: Global, front: &str, faults: &[Refused]) {
-    for (text, line, code) in faults {
-        let want = ReadRefusal::At {
-            line: *line,
-            code: *code,
-        };
-        match read(rt, alloc, front, text) {
-            Ok(_) => panic!(rt; "read: {}", text),
-            Err(refusal) => assert_eq!(rt; refusal, want, "text {}", text),
-        }
-    }
-}
-
 const HEAD: &str = "SCNT\n////\nMTID x\nMODL M\n";
-
-#[test]
-fn rows_are_in_the_order_of_the_layout(rt: HostRuntime) {
-    let text = "TOPI U\nTABL A\nOBJE 9\nETAB\nETOP\n\
-        TOPI T\nTABL L\nOBJE 1 a \\\nCONT b\nSTPT 0 0\nLIPT 1 1\nARCP 2 2\nLIPT 3 3\nELIN x\n\
-        OBJE 2\nELIN\nSTPT 5 5\nELIN\nETAB\nETOP\nEMOD\nENDE\n";
-    let want = "table\ntable\n\
-        12 1 a b | 14 Start 0 0 15 Straight 1 1 16 OnArc 2 2 17 Straight 3 3 |\n\
-        19 2 | | 21 Start 5 5\ntable\n7 9 |\n";
-    reads(&rt, rt.alloc(), text, want);
-    reads(&rt, rt.alloc(), "EMOD\nENDE", "table\ntable\ntable\n");
-    let both = "TOPI T\nTABL A\nOBJE\nETAB\nETOP\nTOPI U\nTABL A\nETAB\nETOP\nEMOD\n\nENDE 1\n\n";
-    reads(&rt, rt.alloc(), both, "table\n7\ntable\ntable\n");
-}
-
-#[test]
-fn the_head_is_refused_at_its_line(rt: HostRuntime) {
-    let faults: [Refused; 12] = [
-        ("", 1, Structure::End),
-        ("\n", 1, Structure::Word),
-        ("MOTR\n", 1, Structure::Motr),
-        ("////\n", 1, Structure::Word),
-        ("SCNT\nENDE\n", 3, Structure::End),
-        (
-            "SCNT\nMOTR\nCONT\n\n////\nMTID\nMODL X\n",
-            7,
-            Structure::Name,
-        ),
-        ("SCNT\n////\n////\n", 3, Structure::Word),
-        ("SCNT\n////\nMOTR\n", 3, Structure::Motr),
-        ("SCNT\n////\nMODL M\n", 3, Structure::Word),
-        ("SCNT\n////\nMTID\nMODL\n", 4, Structure::Name),
-        ("SCNT\n////\nMTID\nMODL M M\n", 4, Structure::Name),
-        ("SCNT\n////\nMTID\nTOPI V\n", 4, Structure::Word),
-    ];
-    refuses(&rt, rt.alloc(), "", &faults);
-}
-
-#[test]
-fn topics_and_tables_are_refused_at_their_lines(rt: HostRuntime) {
-    let faults: [Refused; 12] = [
-        ("TOPI V\n", 5, Structure::Name),
-        ("TABL Z\n", 5, Structure::Word),
-        ("TOPI T\nETOP\nTOPI T\n", 7, Structure::Twice),
-        ("TOPI T\nETOP\nTOPI T T\n", 7, Structure::Name),
-        ("TOPI T\nTABL Z\n", 6, Structure::Name),
-        ("TOPI U\nTABL L\n", 6, Structure::Name),
-        ("TOPI T\nTABL A\nETAB\nTABL A\n", 8, Structure::Twice),
-        ("TOPI T\nTABL A\nETAB\nTABL\n", 8, Structure::Name),
-        ("TOPI T\nEMOD\n", 6, Structure::Word),
-        ("TOPI T\nTABL A\nOBJE 1\n", 8, Structure::End),
-        ("TOPI T\nMOTR\n", 6, Structure::Motr),
-        ("EMOD\n", 6, Structure::End),
-    ];
-    refuses(&rt, rt.alloc(), HEAD, &faults);
-}
-
-#[test]
-fn strokes_are_refused_at_their_lines(rt: HostRuntime) {
-    let faults: [Refused; 8] = [
-        ("TABL L\nELIN\n", 7, Structure::Word),
-        ("TABL A\nOBJE 1\nELIN\n", 8, Structure::Word),
-        ("TABL L\nOBJE 1\nELIN\nELIN\nELIN\n", 10, Structure::Word),
-        (
-            "TABL L\nOBJE 1\nELIN\nELIN\nSTPT 1 1\n",
-            10,
-            Structure::Word,
-        ),
-        (
-            "TABL L\nOBJE 1\nSTPT 0\nARCP 1\nARCP 2\n",
-            10,
-            Structure::Word,
-        ),
-        (
-            "TABL L\nOBJE 1\nSTPT 0\nARCP 1\nELIN\n",
-            10,
-            Structure::Word,
-        ),
-        ("TABL L\nOBJE 1\nSTPT 0\nMOTR\n", 9, Structure::Motr),
-        ("TABL L\nOBJE 1\nSTPT 0\nETAB\n", 9, Structure::Word),
-    ];
-    refuses(
-        &rt,
-        rt.alloc(),
-        "SCNT\n////\nMTID x\nMODL M\nTOPI T\n",
-        &faults,
-    );
-}
-
-#[test]
-fn continuation_and_the_end_keep_their_codes(rt: HostRuntime) {
-    let faults: [Refused; 9] = [
-        ("EMOD\nENDE\nFOO\n", 7, Structure::Word),
-        ("EMOD\nENDE\n\nMOTR\n", 8, Structure::Word),
-        ("EMOD\nENDE\nCONT\n", 7, Structure::Cont),
-        ("EMOD\nENDE\nFOO \\\n", 7, Structure::Continue),
-        ("TOPI T\nCONT\n", 6, Structure::Cont),
-        ("TOPI V\nCONT\n", 5, Structure::Name),
-        ("FOO \\\n", 5, Structure::Continue),
-        (
-            "TOPI T\nTABL A\nOBJE 1 \\\nCONT 2 \\\nETAB\n",
-            8,
-            Structure::Continue,
-        ),
-        ("EMOD \\\nCONT\nFOO\n", 7, Structure::Word),
-    ];
-    refuses(&rt, rt.alloc(), HEAD, &faults);
-}
 
 const CONTINUED: &str =
     "TOPI U\nTABL A\nOBJE 9 \\\nCONT x\nETAB\nETOP\nTOPI T\nTABL L\nOBJE 1\nSTPT 0 0\n\
@@ -226,140 +50,223 @@ const DRAWN: &str =
         LIPT 100.000 200.000\nLIPT 100.000 100.000\nELIN\nETAB\nTABL A\n\
         OBJE 1 77 150.000 150.000\nETAB\nETOP\nEMOD\nENDE\n";
 
-fn lines_of(rt: &impl Abort, alloc: Global, text: &str) -> Lines {
-    let mut whole = String::new(alloc);
-    whole.push_str(HEAD).expect(rt, "memory");
-    whole.push_str(text).expect(rt, "memory");
-    assert!(rt; whole.len() <= 268435456);
-    match logical_lines(alloc, whole.as_bytes(), &CODES) {
-        Ok(lines) => lines,
-        Err(_) => panic!(rt; "out of memory"),
+const OTHER_ORDER: &str = "TOPI U\nTABL A\nOBJE 9\nETAB\nETOP\n\
+        TOPI T\nTABL L\nOBJE 1 a \\\nCONT b\nSTPT 0 0\nLIPT 1 1\nARCP 2 2\nLIPT 3 3\nELIN x\n\
+        OBJE 2\nELIN\nSTPT 5 5\nELIN\nETAB\nETOP\nEMOD\nENDE\n";
+
+// Texts after the head, and what `answer` says of them.
+const READ: [(&str, &str); 6] = [
+    (
+        OTHER_ORDER,
+        "table; table; \
+            12 1 a b | 14 Start 0 0 15 Straight 1 1 16 OnArc 2 2 17 Straight 3 3 |; \
+            19 2 | | 21 Start 5 5; table; 7 9 |; ",
+    ),
+    ("EMOD\nENDE", "table; table; table; "),
+    (
+        "TOPI T\nTABL A\nOBJE\nETAB\nETOP\nTOPI U\nTABL A\nETAB\nETOP\nEMOD\n\nENDE 1\n\n",
+        "table; 7; table; table; ",
+    ),
+    (
+        CONTINUED,
+        "table; table; 13 1 | 14 Start 0 0 15 OnArc 2 2 16 Straight 3 3 |; 18 2 | |; \
+            table; 7 9 x |; ",
+    ),
+    (
+        "TOPI T\nETOP\nTOPI T\nETOP\n",
+        "At { line: 7, code: Twice }",
+    ),
+    ("EMOD\n", "At { line: 6, code: End }"),
+];
+
+fn add_fields(text: &mut String, fields: &[Field]) -> Result<(), Memory> {
+    for field in fields {
+        let field = std::str::from_utf8(field.bytes()).unwrap_or("?");
+        write!(text, " {field}")?;
     }
+    Ok(())
 }
 
-// The transfer of lines that come as `cut` lines and the others.
-fn in_two(
-    rt: &impl Abort,
-    alloc: Global,
-    layout: &Layout,
-    lines: Lines,
-    cut: usize,
-) -> Result<Transfer, ReadRefusal>
-    requires { IsValid (layout_view layout.now) }
-{
-    let end = LineEnd {
-        fault: lines.fault,
-        total: lines.total,
-    };
-    let mut front = lines.lines;
-    assert!(rt; cut <= front.len());
-    let rest = front.split_off(cut).expect(rt, "memory");
-    let mut feed = TransferFeed::new(alloc, layout)?;
-    feed.take(layout, front)?;
-    feed.take(layout, rest)?;
-    assert!(rt; end.total < 4294967295);
-    feed.finish(layout, end)
+fn add_stroke(text: &mut String, stroke: &Stroke) -> Result<(), Memory> {
+    text.push_str(" |")?;
+    let mut rest = stroke.vertices.as_slice();
+    for _ in 0..rest.len() {
+        let Some((vertex, others)) = rest.split_first() else {
+            break;
+        };
+        write!(text, " {} {:?}", vertex.line, vertex.kind)?;
+        add_fields(text, vertex.fields)?;
+        rest = others;
+    }
+    Ok(())
+}
+
+// The number and the fields of a row's line, then its strokes.
+fn add_row(text: &mut String, row: &Row) -> Result<(), Memory> {
+    write!(text, "{}", row.line)?;
+    add_fields(text, &row.fields)?;
+    for stroke in &row.strokes {
+        add_stroke(text, stroke)?;
+    }
+    text.push_str("; ")?;
+    Ok(())
+}
+
+// The tables with their rows.
+fn add_tables(text: &mut String, transfer: &Transfer) -> Result<(), Memory> {
+    for table in &transfer.tables {
+        text.push_str("table; ")?;
+        for row in &table.rows {
+            add_row(text, row)?;
+        }
+    }
+    Ok(())
 }
 
 // What was read, or where it was refused.
-fn answer(rt: &impl Abort, alloc: Global, read: Result<Transfer, ReadRefusal>) -> String {
+fn answer(alloc: Global, read: &Result<Transfer, ReadRefusal>) -> Result<String, Memory> {
+    let mut text = String::new(alloc);
     match read {
-        Ok(transfer) => shown(rt, alloc, &transfer),
-        Err(refusal) => format!(in alloc; "{:?}", refusal).expect(rt, "memory"),
+        Ok(transfer) => add_tables(&mut text, transfer)?,
+        Err(refusal) => write!(text, "{refusal:?}")?,
     }
+    Ok(text)
 }
 
-#[test]
-fn the_cut_into_pieces_does_not_matter(rt: HostRuntime) {
-    let alloc = rt.alloc();
-    let layout = layout_of(&rt, alloc, MODEL);
-    for text in [CONTINUED, DRAWN, "TOPI T\nETOP\nTOPI T\nETOP\n", "EMOD\n"] {
-        let lines = lines_of(&rt, alloc, text);
-        assert!(&rt; lines.total < 4294967295);
-        let count = lines.lines.len();
-        let whole = answer(&rt, alloc, read_transfer(alloc, &layout, &lines));
-        for cut in 0..count + 1 {
-            let lines = lines_of(&rt, alloc, text);
-            let cut_in_two = in_two(&rt, alloc, &layout, lines, cut);
-            assert_eq!(&rt; answer(&rt, alloc, cut_in_two), whole, "cut at {}", cut);
+// No lines of a text that is longer than any that is read.
+fn lines_of(alloc: Global, text: &str) -> Result<Lines, Memory>
+    ensures { IfOk result (λ lines. lines.total ≤ 268435456) }
+{
+    let whole = format!(in alloc; "{HEAD}{text}")?;
+    if whole.len() > 268_435_456 {
+        return Err(Memory);
+    }
+    logical_lines(alloc, whole.as_bytes(), &CODES)
+}
+
+// Whether that is the answer to all lines at once.
+fn is_answer(alloc: Global, layout: &Layout, text: &str, want: &str) -> Result<bool, Memory>
+    requires { IsValid (layout_view layout.now) }
+{
+    let lines = lines_of(alloc, text)?;
+    let read = answer(alloc, &read_transfer(alloc, layout, &lines))?;
+    Ok(read.as_str() == want)
+}
+
+// What comes of lines that are taken in two pieces, of which the first has at most so many, and
+// one without a line between them.
+fn in_two(
+    alloc: Global,
+    layout: &Layout,
+    lines: &Lines,
+    most: usize,
+) -> Result<Transfer, ReadRefusal>
+    requires valid { IsValid (layout_view layout.now) }
+    requires few { lines.now.total ≤ 268435456 }
+{
+    let cut = most.min(lines.lines.len());
+    let mut feed = TransferFeed::new(alloc, layout)?;
+    feed.take_all(layout, &lines.lines[..cut])?;
+    feed.take(layout, Vec::new(alloc))?;
+    feed.take_all(layout, &lines.lines[cut..])?;
+    feed.finish(
+        layout,
+        LineEnd {
+            fault: lines.fault,
+            total: lines.total,
+        },
+    )
+}
+
+// Whether each cut of a text's lines into two pieces gives that answer.
+fn are_same(alloc: Global, layout: &Layout, text: &str, want: &str) -> Result<bool, Memory>
+    requires { IsValid (layout_view layout.now) }
+{
+    let lines = lines_of(alloc, text)?;
+    for most in 0..lines.lines.len() + 1 {
+        let cut = answer(alloc, &in_two(alloc, layout, &lines, most))?;
+        if cut.as_str() != want {
+            return Ok(false);
         }
     }
+    Ok(true)
 }
 
-#[test]
-fn each_row_is_shown_when_it_is_closed(rt: HostRuntime) {
-    let alloc = rt.alloc();
-    let layout = layout_of(&rt, alloc, MODEL);
-    let lines = lines_of(&rt, alloc, CONTINUED);
-    match Names::new(alloc, &layout) {
-        Ok(names) => {
-            let mut feed = RowFeed::new(alloc);
-            let mut text = String::new(alloc);
-            for line in &lines.lines {
-                if let Ok(Some(table)) = feed.take(&names, line) {
-                    let number = format!(in alloc; "{} ", table.0).expect(&rt, "memory");
-                    text.push_str(&number).expect(&rt, "memory");
-                    push_row(&rt, alloc, &mut text, feed.closed());
-                }
-            }
-            let want =
-                "2 7 9 x |\n1 13 1 | 14 Start 0 0 15 OnArc 2 2 16 Straight 3 3 |\n1 18 2 | |\n";
-            assert_eq!(&rt; text.as_str(), want);
+// The first text with another answer, whole or in pieces.
+fn first_other(alloc: Global, layout: &Layout) -> Result<Option<&'static str>, Memory>
+    requires { IsValid (layout_view layout.now) }
+{
+    for (text, want) in &READ {
+        if !is_answer(alloc, layout, text, want)? || !are_same(alloc, layout, text, want)? {
+            return Ok(Some(*text));
         }
-        Err(_) => panic!(&rt; "out of memory"),
     }
+    Ok(None)
 }
 
-// A line, a column, a code, and the line of the earlier row.
-type Place = (u32, u32, Code, u32);
-
-fn finding(place: &Place) -> Finding {
-    let (line, column, code, first) = *place;
-    Finding {
-        line,
-        column,
-        fault: Fault::Repeat(code, first),
-    }
+#[test]
+fn texts_are_read_whole_and_in_pieces(rt: HostRuntime) -> Result<(), Fail> {
+    let layout = layout_of(rt.alloc(), MODEL).expect(&rt, "a layout");
+    let other = first_other(rt.alloc(), &layout)?;
+    assert!(rt; other.is_none(), "{}", other.unwrap_or(""));
+    Ok(())
 }
 
-fn first_line(fault: &Fault) -> u32 {
-    match fault {
-        Fault::Repeat(_, line) => *line,
-        _ => 0,
+// A text after the head whose second row has a field too many and the identification of the first
+// one, and with a vertex that is no number.
+const FOUND: &str = "TOPI T\nTABL A\nOBJE 1\nOBJE 1 x\nETAB\nTABL L\nOBJE 1\nSTPT 1 1\nLIPT x 1\n\
+    ELIN\nETAB\nETOP\nEMOD\nENDE\n";
+
+fn add_findings(text: &mut String, findings: &[Finding]) -> Result<(), Memory> {
+    for finding in findings {
+        write!(
+            text,
+            "{} {} {:?}; ",
+            finding.line,
+            finding.column,
+            finding.code()
+        )?;
+    }
+    Ok(())
+}
+
+// The findings of values, then those of keys.
+fn found(alloc: Global, layout: &Layout, transfer: &Transfer) -> Result<String, Memory>
+    requires { IsValid (layout_view layout.now) }
+{
+    let mut text = String::new(alloc);
+    add_findings(&mut text, &check_values(alloc, layout, transfer)?)?;
+    add_findings(&mut text, &check_keys(alloc, layout, transfer)?)?;
+    Ok(text)
+}
+
+// The findings of a text, nothing of one that is refused.
+fn found_in(alloc: Global, layout: &Layout, text: &str) -> Result<Option<String>, Memory>
+    requires { IsValid (layout_view layout.now) }
+{
+    let lines = lines_of(alloc, text)?;
+    match read_transfer(alloc, layout, &lines) {
+        Ok(transfer) => Ok(Some(found(alloc, layout, &transfer)?)),
+        Err(_) => Ok(None),
     }
 }
 
 #[test]
-fn findings_are_ordered_by_line_then_column_then_code(rt: HostRuntime) {
-    let places: [Place; 7] = [
-        (9, 0, Code::Tid, 7),
-        (9, 2, Code::Number, 0),
-        (4, 3, Code::Reference, 0),
-        (9, 1, Code::Ident, 8),
-        (9, 1, Code::Undefined, 0),
-        (9, 1, Code::Ident, 4),
-        (4, 3, Code::Count, 0),
-    ];
-    let want: [Place; 7] = [
-        (4, 3, Code::Count, 0),
-        (4, 3, Code::Reference, 0),
-        (9, 0, Code::Tid, 7),
-        (9, 1, Code::Undefined, 0),
-        (9, 1, Code::Ident, 8),
-        (9, 1, Code::Ident, 4),
-        (9, 2, Code::Number, 0),
-    ];
-    let mut findings = Vec::new(rt.alloc());
-    for place in &places {
-        findings.push(finding(place)).expect(&rt, "memory");
+fn values_and_keys_have_their_findings(rt: HostRuntime) -> Result<(), Fail> {
+    let layout = layout_of(rt.alloc(), MODEL).expect(&rt, "a layout");
+    let found = found_in(rt.alloc(), &layout, FOUND)?;
+    assert_eq!(rt; found.as_deref(), Some("8 0 Count; 13 1 Number; 8 0 Tid; "));
+    Ok(())
+}
+
+#[test]
+fn a_leaf_of_thousands_of_digits_is_none(rt: HostRuntime) -> Result<(), Fail> {
+    leaves_are_spelled();
+    let digits = [b'1'; 20_000];
+    for (length, want) in [(1, None), (20_000, Some(Code::Enum))] {
+        let words = [Field::new(rt.alloc(), &digits[..length])?];
+        let code = field_ok(&Form::Enumeration(4_294_967_295), &CODES, &words);
+        assert_eq!(rt; code, want);
     }
-    sort_findings(&mut findings).expect(&rt, "memory");
-    assert_eq!(&rt; findings.len(), want.len());
-    for (finding, want) in findings.iter().zip(&want) {
-        let (line, column, code, first) = *want;
-        assert_eq!(&rt; finding.line, line);
-        assert_eq!(&rt; finding.column, column);
-        assert_eq!(&rt; finding.code(), code);
-        assert_eq!(&rt; first_line(&finding.fault), first);
-    }
+    Ok(())
 }

@@ -5,4 +5,4 @@ use Rattle.faces.specs.Joined.{AreKnown}
 use Rattle.plane_tests.proofs.labels.are_known.Given as goal
 
 abbrev pub invariant-loop-i : goal.invariant-loop-i
-invariant-loop-i l = (i : ℕ) → i < l.i → AreKnown (2 * l.edges) (gap_of (get_or l.swept.cells.items i no_cell) ∷ [])
+invariant-loop-i l = (i : ℕ) → i < l.i → AreKnown (2 * l.edges) (gap_of (get_or l.cells i no_cell) ∷ [])

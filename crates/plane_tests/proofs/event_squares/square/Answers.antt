@@ -1,7 +1,7 @@
 use Rattle.std.proofs.Common.{arith}
 use Rattle.plane.proofs.Worked.SquareRun.{edge, steps}
-use Rattle.event_mesh.proofs.SquareMesh.{begun, square_event, square_events, square_turns}
-use Rattle.event_mesh.proofs.tests.square.Goals as goal
+use Rattle.plane_tests.proofs.SquareMesh.{begun, square_event, square_events, square_turns}
+use Rattle.plane_tests.proofs.event_squares.square.Goals as goal
 
 pub turn_event-requires-clause-can : goal.turn_event-requires-clause-can
 turn_event-requires-clause-can c = square_turns c.in_ok-mesh.mesh 0 (omega arith) (begun c.in_ok-mesh.mesh c.in_ok-mesh.ensures)
