@@ -1,29 +1,17 @@
 -- Curves that may be added to a drawing, and what is added.
-use Rattle.std.proofs.Common.{◌≡◌, ℕ, zero, suc, ◌+◌, ◌<◌, ℤ, pos, ◌-ℤ◌, ◌*ℤ◌, ◌<ℤ◌, Bool, true, false, List, [], ◌∷◌, length, map, get_or, drop, refl, sym, ap, ◌∙◌, subst, arith}
+use Rattle.std.proofs.Common.{◌≡◌, ℕ, zero, suc, ◌<◌, ℤ, pos, ◌-ℤ◌, ◌*ℤ◌, ◌<ℤ◌, Bool, true, false, List, [], ◌∷◌, length, map, get_or, refl, sym, ap, ◌∙◌, subst, arith}
 use Rattle.std.specs.List.{All}
 use Rattle.std.proofs.lemmas.Int.{ints}
-use Rattle.std.proofs.lemmas.List.{at_drop_more}
 use Rattle.std.proofs.lemmas.List.Elements.{All-head, All-tail}
-use Rattle.resolver.specs.Resolved.{LineForm}
-use Rattle.field_values.specs.Places.{Place, is_same, are_collinear, place_view}
-use Rattle.itf_reader.specs.Forms.{Vertex}
-use Rattle.itf_reader.specs.RowReadings.{vertex_view}
-use Rattle.itf_reader.specs.StrokeFindings.{Seen, seen, place_of}
-use Rattle.itf_reader.specs.declared.rows.values.ReadVertex.{ReadVertex}
-use Rattle.itf_reader.specs.Views.{strokes_of, rows_of}
-use Rattle.itf_reader.specs.declared.transfer.Row as row
-use Rattle.domain_rules.specs.CleanPlaces.{IsSoundVertex, AreSoundVertices}
+use Rattle.field_values.specs.Places.{Place, is_same, are_collinear}
 use Rattle.plane.specs.Rule.Turns.{cross}
 use Rattle.plane.specs.Rule.Windows.{IsInside}
 use Rattle.plane.specs.declared.kinds.Point.{Point}
 use Rattle.plane.specs.declared.window.Window2.{Window2}
 use Rattle.straight_predicates.specs.Meetings.{AreClose}
 use Rattle.straight_predicates.proofs.WindowEdges.{inside_close}
-use Rattle.delivery.specs.AreaLimits.{vertices_in, vertex_count}
-use Rattle.delivery.specs.Drawable.{IsIn, IsPenIn}
-use Rattle.delivery.specs.Drawings.{point_at, IsWindowOf}
-use Rattle.delivery.specs.declared.drawings.curves.Pen.{Pen}
-use Rattle.delivery.proofs.Drawables.{in_window}
+use Rattle.delivery.specs.Drawable.{IsIn}
+use Rattle.delivery.specs.Drawings.{point_at}
 
 -- ---- numbers
 same_as : (a b : ℤ) → a ≡ b → is_same a b ≡ true
@@ -70,24 +58,8 @@ module _ (s m e : Place) (p q r : Point) (f : p ≡ point_at s) (g : q ≡ point
 pub close_points : (w : Window2) (s t : Place) (p q : Point) → p ≡ point_at s → q ≡ point_at t → IsIn w s → IsIn w t → AreClose p q
 close_points w s t p q e f h k = inside_close w.low w.high p q w.narrow (subst (IsInside w.low w.high) (sym e) h) (subst (IsInside w.low w.high) (sym f) k)
 
--- a vertex that is read lies in the window
-pub vertex_in : (l : LineForm) (w u : Window2) (v : Vertex) (r : ReadVertex) → IsWindowOf l.window w → u ≡ w → IsSoundVertex l v → vertex_view r ≡ seen l v → IsIn u (place_view r.at)
-vertex_in l w u v r i q s e =
-    subst (λ (x : Window2). IsIn x (place_view r.at)) (sym q)
-    (subst (IsIn w) (sym (ap (λ (x : Seen). x.at) e)) (in_window l.window w (place_of l v) i s.inside))
-
-pub pen_moved : (w u : Window2) (pen : Pen) → u ≡ w → IsPenIn w pen → IsPenIn u pen
-pen_moved w u pen q h = subst (λ (x : Window2). IsPenIn x pen) (sym q) h
-
 -- ---- what stands at a place of a list
 pub mapped_at : {X Y : Type 0} (f : X → Y) (P : Y → Type 0) (xs : List X) (i : ℕ) (x : X) → All P (map f xs) → i < length xs → x ≡ get_or xs i x → P (f x)
 mapped_at f P [] i x h l e = absurd (omega (arith, l))
 mapped_at f P (y ∷ xs) zero x h l e = subst (λ z. P (f z)) (sym e) (All-head P (f y) (map f xs) h)
 mapped_at f P (y ∷ xs) (suc i) x h l e = mapped_at f P xs i x (All-tail P (f y) (map f xs) h) (omega (arith, l)) e
-
--- the first of some sound vertices, and those after it
-pub sound_front : (l : LineForm) (vs : List Vertex) (v : Vertex) (ws : List Vertex) → vs ≡ v ∷ ws → AreSoundVertices l vs → IsSoundVertex l v × AreSoundVertices l ws
-sound_front l vs v ws e h = subst (AreSoundVertices l) e h
-
-pub vertices_at : (rows : List row.Row) (i : ℕ) (r : row.Row) → i < length rows → r ≡ get_or rows i r → vertex_count (rows_of (drop i rows)) ≡ vertices_in (strokes_of r.strokes.items) + vertex_count (rows_of (drop (i + 1) rows))
-vertices_at rows i r l e = at_drop_more (λ (rs : List row.Row). vertex_count (rows_of rs)) rows i r l ∙ ap (λ (x : row.Row). vertices_in (strokes_of x.strokes.items) + vertex_count (rows_of (drop (i + 1) rows))) (sym e)

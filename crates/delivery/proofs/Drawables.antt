@@ -1,14 +1,13 @@
--- Where a layout is valid and rows have no findings, each area within its limits can be drawn.
-use Rattle.std.proofs.Common.{◌≡◌, inl, inr, ℕ, zero, suc, ◌+◌, ◌≤◌, ◌<◌, Bool, true, false, ◌&&◌, ◌||◌, ◌==◌, nat_lt, List, [], ◌∷◌, ◌++◌, length, take, drop, map, get_or, Option, Some, None, Ok, refl, sym, ap, ◌∙◌, subst, arith}
+-- The forms of an area of a valid layout, and places of rows without findings.
+use Rattle.std.proofs.Common.{◌≡◌, inl, inr, ℕ, zero, suc, ◌+◌, ◌<◌, Bool, true, false, ◌&&◌, ◌||◌, List, [], ◌∷◌, ◌++◌, length, take, drop, map, get_or, Option, Some, None, Ok, refl, sym, ap, ◌∙◌, subst}
 use Rattle.std.specs.Prelude.{slice_get, slice_index_or, if◌then◌else◌}
 use Rattle.std.specs.List.{All, list_any, list_all}
 use Rattle.std.specs.Option.{option_map}
-use Rattle.std.proofs.lemmas.Bool.Decides.{nat_tests}
 use Rattle.std.proofs.lemmas.List.{drop-drop}
-use Rattle.std.proofs.lemmas.List.Elements.{All-nil, All-cons, All-head, All-tail, All-weaker}
+use Rattle.std.proofs.lemmas.List.Elements.{All-nil, All-cons}
 use Rattle.std.proofs.lemmas.Option.{slice_get_within, slice_get_read, slice_get-map, get_or_from_slice_get}
 use Rattle.ili_grammar.specs.Syntax.{Codes}
-use Rattle.resolver.specs.Resolved.{Form, AreaPoint, LineForm, Window}
+use Rattle.resolver.specs.Resolved.{Form, AreaPoint, Window}
 use Rattle.table_layout.specs.Layouts.{Column, Table, AreaOf, Layout}
 use Rattle.table_layout.specs.Values.{area_view, areas_view}
 use Rattle.table_layout.specs.declared.layouts.AreaOf as area
@@ -18,12 +17,11 @@ use Rattle.field_values.specs.declared.value.ValueFault.TheVariants.{Undefined}
 use Rattle.field_values.specs.Fields.{is_undefined, field_fault, value_fault, width}
 use Rattle.field_values.specs.Places.{Place, place_named}
 use Rattle.field_values.specs.Readings.{Value, reading, value_of, column_reading}
-use Rattle.itf_reader.specs.Forms.{Vertex, Row}
+use Rattle.itf_reader.specs.Forms.{Row}
 use Rattle.itf_reader.specs.RowFindings.{widths}
 use Rattle.domain_rules.specs.CleanPlaces as clean
-use Rattle.domain_rules.specs.CleanPlaces.{HasPoint, HavePoints, AreSoundVertices, AreLines, HasPlaces, RowsHavePlaces, HavePlaces}
+use Rattle.domain_rules.specs.CleanPlaces.{HasPoint, HavePoints, HasPlaces, RowsHavePlaces, HavePlaces}
 use Rattle.plane.specs.Rule.Windows.{IsInside}
-use Rattle.plane.specs.Rule.Plans.{Plan}
 use Rattle.plane.specs.declared.kinds.Placed.{Placed}
 use Rattle.plane.specs.declared.kinds.Point.{Point}
 use Rattle.plane.specs.declared.window.Window2.{Window2}
@@ -31,10 +29,10 @@ use Rattle.itf_reader.specs.Findings.{is_before}
 use Rattle.domain_rules.proofs.Places.{empty_both, unsorted, have_places}
 use Rattle.domain_rules.specs.ValueFindings.{value_findings}
 use Rattle.ident_refs.specs.KeyFindings.{key_findings}
-use Rattle.delivery.specs.AreaLimits.{area_limit, is_too_large, has_too_large, IsWithinLimits}
 use Rattle.delivery.specs.Judging.{IsClean}
-use Rattle.delivery.specs.Drawings.{point_at, place_read, placed, first_word, words_at, lines_in, columns_in, IsWindowOf, IsDrawing, IsDrawingAt}
-use Rattle.delivery.specs.Drawable.{HasForms, HasSoundLine, HasPointIn, HavePointsIn, IsDrawable}
+use Rattle.delivery.specs.Drawings.{point_at, place_read, placed, points_at, first_word, words_at, lines_in, IsWindowOf}
+use Rattle.delivery.specs.Drawable.{HasForms}
+use Rattle.delivery.specs.KeptDrawings.{ArePointsIn}
 
 -- ---- lists
 pub all_at : {X : Type 0} (P : X → Type 0) (xs : List X) (i : ℕ) (x : X) → All P xs → slice_get xs i ≡ Some x → P x
@@ -57,26 +55,7 @@ pub all_rows : (codes : Codes) (t : Table) (rows : List Row) → RowsHavePlaces 
 all_rows codes t [] h = All-nil (HasPlaces codes t)
 all_rows codes t (r ∷ rows) h = All-cons (HasPlaces codes t) r rows h.0 (all_rows codes t rows h.1)
 
--- ---- lines
-first_line : (l : LineForm) (ss : List (List Vertex)) → AreLines (l ∷ []) ss → AreSoundVertices l (slice_index_or ss 0 [])
-first_line l [] h = tt
-first_line l (s ∷ ss) h = h.0.0
-
-sound_line : (codes : Codes) (t : Table) (l : LineForm) → t.lines ≡ l ∷ [] → (r : Row) → HasPlaces codes t r → HasSoundLine l r
-sound_line codes t l e r h = first_line l r.strokes (subst (λ (ls : List LineForm). AreLines ls r.strokes) e h.lines)
-
 -- ---- points
-same_count : (n m : ℕ) → (n == m) ≡ true → n ≡ m
-same_count n m h = grind (arith, nat_tests)
-
-widths_within : (cs : List Column) (k : ℕ) (c : Column) → slice_get cs k ≡ Some c → widths (take k cs) + width c.form ≤ widths cs
-widths_within [] k c e = absurd (cc)
-widths_within (b ∷ cs) zero c e = omega (arith, ap width (same b c e))
-  where
-    same : (b c : Column) → Some b ≡ Some c → b.form ≡ c.form
-    same b c e = cc
-widths_within (b ∷ cs) (suc k) c e = omega (arith, widths_within cs k c e)
-
 point_there : (codes : Codes) (cs : List Column) (k : ℕ) (c : Column) (words : List (List ℕ)) → HavePoints codes cs words → slice_get cs k ≡ Some c → HasPoint codes c.optional c.form (take (width c.form) (drop (widths (take k cs)) words))
 point_there codes [] k c words h e = absurd (cc)
 point_there codes (b ∷ cs) zero c words h e = subst (λ (x : Column). HasPoint codes x.optional x.form (take (width x.form) words)) (same b c e) h.0
@@ -126,11 +105,9 @@ module _ (codes : Codes) (v : Window) (w : Window2) (line : ℕ) (e : IsWindowOf
   inside optional (x ∷ y ∷ ws) (inl u) = of_undefined (list_any (is_undefined codes) (x ∷ y ∷ ws)) (value_fault (AreaPoint v) (x ∷ y ∷ ws)) (value_of (AreaPoint v) (x ∷ y ∷ ws)) (undefined_none optional x (y ∷ ws) u)
   inside optional (x ∷ y ∷ ws) (inr i) = read_as (are_in w line) (field_fault (AreaPoint v) codes (x ∷ y ∷ ws)) (value_of (AreaPoint v) (x ∷ y ∷ ws)) none_in (one_in (place_named v (x ∷ y ∷ ws)) i)
 
-pub point_in : (codes : Codes) (t : Table) (k : ℕ) (c : Column) (v : Window) (w : Window2) → slice_get t.columns k ≡ Some c → c.form ≡ AreaPoint v → IsWindowOf v w → (r : Row) → HasPlaces codes t r → HasPointIn codes (first_word t.columns k) c w r
-point_in codes t k c v w e f i r h = record {
-  counted = (let n = same_count (length r.fields) (1 + widths t.columns) h.counted in let m = widths_within t.columns k c e in omega (arith, n, m));
-  inside = moved (subst (λ (form : Form). HasPoint codes c.optional form (take (width c.form) (drop (widths (take k t.columns)) (drop 1 r.fields)))) f (point_there codes t.columns k c (drop 1 r.fields) h.points e));
-}
+pub point_in : (codes : Codes) (t : Table) (k : ℕ) (c : Column) (v : Window) (w : Window2) → slice_get t.columns k ≡ Some c → c.form ≡ AreaPoint v → IsWindowOf v w → (r : Row) → HasPlaces codes t r → ArePointsIn w (points_at codes (first_word t.columns k) c r)
+point_in codes t k c v w e f i r h =
+    moved (subst (λ (form : Form). HasPoint codes c.optional form (take (width c.form) (drop (widths (take k t.columns)) (drop 1 r.fields)))) f (point_there codes t.columns k c (drop 1 r.fields) h.points e))
   where
     words : List (List ℕ)
     words = take (width c.form) (drop (widths (take k t.columns)) (drop 1 r.fields))
@@ -151,81 +128,20 @@ module _ (l : Layout) (a : AreaOf) (v : IsValid l) (h : IsArea l.tables a) where
   pub area_table : IsAreaTable l.tables h.helper a.main a.column
   area_table = subst (IsRole l.tables h.helper) h.role helper_table.role
 
-  pub owner_table : IsTable (length l.topics) l.tables area_table.owner
-  owner_table = all_at (IsTable (length l.topics) l.tables) l.tables a.main area_table.owner v.tables area_table.main
-
-  pub same_columns : columns_in (slice_get l.tables a.main) ≡ area_table.owner.columns
-  same_columns = ap columns_in area_table.main
-
   abbrev pub forms : HasForms l a
-  forms = record {
-    line = area_table.line;
-    column = area_table.point;
-    lines = ap lines_in h.lines ∙ area_table.lines;
-    narrow = area_table.narrow;
-    few = (let n = owner_table.few in let m = ap length same_columns in omega (arith, n, m));
-    point = ap (λ (cs : List Column). slice_get cs a.column) same_columns ∙ area_table.column;
-    form = area_table.form;
-  }
+  forms = record { line = area_table.line; lines = ap lines_in h.lines ∙ area_table.lines; narrow = area_table.narrow }
 
-  module _ (rows : List (List Row)) (places : HavePlaces l.codes l.tables rows) where
-    lines : All (HasSoundLine area_table.line) (slice_index_or rows a.lines [])
-    lines = All-weaker (HasPlaces l.codes h.helper) (HasSoundLine area_table.line) (sound_line l.codes h.helper area_table.line area_table.lines) (slice_index_or rows a.lines [])
-        (all_rows l.codes h.helper (slice_index_or rows a.lines []) (rows_at l.codes l.tables rows a.lines h.helper places h.lines))
-
-    points : (w : Window2) → IsWindowOf area_table.line.window w → HavePointsIn l.codes (first_word (columns_in (slice_get l.tables a.main)) a.column) (slice_get (columns_in (slice_get l.tables a.main)) a.column) w (slice_index_or rows a.main [])
-    points w i =
-        let rs = slice_index_or rows a.main [] in
-        let owner = area_table.owner in
-        subst (λ (cs : List Column). HavePointsIn l.codes (first_word cs a.column) (slice_get cs a.column) w rs) (sym same_columns)
-        (subst (λ (o : Option Column). HavePointsIn l.codes (first_word owner.columns a.column) o w rs) (sym area_table.column)
-        (All-weaker (HasPlaces l.codes owner) (HasPointIn l.codes (first_word owner.columns a.column) area_table.point w)
-        (point_in l.codes owner a.column area_table.point area_table.line.window w area_table.column area_table.form i) rs
-        (all_rows l.codes owner rs (rows_at l.codes l.tables rows a.main owner places area_table.main))))
-
-    pub drawable : is_too_large rows a ≡ false → IsDrawable l rows a
-    drawable e = record {
-      forms = forms;
-      sound = lines;
-      points = points;
-      vertices = (few _ _ e).0;
-      objects = (few _ _ e).1;
-    }
-      where
-        few : (n m : ℕ) → (nat_lt area_limit n || nat_lt area_limit m) ≡ false → (n ≤ area_limit) × (m ≤ area_limit)
-        few n m e = (grind (arith, nat_tests), grind (arith, nat_tests))
-
--- ---- all areas
-module _ (l : Layout) (rows : List (List Row)) (v : IsValid l) (places : HavePlaces l.codes l.tables rows) where
-  each_drawable : (as_ : List AreaOf) → All (IsArea l.tables) as_ → has_too_large rows as_ ≡ false → All (IsDrawable l rows) as_
-  each_drawable [] h e = All-nil (IsDrawable l rows)
-  each_drawable (a ∷ as_) h e =
-      let n = neither (is_too_large rows a) (has_too_large rows as_) e in
-      All-cons (IsDrawable l rows) a as_ (drawable l a v (All-head (IsArea l.tables) a as_ h) rows places n.0) (each_drawable as_ (All-tail (IsArea l.tables) a as_ h) n.1)
-    where
-      neither : (b c : Bool) → (b || c) ≡ false → (b ≡ false) × (c ≡ false)
-      neither true c h = absurd (cc)
-      neither false c h = (refl, h)
-
+-- ---- rows without findings
 pub clean_rows : (l : Layout) (rows : List (List Row)) → IsClean l rows → HavePlaces l.codes l.tables rows
 clean_rows l rows c = have_places l rows (empty_both (value_findings l rows) (key_findings l rows) (unsorted is_before (value_findings l rows ++ key_findings l rows) c)).0
-
-pub all_drawable : (l : Layout) (rows : List (List Row)) → IsValid l → IsClean l rows → has_too_large rows l.areas ≡ false → All (IsDrawable l rows) l.areas
-all_drawable l rows v c e = each_drawable l rows v (clean_rows l rows c) l.areas v.areas e
-
-pub drawable_at : (l : Layout) (rows : List (List Row)) (k : ℕ) (a : AreaOf) → IsValid l → IsClean l rows → IsWithinLimits rows l.areas k → slice_get l.areas k ≡ Some a → IsDrawable l rows a
-drawable_at l rows k a v c w e = drawable l a v (all_at (IsArea l.tables) l.areas k a v.areas e) rows (clean_rows l rows c) (w a e)
 
 -- ---- an area by its number
 area_there : (as_ : List area.AreaOf) (k : ℕ) (x : area.AreaOf) → k < length as_ → x ≡ get_or as_ k x → slice_get (areas_view as_) k ≡ Some (area_view x)
 area_there as_ k x l e = slice_get-map area_view as_ k ∙ ap (option_map area_view) (slice_get_read as_ (length as_) k x refl l e)
 
-module _ (l : Layout) (rows : List (List Row)) (as_ : List area.AreaOf) (k : ℕ) (x : area.AreaOf) (w : k < length as_) (e : x ≡ get_or as_ k x) (q : l.areas ≡ areas_view as_) where
-  there : slice_get l.areas k ≡ Some (area_view x)
+module _ (l : Layout) (as_ : List area.AreaOf) (k : ℕ) (x : area.AreaOf) (w : k < length as_) (e : x ≡ get_or as_ k x) (q : l.areas ≡ areas_view as_) where
+  pub there : slice_get l.areas k ≡ Some (area_view x)
   there = ap (λ (xs : List AreaOf). slice_get xs k) q ∙ area_there as_ k x w e
 
-  pub number_drawable : IsValid l → IsClean l rows → IsWithinLimits rows l.areas k → IsDrawable l rows (area_view x)
-  number_drawable v c s = drawable_at l rows k (area_view x) v c s there
-
-  pub drawn_at : (d : Plan) → IsDrawing l rows (area_view x) d → IsDrawingAt l rows k d
-  drawn_at d h = (area_view x, there, h)
+  pub area_is : IsValid l → IsArea l.tables (area_view x)
+  area_is v = all_at (IsArea l.tables) l.areas k (area_view x) v.areas there

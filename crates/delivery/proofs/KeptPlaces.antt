@@ -2,6 +2,7 @@
 use Rattle.std.proofs.Common.{◌≡◌, ℕ, zero, suc, ◌+◌, ◌≤◌, Bool, true, false, ◌&&◌, ◌||◌, nat_lt, List, [], ◌∷◌, ◌++◌, length, take, drop, map, Option, Some, None, Result, Ok, Err, refl, sym, ap, ◌∙◌, subst, arith, append-nil}
 use Rattle.std.specs.Prelude.{slice_get, slice_index_or, if◌then◌else◌, is_none}
 use Rattle.std.specs.List.{All, AllZip, flat_map, list_all, list_any}
+use Rattle.std.proofs.lemmas.Bool.Decides.{nat_tests}
 use Rattle.std.proofs.lemmas.List.{length-append, length-map}
 use Rattle.std.proofs.lemmas.Option.{slice_get-map}
 use Rattle.std.specs.Option.{option_map}
@@ -35,12 +36,12 @@ use Rattle.plane.specs.declared.kinds.Placed.{Placed}
 use Rattle.plane.specs.declared.window.Window2.{Window2}
 use Rattle.delivery.specs.AreaLimits.{area_limit, vertices_in, is_too_large, has_too_large}
 use Rattle.delivery.specs.AreaLimits as limits
-use Rattle.delivery.specs.Drawable.{HasSoundLine, IsIn}
+use Rattle.delivery.specs.Drawable.{IsIn}
 use Rattle.delivery.specs.Drawings.{place_read, placed, first_word, words_at, points_at, points_by, points_in, lines_in, columns_in, curves_by, row_curves, line_curves, HasWindow, IsWindowOf, IsDrawing}
 use Rattle.delivery.specs.Judging.{IsClean}
-use Rattle.delivery.specs.KeptDrawings.{seen_curves, cut, total, kept_curves, AreIn, ArePointsIn, vertices_there, is_kept_large, has_kept_large, CanBeDrawn, points_there, column_points, curves_there, IsDrawnFrom}
+use Rattle.delivery.specs.KeptDrawings.{seen_curves, cut, total, kept_curves, AreIn, ArePointsIn, vertices_there, is_kept_large, has_kept_large, AreDrawable, AreDrawn, CanBeDrawn, points_there, column_points, curves_there, IsDrawnFrom}
 use Rattle.delivery.specs.KeptRows.{row_vertices, cell_points, row_points, is_area_point, PointColumn, Kept, point_column, point_columns, vertex_count, kept, all_kept, places_of}
-use Rattle.delivery.proofs.Drawables.{drop_both, area_table, drawable, forms as forms_of, in_window, point_in, clean_rows, all_rows, rows_at}
+use Rattle.delivery.proofs.Drawables.{drop_both, area_table, forms as forms_of, in_window, point_in, clean_rows, all_rows, rows_at}
 
 -- ---- lists
 cut_flat : {X : Type 0} (f : X → List Seen) (xs : List X) → cut (map (λ x. length (f x)) xs) (flat_map f xs) ≡ map f xs
@@ -100,22 +101,17 @@ clean_findings l rows c =
     unsorted is_before (tables_findings l.codes l.tables rows)
     (empty_both (value_findings l rows) (key_findings l rows) (unsorted is_before (value_findings l rows ++ key_findings l rows) c)).0
 
--- a row of a table that is right: it has as many strokes as its table has lines, no findings, and its places
+-- a row of a table that is right: it has no findings, and its places
 pub record IsRight (codes : Codes) (t : Table) (r : Row) : Type 0 where
-  pub counted : length r.strokes ≡ length t.lines
   pub clean : row_findings codes t r ≡ []
   pub places : HasPlaces codes t r
 
-all_right : (codes : Codes) (t : Table) (rows : List Row) → All (IsCounted (length t.lines)) rows → All (λ r. row_findings codes t r ≡ []) rows → All (HasPlaces codes t) rows → All (IsRight codes t) rows
-all_right codes t [] a b c = All-nil (IsRight codes t)
-all_right codes t (r ∷ rows) a b c =
+all_right : (codes : Codes) (t : Table) (rows : List Row) → All (λ r. row_findings codes t r ≡ []) rows → All (HasPlaces codes t) rows → All (IsRight codes t) rows
+all_right codes t [] b c = All-nil (IsRight codes t)
+all_right codes t (r ∷ rows) b c =
     All-cons (IsRight codes t) r rows
-    (record {
-      counted = All-head (IsCounted (length t.lines)) r rows a;
-      clean = All-head (λ r. row_findings codes t r ≡ []) r rows b;
-      places = All-head (HasPlaces codes t) r rows c;
-    })
-    (all_right codes t rows (All-tail (IsCounted (length t.lines)) r rows a) (All-tail (λ r. row_findings codes t r ≡ []) r rows b) (All-tail (HasPlaces codes t) r rows c))
+    (record { clean = All-head (λ r. row_findings codes t r ≡ []) r rows b; places = All-head (HasPlaces codes t) r rows c })
+    (all_right codes t rows (All-tail (λ r. row_findings codes t r ≡ []) r rows b) (All-tail (HasPlaces codes t) r rows c))
 
 counted_at : (ts : List Table) (transfer : List (List Row)) (n : ℕ) (t : Table) → EachRow IsCounted (map wanted_of ts) transfer → slice_get ts n ≡ Some t → All (IsCounted (length t.lines)) (slice_index_or transfer n [])
 counted_at [] transfer n t h g = absurd (cc)
@@ -160,38 +156,36 @@ sound_all l (v ∷ vs) e =
 
 -- the one line of a row
 module _ (codes : Codes) (t : Table) (l : LineForm) (one : t.lines ≡ l ∷ []) where
-  line_by : (role : Role) (line column : ℕ) (ss : List (List Vertex)) → length ss ≡ 1 → lines_findings role line column (l ∷ []) ss ≡ []
-      → (lines_vertices (l ∷ []) ss ≡ all_seen l (slice_index_or ss 0 [])) × (length (slice_index_or ss 0 []) ≡ vertices_in ss)
-  line_by role line column [] c e = absurd (cc)
-  line_by role line column (s ∷ []) c e =
+  line_by : (role : Role) (line column : ℕ) (ss : List (List Vertex)) → lines_findings role line column (l ∷ []) ss ≡ [] → lines_vertices (l ∷ []) ss ≡ all_seen l (slice_index_or ss 0 [])
+  line_by role line column [] e = refl
+  line_by role line column (s ∷ ss) e =
       let k = clean_line role line column l s (empty_both (line_findings role line column l s) [] e).0 in
-      (append-nil (sound_vertices l s) ∙ sound_all l s k, omega arith)
-  line_by role line column (s ∷ r ∷ ss) c e = absurd (omega (arith, c))
+      append-nil (sound_vertices l s) ∙ sound_all l s k
 
-  line_of_row : (r : Row) → IsRight codes t r → (row_vertices t r ≡ all_seen l (slice_index_or r.strokes 0 [])) × (length (slice_index_or r.strokes 0 []) ≡ vertices_in r.strokes)
+  line_of_row : (r : Row) → IsRight codes t r → row_vertices t r ≡ all_seen l (slice_index_or r.strokes 0 [])
   line_of_row r h =
       let counted : (if is_counted t r then columns_findings codes r.line 1 t.columns (drop 1 r.fields) ++ lines_findings t.role r.line (1 + length t.columns) t.lines r.strokes else finding_at r.line 0 (Some Count))
       ≡ columns_findings codes r.line 1 t.columns (drop 1 r.fields) ++ lines_findings t.role r.line (1 + length t.columns) t.lines r.strokes =
       ap (λ (b : Bool). if b then columns_findings codes r.line 1 t.columns (drop 1 r.fields) ++ lines_findings t.role r.line (1 + length t.columns) t.lines r.strokes else finding_at r.line 0 (Some Count)) h.places.counted in
       let e = (empty_both (columns_findings codes r.line 1 t.columns (drop 1 r.fields)) (lines_findings t.role r.line (1 + length t.columns) t.lines r.strokes) (sym counted ∙ h.clean)).1 in
-      let n : length r.strokes ≡ 1 = h.counted ∙ ap (λ (ls : List LineForm). length ls) one in
-      let k = line_by t.role r.line (1 + length t.columns) r.strokes n (subst (λ (ls : List LineForm). lines_findings t.role r.line (1 + length t.columns) ls r.strokes ≡ []) one e) in (
-        ap (λ (b : Bool). if b then lines_vertices t.lines r.strokes else []) h.places.counted
-            ∙ ap (λ (ls : List LineForm). lines_vertices ls r.strokes) one ∙ k.0,
-        k.1,
-      )
+      ap (λ (b : Bool). if b then lines_vertices t.lines r.strokes else []) h.places.counted
+      ∙ ap (λ (ls : List LineForm). lines_vertices ls r.strokes) one
+      ∙ line_by t.role r.line (1 + length t.columns) r.strokes (subst (λ (ls : List LineForm). lines_findings t.role r.line (1 + length t.columns) ls r.strokes ≡ []) one e)
+
+  length_of_row : (r : Row) → IsRight codes t r → length (row_vertices t r) ≡ length (slice_index_or r.strokes 0 [])
+  length_of_row r h = ap (λ (vs : List Seen). length vs) (line_of_row r h) ∙ length-map (slice_index_or r.strokes 0 []) (seen l)
 
   curves_of_row : (r : Row) → IsRight codes t r → seen_curves (row_vertices t r) ≡ row_curves l r
-  curves_of_row r h = ap seen_curves (line_of_row r h).0 ∙ by (slice_index_or r.strokes 0 [])
+  curves_of_row r h = ap seen_curves (line_of_row r h) ∙ by (slice_index_or r.strokes 0 [])
     where
       by : (vs : List Vertex) → seen_curves (all_seen l vs) ≡ line_curves l vs
       by [] = refl
       by (v ∷ vs) = refl
 
   inside_of_row : (w : Window2) → IsWindowOf l.window w → (r : Row) → IsRight codes t r → AreIn w (row_vertices t r)
-  inside_of_row w i r h = subst (AreIn w) (sym (line_of_row r h).0) (by (slice_index_or r.strokes 0 []) (sound r h))
+  inside_of_row w i r h = subst (AreIn w) (sym (line_of_row r h)) (by (slice_index_or r.strokes 0 []) (sound r h))
     where
-      sound : (r : Row) → IsRight codes t r → HasSoundLine l r
+      sound : (r : Row) → IsRight codes t r → AreSoundVertices l (slice_index_or r.strokes 0 [])
       sound r h = first r.strokes (subst (λ (ls : List LineForm). clean.AreLines ls r.strokes) one h.places.lines)
         where
           first : (ss : List (List Vertex)) → clean.AreLines (l ∷ []) ss → AreSoundVertices l (slice_index_or ss 0 [])
@@ -211,13 +205,32 @@ module _ (codes : Codes) (t : Table) (l : LineForm) (one : t.lines ≡ l ∷ [])
   pub inside_kept : (w : Window2) → IsWindowOf l.window w → (rows : List Row) → All (IsRight codes t) rows → AreIn w (flat_map (row_vertices t) rows)
   inside_kept w i rows h = all_flat (λ (v : Seen). IsIn w v.at) (IsRight codes t) (row_vertices t) rows (inside_of_row w i) h
 
-  pub counted_kept : (rows : List Row) → All (IsRight codes t) rows → length (flat_map (row_vertices t) rows) ≡ limits.vertex_count rows
-  counted_kept [] h = refl
-  counted_kept (r ∷ rows) h =
-      let k = line_of_row r (All-head (IsRight codes t) r rows h) in
+  -- a line is no longer than all lines of its row, and as long where the row has one
+  first_few : (ss : List (List Vertex)) → length (slice_index_or ss 0 []) ≤ vertices_in ss
+  first_few [] = omega arith
+  first_few (s ∷ ss) = omega arith
+
+  first_counted : (ss : List (List Vertex)) → length ss ≡ 1 → length (slice_index_or ss 0 []) ≡ vertices_in ss
+  first_counted [] c = absurd (cc)
+  first_counted (s ∷ []) c = omega arith
+  first_counted (s ∷ r ∷ ss) c = absurd (omega (arith, c))
+
+  pub few_kept : (rows : List Row) → All (IsRight codes t) rows → length (flat_map (row_vertices t) rows) ≤ limits.vertex_count rows
+  few_kept [] h = omega arith
+  few_kept (r ∷ rows) h =
+      let a = length_of_row r (All-head (IsRight codes t) r rows h) in
+      let b = first_few r.strokes in
+      let k = few_kept rows (All-tail (IsRight codes t) r rows h) in
+      let s = length-append (row_vertices t r) (flat_map (row_vertices t) rows) in
+      omega (arith, a, b, k, s)
+
+  pub counted_kept : (rows : List Row) → All (IsCounted (length t.lines)) rows → All (IsRight codes t) rows → length (flat_map (row_vertices t) rows) ≡ limits.vertex_count rows
+  counted_kept [] c h = refl
+  counted_kept (r ∷ rows) c h =
+      let n = All-head (IsCounted (length t.lines)) r rows c ∙ ap (λ (ls : List LineForm). length ls) one in
       length-append (row_vertices t r) (flat_map (row_vertices t) rows)
-      ∙ ap (λ (n : ℕ). n + length (flat_map (row_vertices t) rows)) (ap (λ (vs : List Seen). length vs) k.0 ∙ length-map (slice_index_or r.strokes 0 []) (seen l) ∙ k.1)
-      ∙ ap (λ (n : ℕ). vertices_in r.strokes + n) (counted_kept rows (All-tail (IsRight codes t) r rows h))
+      ∙ ap (λ (n : ℕ). n + length (flat_map (row_vertices t) rows)) (length_of_row r (All-head (IsRight codes t) r rows h) ∙ first_counted r.strokes n)
+      ∙ ap (λ (n : ℕ). vertices_in r.strokes + n) (counted_kept rows (All-tail (IsCounted (length t.lines)) r rows c) (All-tail (IsRight codes t) r rows h))
 
 -- ---- the points of objects
 cell_at : (codes : Codes) (cs : List Column) (k : ℕ) (c : Column) (words : List (List ℕ)) → slice_get cs k ≡ Some c → slice_get (cells_of codes cs words) k ≡ Some (cell_of codes c (take (width c.form) (drop (widths (take k cs)) words)))
@@ -317,15 +330,15 @@ all_places l rows = map places_of (all_kept l.codes l.tables rows)
 abbrev if_lines : {X : Type 0} → Bool → List X → List X
 if_lines b xs = if b then xs else []
 
--- rows that are right, and an area of the layout
-module _ (l : Layout) (rows : List (List Row)) (v : IsValid l) (c : IsClean l rows) (n : EachRow IsCounted (map wanted_of l.tables) rows) (a : AreaOf) (h : IsArea l.tables a) where
+-- rows without findings, and an area of the layout
+module _ (l : Layout) (rows : List (List Row)) (v : IsValid l) (c : IsClean l rows) (a : AreaOf) (h : IsArea l.tables a) where
   abbrev places : HavePlaces l.codes l.tables rows
   places = clean_rows l rows c
 
   right_at : (k : ℕ) (t : Table) → slice_get l.tables k ≡ Some t → All (IsRight l.codes t) (slice_index_or rows k [])
   right_at k t e =
       let rs = slice_index_or rows k [] in
-      all_right l.codes t rs (counted_at l.tables rows k t n e) (no_findings l.codes t rs (none_at l.codes l.tables rows k t (clean_findings l rows c) e)) (all_rows l.codes t rs (rows_at l.codes l.tables rows k t places e))
+      all_right l.codes t rs (no_findings l.codes t rs (none_at l.codes l.tables rows k t (clean_findings l rows c) e)) (all_rows l.codes t rs (rows_at l.codes l.tables rows k t places e))
 
   of_area : is_of_area h.helper.role ≡ true
   of_area = ap is_of_area h.role
@@ -333,10 +346,10 @@ module _ (l : Layout) (rows : List (List Row)) (v : IsValid l) (c : IsClean l ro
   abbrev line_rows : List Row
   line_rows = slice_index_or rows a.lines []
 
-  abbrev area : IsAreaTable l.tables h.helper a.main a.column
+  abbrev pub area : IsAreaTable l.tables h.helper a.main a.column
   area = area_table l a v h
 
-  abbrev strokes : Kept
+  abbrev pub strokes : Kept
   strokes = kept l.codes h.helper line_rows
 
   lines_right : All (IsRight l.codes h.helper) line_rows
@@ -348,28 +361,17 @@ module _ (l : Layout) (rows : List (List Row)) (v : IsValid l) (c : IsClean l ro
   counts_are : strokes.counts ≡ map (vertex_count h.helper) line_rows
   counts_are = ap (λ (b : Bool). if_lines b (map (vertex_count h.helper) line_rows)) of_area
 
-  few_vertices : length strokes.vertices ≡ limits.vertex_count line_rows
-  few_vertices = ap (λ (vs : List Seen). length vs) vertices_are ∙ counted_kept l.codes h.helper area.line area.lines line_rows lines_right
-
-  lines_kept : slice_get (all_kept l.codes l.tables rows) a.lines ≡ Some strokes
-  lines_kept = kept_there l.codes l.tables rows a.lines h.helper n h.lines
-
-  lines_placed : slice_get (all_places l rows) a.lines ≡ Some (places_of strokes)
-  lines_placed = slice_get-map places_of (all_kept l.codes l.tables rows) a.lines ∙ ap (option_map places_of) lines_kept
-
-  pub large : is_kept_large (all_kept l.codes l.tables rows) rows a ≡ is_too_large rows a
-  large =
-      ap (λ (o : Option Kept). nat_lt area_limit (length (vertices_there o)) || nat_lt area_limit (length (slice_index_or rows a.main []))) lines_kept
-      ∙ ap (λ (m : ℕ). nat_lt area_limit m || nat_lt area_limit (length (slice_index_or rows a.main []))) few_vertices
+  few_vertices : length strokes.vertices ≤ limits.vertex_count line_rows
+  few_vertices =
+      let k = few_kept l.codes h.helper area.line area.lines line_rows lines_right in
+      let m = ap (λ (vs : List Seen). length vs) vertices_are in
+      omega (arith, k, m)
 
   abbrev objects : List Row
   objects = slice_index_or rows a.main []
 
-  abbrev owner : Kept
+  abbrev pub owner : Kept
   owner = kept l.codes area.owner objects
-
-  owner_placed : slice_get (all_places l rows) a.main ≡ Some (places_of owner)
-  owner_placed = slice_get-map places_of (all_kept l.codes l.tables rows) a.main ∙ ap (option_map places_of) (kept_there l.codes l.tables rows a.main area.owner n area.main)
 
   owner_places : All (HasPlaces l.codes area.owner) objects
   owner_places = all_rows l.codes area.owner objects (rows_at l.codes l.tables rows a.main area.owner places area.main)
@@ -380,31 +382,29 @@ module _ (l : Layout) (rows : List (List Row)) (v : IsValid l) (c : IsClean l ro
   points_are : point.points ≡ flat_map (points_at l.codes (first_word area.owner.columns a.column) area.point) objects
   points_are = points_kept l.codes area.owner a.column area.point area.line.window area.column area.form objects owner_places
 
-  point_there : slice_get owner.columns a.column ≡ Some point
-  point_there = column_kept l.codes area.owner a.column area.point area.line.window area.column area.form objects
+  -- the points that are kept in the area's column
+  abbrev pub placed_points : List Placed
+  placed_points = points_there (slice_get owner.columns a.column)
 
-  pub can_be_drawn : is_too_large rows a ≡ false → CanBeDrawn l (all_places l rows) a
-  can_be_drawn e =
-      let d = drawable l a v h rows places e in
-      record {
-        forms = forms_of l a v h;
-        strokes = places_of strokes;
-        lines = lines_placed;
-        counted = (let k = ap total counts_are ∙ total_flat (row_vertices h.helper) line_rows in let m = ap (λ (vs : List Seen). length vs) vertices_are in omega (arith, k, m));
-        inside = λ w i. subst (AreIn w) (sym vertices_are) (inside_kept l.codes h.helper area.line area.lines w i line_rows lines_right);
-        few = (let m = d.vertices in let k = few_vertices in omega (arith, m, k));
-        objects = places_of owner;
-        main = owner_placed;
-        column = point;
-        point = point_there;
-        points = λ w i. subst (ArePointsIn w) (sym points_are) (points_inside w i);
-        few_points = (let m = d.objects in let k = few_points objects in let j = ap (λ (ps : List Placed). length ps) points_are in omega (arith, m, k, j));
-      }
+  placed_are : placed_points ≡ flat_map (points_at l.codes (first_word area.owner.columns a.column) area.point) objects
+  placed_are = ap points_there (column_kept l.codes area.owner a.column area.point area.line.window area.column area.form objects) ∙ points_are
+
+  pub area_drawable : is_too_large rows a ≡ false → AreDrawable area.line strokes.counts strokes.vertices placed_points
+  area_drawable e = record {
+    counted = (let k = ap total counts_are ∙ total_flat (row_vertices h.helper) line_rows in let m = ap (λ (vs : List Seen). length vs) vertices_are in omega (arith, k, m));
+    inside = λ w i. subst (AreIn w) (sym vertices_are) (inside_kept l.codes h.helper area.line area.lines w i line_rows lines_right);
+    few = (let m = (within (limits.vertex_count line_rows) (length objects) e).0 in let k = few_vertices in omega (arith, m, k));
+    points_inside = λ w i. subst (ArePointsIn w) (sym placed_are) (all_inside w i);
+    few_points = (let m = (within (limits.vertex_count line_rows) (length objects) e).1 in let k = few_points objects in let j = ap (λ (ps : List Placed). length ps) placed_are in omega (arith, m, k, j));
+  }
     where
-      points_inside : (w : Window2) → IsWindowOf area.line.window w → ArePointsIn w (flat_map (points_at l.codes (first_word area.owner.columns a.column) area.point) objects)
-      points_inside w i =
+      within : (n m : ℕ) → (nat_lt area_limit n || nat_lt area_limit m) ≡ false → (n ≤ area_limit) × (m ≤ area_limit)
+      within n m e = (grind (arith, nat_tests), grind (arith, nat_tests))
+
+      all_inside : (w : Window2) → IsWindowOf area.line.window w → ArePointsIn w (flat_map (points_at l.codes (first_word area.owner.columns a.column) area.point) objects)
+      all_inside w i =
           all_flat (λ (p : Placed). IsInside w.low w.high p.at) (HasPlaces l.codes area.owner) (points_at l.codes (first_word area.owner.columns a.column) area.point) objects
-          (λ r k. (point_in l.codes area.owner a.column area.point area.line.window w area.column area.form i r k).inside) owner_places
+          (point_in l.codes area.owner a.column area.point area.line.window w area.column area.form i) owner_places
 
       at_most_one : (r : List Placed) (o : Result Value ValueFault) (line : ℕ) → r ≡ map (placed line) (place_read o) → length r ≤ 1
       at_most_one r (Err f) line e = (let k = ap (λ (ps : List Placed). length ps) e in omega (arith, k))
@@ -423,34 +423,99 @@ module _ (l : Layout) (rows : List (List Row)) (v : IsValid l) (c : IsClean l ro
           let s = length-append (f r) (flat_map f rs) in
           omega (arith, k, m, s)
 
-  pub is_drawing : (d : Plan) → IsDrawnFrom l (all_places l rows) a d → IsDrawing l rows a d
+  pub is_drawing : (d : Plan) → AreDrawn area.line strokes.counts strokes.vertices placed_points d → IsDrawing l rows a d
   is_drawing d k =
       let there : lines_in (slice_get l.tables a.lines) ≡ area.line ∷ [] = ap lines_in h.lines ∙ area.lines in
       let own_columns : columns_in (slice_get l.tables a.main) ≡ area.owner.columns = ap columns_in area.main in
       record {
-        window = subst (λ (ls : List LineForm). HasWindow ls d.window) (sym k.forms.lines) k.window;
+        window = subst (λ (ls : List LineForm). HasWindow ls d.window) (sym there) k.window;
         curves =
             k.curves
-            ∙ ap curves_there lines_placed
             ∙ ap (λ (ns : List ℕ). kept_curves ns strokes.vertices) counts_are
             ∙ ap (kept_curves (map (vertex_count h.helper) line_rows)) vertices_are
             ∙ curves_kept l.codes h.helper area.line area.lines line_rows lines_right
             ∙ sym (ap (λ (ls : List LineForm). curves_by ls line_rows) there);
         points =
-            k.points
-            ∙ ap (column_points a.column) owner_placed
-            ∙ ap points_there point_there
-            ∙ points_are
+            k.placed
+            ∙ placed_are
             ∙ sym (ap (λ (o : Option Column). points_by l.codes (first_word area.owner.columns a.column) o objects) area.column)
             ∙ sym (ap (λ (cs : List Column). points_in l.codes cs a.column objects) own_columns);
       }
+
+  -- the area by the form of its lines and by what is kept of its two tables, wherever they come from
+  module _ (own : LineForm) (o : lines_in (slice_get l.tables a.lines) ≡ own ∷ []) where
+    line_own : area.line ≡ own
+    line_own = same area.line own (sym (ap lines_in h.lines ∙ area.lines) ∙ o)
+      where
+        same : (f g : LineForm) → f ∷ [] ≡ g ∷ [] → f ≡ g
+        same f g e = cc
+
+    module _ (k m : Kept) (f : k ≡ strokes) (g : m ≡ owner) (ps : List Placed) (p : ps ≡ points_there (slice_get m.columns a.column)) where
+      points_own : ps ≡ placed_points
+      points_own = p ∙ ap (λ (x : Kept). points_there (slice_get x.columns a.column)) g
+
+      pub drawable_as : is_too_large rows a ≡ false → AreDrawable own k.counts k.vertices ps
+      drawable_as e =
+          subst (λ (x : LineForm). AreDrawable x k.counts k.vertices ps) line_own
+          (subst (λ (x : Kept). AreDrawable area.line x.counts x.vertices ps) (sym f)
+          (subst (AreDrawable area.line strokes.counts strokes.vertices) (sym points_own) (area_drawable e)))
+
+      pub drawing_as : (d : Plan) → AreDrawn own k.counts k.vertices ps d → IsDrawing l rows a d
+      drawing_as d w =
+          is_drawing d
+          (subst (λ (x : LineForm). AreDrawn x strokes.counts strokes.vertices placed_points d) (sym line_own)
+          (subst (λ (x : Kept). AreDrawn own x.counts x.vertices placed_points d) f
+          (subst (λ (xs : List Placed). AreDrawn own k.counts k.vertices xs d) points_own w)))
+
+  -- the area among all tables
+  module _ (n : EachRow IsCounted (map wanted_of l.tables) rows) where
+    lines_kept : slice_get (all_kept l.codes l.tables rows) a.lines ≡ Some strokes
+    lines_kept = kept_there l.codes l.tables rows a.lines h.helper n h.lines
+
+    lines_placed : slice_get (all_places l rows) a.lines ≡ Some (places_of strokes)
+    lines_placed = slice_get-map places_of (all_kept l.codes l.tables rows) a.lines ∙ ap (option_map places_of) lines_kept
+
+    owner_placed : slice_get (all_places l rows) a.main ≡ Some (places_of owner)
+    owner_placed = slice_get-map places_of (all_kept l.codes l.tables rows) a.main ∙ ap (option_map places_of) (kept_there l.codes l.tables rows a.main area.owner n area.main)
+
+    all_vertices : length strokes.vertices ≡ limits.vertex_count line_rows
+    all_vertices =
+        ap (λ (vs : List Seen). length vs) vertices_are
+        ∙ counted_kept l.codes h.helper area.line area.lines line_rows (counted_at l.tables rows a.lines h.helper n h.lines) lines_right
+
+    pub large : is_kept_large (all_kept l.codes l.tables rows) rows a ≡ is_too_large rows a
+    large =
+        ap (λ (o : Option Kept). nat_lt area_limit (length (vertices_there o)) || nat_lt area_limit (length (slice_index_or rows a.main []))) lines_kept
+        ∙ ap (λ (m : ℕ). nat_lt area_limit m || nat_lt area_limit (length (slice_index_or rows a.main []))) all_vertices
+
+    pub can_be_drawn : is_too_large rows a ≡ false → CanBeDrawn l (all_places l rows) a
+    can_be_drawn e = record {
+      forms = forms_of l a v h;
+      strokes = places_of strokes;
+      lines = lines_placed;
+      objects = places_of owner;
+      main = owner_placed;
+      drawable = area_drawable e;
+    }
+
+    pub drawn_from : (d : Plan) → IsDrawnFrom l (all_places l rows) a d → IsDrawing l rows a d
+    drawn_from d k =
+        is_drawing d
+        (record {
+          window = subst (λ (f : LineForm). IsWindowOf f.window d.window) (same k.forms.line area.line (sym k.forms.lines ∙ (ap lines_in h.lines ∙ area.lines))) k.window;
+          curves = k.curves ∙ ap curves_there lines_placed;
+          placed = k.points ∙ ap (column_points a.column) owner_placed;
+        })
+      where
+        same : (f g : LineForm) → f ∷ [] ≡ g ∷ [] → f ≡ g
+        same f g e = cc
 
 -- ---- all areas
 module _ (l : Layout) (rows : List (List Row)) (v : IsValid l) (c : IsClean l rows) (n : EachRow IsCounted (map wanted_of l.tables) rows) where
   has_large : (as_ : List AreaOf) → All (IsArea l.tables) as_ → has_kept_large (all_kept l.codes l.tables rows) rows as_ ≡ has_too_large rows as_
   has_large [] h = refl
   has_large (a ∷ as_) h =
-      ap (λ (b : Bool). b || has_kept_large (all_kept l.codes l.tables rows) rows as_) (large l rows v c n a (All-head (IsArea l.tables) a as_ h))
+      ap (λ (b : Bool). b || has_kept_large (all_kept l.codes l.tables rows) rows as_) (large l rows v c a (All-head (IsArea l.tables) a as_ h) n)
       ∙ ap (λ (b : Bool). is_too_large rows a || b) (has_large as_ (All-tail (IsArea l.tables) a as_ h))
 
   pub all_large : has_kept_large (all_kept l.codes l.tables rows) rows l.areas ≡ has_too_large rows l.areas
@@ -460,7 +525,7 @@ module _ (l : Layout) (rows : List (List Row)) (v : IsValid l) (c : IsClean l ro
   each_drawn [] h e = All-nil (CanBeDrawn l (all_places l rows))
   each_drawn (a ∷ as_) h e =
       let b = neither (is_too_large rows a) (has_too_large rows as_) e in
-      All-cons (CanBeDrawn l (all_places l rows)) a as_ (can_be_drawn l rows v c n a (All-head (IsArea l.tables) a as_ h) b.0) (each_drawn as_ (All-tail (IsArea l.tables) a as_ h) b.1)
+      All-cons (CanBeDrawn l (all_places l rows)) a as_ (can_be_drawn l rows v c a (All-head (IsArea l.tables) a as_ h) n b.0) (each_drawn as_ (All-tail (IsArea l.tables) a as_ h) b.1)
     where
       neither : (b c : Bool) → (b || c) ≡ false → (b ≡ false) × (c ≡ false)
       neither true c h = absurd (cc)
@@ -473,7 +538,7 @@ module _ (l : Layout) (rows : List (List Row)) (v : IsValid l) (c : IsClean l ro
   drawings_of [] [] h z = z
   drawings_of [] (d ∷ ds) h z = z
   drawings_of (a ∷ as_) [] h z = z
-  drawings_of (a ∷ as_) (d ∷ ds) h z = (is_drawing l rows v c n a (All-head (IsArea l.tables) a as_ h) d z.0, drawings_of as_ ds (All-tail (IsArea l.tables) a as_ h) z.1)
+  drawings_of (a ∷ as_) (d ∷ ds) h z = (drawn_from l rows v c a (All-head (IsArea l.tables) a as_ h) n d z.0, drawings_of as_ ds (All-tail (IsArea l.tables) a as_ h) z.1)
 
   pub all_drawings : (ds : List Plan) → AllZip (IsDrawnFrom l (all_places l rows)) l.areas ds → AllZip (IsDrawing l rows) l.areas ds
   all_drawings ds z = drawings_of l.areas ds v.areas z

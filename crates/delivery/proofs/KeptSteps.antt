@@ -1,5 +1,5 @@
 -- What is kept of rows, one row more.
-use Rattle.std.proofs.Common.{◌≡◌, ℕ, zero, suc, ◌+◌, ◌<◌, ◌≤◌, Bool, true, false, cond, nat_eq, List, [], ◌∷◌, ◌++◌, length, map, get_or, set, Some, Result, Ok, Err, OnOk, refl, sym, ap, ◌∙◌, arith, append_assoc, append-nil}
+use Rattle.std.proofs.Common.{◌≡◌, ℕ, zero, suc, ◌+◌, ◌<◌, ◌≤◌, Bool, true, false, cond, nat_eq, List, [], ◌∷◌, ◌++◌, length, map, take, get_or, set, Some, Result, Ok, Err, OnOk, refl, sym, ap, ◌∙◌, arith, append_assoc, append-nil}
 use Rattle.std.specs.Prelude.{slice_get, if◌then◌else◌}
 use Rattle.std.specs.List.{flat_map}
 use Rattle.std.proofs.lemmas.Bool.{eqb-true}
@@ -16,6 +16,8 @@ use Rattle.itf_reader.specs.Forms as forms
 use Rattle.itf_reader.specs.Layouts.{wanted_of}
 use Rattle.itf_reader.specs.RowFindings.{row_findings}
 use Rattle.itf_reader.specs.StrokeFindings.{Seen, is_of_area}
+use Rattle.itf_reader.specs.Views.{row_of, rows_of}
+use Rattle.itf_reader.specs.declared.transfer.Row.{Row as CodeRow}
 use Rattle.plane.specs.declared.kinds.Placed.{Placed}
 use Rattle.delivery.specs.declared.judging.kept.TableKept.{TableKept}
 use Rattle.delivery.specs.KeptRows.{row_vertices, row_cells, cell_points, row_points, is_area_point, PointColumn, Kept, point_column, point_columns, vertex_count, kept, no_rows, with_point, with_row, all_kept, with_row_at, transfer_so_far}
@@ -96,6 +98,23 @@ kept_more codes t rows r =
     ∙ ap (λ (l : List ℕ). made b w.found w.vertices l n.columns) (kept_if b (map (vertex_count t) (rows ++ r ∷ [])) (map (vertex_count t) rows) (vertex_count t r ∷ []) (map_more (vertex_count t) rows r))
     ∙ ap (λ (l : List PointColumn). made b w.found w.vertices w.counts l) (columns_more codes t rows r 0 t.columns)
 
+-- the rows of a slice, one row more
+rows_front : (rows : List CodeRow) (i : ℕ) (r : CodeRow) → i < length rows → r ≡ get_or rows i r → rows_of (take (suc i) rows) ≡ rows_of (take i rows) ++ row_of r ∷ []
+rows_front [] i r lt e = absurd (omega (arith, lt))
+rows_front (q ∷ rows) zero r lt e = ap (λ (x : CodeRow). row_of x ∷ []) (sym e)
+rows_front (q ∷ rows) (suc i) r lt e = ap (λ (rs : List Row). row_of q ∷ rs) (rows_front rows i r (omega (arith, lt)) e)
+
+rows_next : (rows : List CodeRow) (i : ℕ) (r : CodeRow) → i < length rows → r ≡ get_or rows i r → rows_of (take (i + 1) rows) ≡ rows_of (take i rows) ++ row_of r ∷ []
+rows_next rows i r lt e = ap (λ (m : ℕ). rows_of (take m rows)) (let s : i + 1 ≡ suc i = omega arith in s) ∙ rows_front rows i r lt e
+
+pub kept_next : (codes : Codes) (t : Table) (rows : List CodeRow) (i : ℕ) (r : CodeRow) (old new : Kept) → i < length rows → r ≡ get_or rows i r → old ≡ kept codes t (rows_of (take i rows)) → new ≡ with_row codes t (row_of r) old
+    → new ≡ kept codes t (rows_of (take (i + 1) rows))
+kept_next codes t rows i r old new lt e o n =
+    n
+    ∙ ap (with_row codes t (row_of r)) o
+    ∙ sym (kept_more codes t (rows_of (take i rows)) (row_of r))
+    ∙ ap (kept codes t) (sym (rows_next rows i r lt e))
+
 -- ---- what is kept of all tables
 abbrev pub kept_at : ℕ → (Kept → Kept) → List Kept → List Kept
 kept_at place g [] = []
@@ -135,6 +154,20 @@ pub table_there : (ts : List CodeTable) (n : ℕ) (t : CodeTable) → n < length
 table_there [] n t lt e = absurd (omega (arith, lt))
 table_there (u ∷ ts) zero t lt e = ap (λ (x : CodeTable). Some (table_view x)) (sym e)
 table_there (u ∷ ts) (suc n) t lt e = table_there ts n t (omega (arith, lt)) e
+
+pub table_within : (ts : List CodeTable) (n : ℕ) (t : Table) → slice_get (tables_view ts) n ≡ Some t → n < length ts
+table_within [] n t e = absurd (cc)
+table_within (u ∷ ts) zero t e = omega arith
+table_within (u ∷ ts) (suc n) t e = let h = table_within ts n t e in omega (arith, h)
+
+-- what is kept of rows of that table
+pub kept_of_table : (codes : Codes) (ts : List CodeTable) (n : ℕ) (u : CodeTable) (t : Table) → n < length ts → u ≡ get_or ts n u → slice_get (tables_view ts) n ≡ Some t
+    → (k : Kept) (rs rows : List Row) → k ≡ kept codes (table_view u) rs → rs ≡ rows → k ≡ kept codes t rows
+kept_of_table codes ts n u t lt e q k rs rows h r =
+    h ∙ ap (kept codes (table_view u)) r ∙ ap (λ (x : Table). kept codes x rows) (same (table_view u) t (sym (table_there ts n u lt e) ∙ q))
+  where
+    same : (a b : Table) → Some a ≡ Some b → a ≡ b
+    same a b e = cc
 
 pub tables_few : (ts : List CodeTable) (n : ℕ) → length ts ≤ n → length (tables_view ts) ≤ n
 tables_few ts n le = let e = length-map ts table_view in omega (arith, le, e)

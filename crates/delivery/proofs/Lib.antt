@@ -20,7 +20,7 @@ pub mod ModelTextLemmas
 pub mod OneCommand
 pub mod Pieces
 pub mod PieceSteps
-pub mod PointLemmas
+pub mod LineForms
 pub mod PutLemmas
 pub mod ReportLemmas
 pub mod Steps

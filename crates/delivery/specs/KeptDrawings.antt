@@ -2,6 +2,7 @@
 use Rattle.std.specs.Prelude.{◌≡◌, ℕ, ◌+◌, ◌≤◌, Bool, nat_lt, ◌||◌, List, [], ◌∷◌, length, take}
 use Rattle.std.specs.Prelude.{drop, Option, Some, None, slice_get, slice_index_or}
 use Rattle.std.specs.List.{All, list_any, flat_map}
+use Rattle.resolver.specs.Resolved.{LineForm}
 use Rattle.table_layout.specs.Layouts.{AreaOf, Layout}
 use Rattle.itf_reader.specs.Forms.{Row}
 use Rattle.itf_reader.specs.StrokeFindings.{Seen}
@@ -56,22 +57,25 @@ is_kept_large ks rows a =
 abbrev pub has_kept_large : List Kept → List (List Row) → List AreaOf → Bool
 has_kept_large ks rows as_ = list_any (is_kept_large ks rows) as_
 
--- what is kept has all that an area is drawn from: its forms are known, all places are in its
--- window, and there are not too many
-pub record CanBeDrawn (l : Layout) (ks : List Kept) (a : AreaOf) : Type 0 where
-  pub forms : HasForms l a
-  pub strokes : Kept
-  pub lines : slice_get ks a.lines ≡ Some strokes
-  pub counted : total strokes.counts ≤ length strokes.vertices
-  pub inside : (w : Window2) → IsWindowOf forms.line.window w → AreIn w strokes.vertices
-  pub few : length strokes.vertices ≤ area_limit
-  pub objects : Kept
-  pub main : slice_get ks a.main ≡ Some objects
-  pub column : PointColumn
-  pub point : slice_get objects.columns a.column ≡ Some column
-  pub points : (w : Window2) → IsWindowOf forms.line.window w → ArePointsIn w column.points
-  pub few_points : length column.points ≤ area_limit
+-- ---- one drawing
+-- lines of that form, by how many vertices each has, and points can be drawn: all are in the
+-- window of the form, and there are not too many
+pub record AreDrawable (line : LineForm) (counts : List ℕ) (vertices : List Seen)
+    (points : List Placed) : Type 0 where
+  pub counted : total counts ≤ length vertices
+  pub inside : (w : Window2) → IsWindowOf line.window w → AreIn w vertices
+  pub few : length vertices ≤ area_limit
+  pub points_inside : (w : Window2) → IsWindowOf line.window w → ArePointsIn w points
+  pub few_points : length points ≤ area_limit
 
+-- the drawing of lines of that form and of points
+pub record AreDrawn (line : LineForm) (counts : List ℕ) (vertices : List Seen)
+    (points : List Placed) (d : Plan) : Type 0 where
+  pub window : IsWindowOf line.window d.window
+  pub curves : d.curves ≡ kept_curves counts vertices
+  pub placed : d.points ≡ points
+
+-- ---- the drawing of an area
 -- the points that are kept in a column, none where there is no such column
 abbrev pub points_there : Option PointColumn → List Placed
 points_there None = []
@@ -84,6 +88,17 @@ column_points column (Some k) = points_there (slice_get k.columns column)
 abbrev pub curves_there : Option Kept → List Curve
 curves_there None = []
 curves_there (Some k) = kept_curves k.counts k.vertices
+
+-- what is kept has all that an area is drawn from: its form is known, and what is kept of its
+-- two tables can be drawn
+pub record CanBeDrawn (l : Layout) (ks : List Kept) (a : AreaOf) : Type 0 where
+  pub forms : HasForms l a
+  pub strokes : Kept
+  pub lines : slice_get ks a.lines ≡ Some strokes
+  pub objects : Kept
+  pub main : slice_get ks a.main ≡ Some objects
+  pub drawable : AreDrawable forms.line strokes.counts strokes.vertices
+      (points_there (slice_get objects.columns a.column))
 
 -- the drawing of an area from what is kept
 pub record IsDrawnFrom (l : Layout) (ks : List Kept) (a : AreaOf) (d : Plan) : Type 0 where

@@ -20,8 +20,8 @@ use crate::command::{Command, FileNames, command_of};
 use crate::files::{File, read_file};
 use crate::judging::Judged;
 use crate::model::{ModelReading, read_model};
-use crate::outcome::{Outcome, compiled, not_read, refused, usage};
-use crate::rows::{checked, tried, verified_by};
+use crate::outcome::{Outcome, Target, compiled, not_read, refused, usage};
+use crate::rows::{checked, verified_by};
 use crate::transfers::{TransferReading, judge_text, read_transfer};
 use crate::trial::{TrialWords, files_are_short, model_text, transfer_text};
 use crate::word::Word;
@@ -45,7 +45,10 @@ fn decide_check<'a, S: Shelf>(
     ensures writes { S.write_faults shelf.old ≤ S.write_faults shelf.new }
 {
     match read_transfer(alloc, shelf, names.transfer, layout)? {
-        TransferReading::Judged(judged) => checked(alloc, names.certificate, layout, judged),
+        TransferReading::Judged(judged) => {
+            let target = Target::of_check(names.certificate);
+            checked(alloc, &target, layout, judged)
+        }
         TransferReading::Unread(refusal) => not_read(alloc, File::Transfer, refusal),
     }
 }
@@ -118,8 +121,9 @@ fn decide_trial<'a>(
         (trial_target trial.now.size trial.now.certificate.now) (layout_view layout.now)
         (the_transfer trial.now.size) (outcome_of o)) }
 {
+    let target = Target::of_trial(trial);
     let judged = judge_trial(alloc, layout, trial.size)?;
-    tried(alloc, trial, layout, judged)
+    checked(alloc, &target, layout, judged)
 }
 
 // The outcome of a command once its model is compiled.

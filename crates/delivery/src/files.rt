@@ -32,7 +32,7 @@ impl File {
 }
 
 /// Why a file has no text.
-#[derive(Clone, Copy, Debug, PartialEq, Eq)]
+#[derive(Clone, Copy)]
 pub enum FileRefusal {
     /// It could not be read.
     Failed,

@@ -59,6 +59,7 @@ mod refusals;
 mod report;
 mod rows;
 mod status;
+mod text;
 mod top;
 mod transfers;
 pub mod trial;

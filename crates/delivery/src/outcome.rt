@@ -9,7 +9,7 @@ ghost use Rattle.delivery.specs.Outcomes.{reported, usage, area_too_large};
 ghost use Rattle.delivery.specs.Outcomes.{refused, compiled, misbuilt, rejected, areas_outcome};
 ghost use Rattle.delivery.specs.Outcomes.{accepted, area_line, area_lines, table_line};
 ghost use Rattle.delivery.specs.Outcomes.{with_verdict, trial_line, size_lines, trial_lines};
-ghost use Rattle.delivery.specs.Outcomes.{proof_answers, verified};
+ghost use Rattle.delivery.specs.Outcomes.{proof_answers, verified, check_target, trial_target};
 ghost use Rattle.delivery.specs.AreaAnswers.{plans};
 ghost use Rattle.delivery.specs.LineViews.{line_of, lines_of};
 ghost use Rattle.delivery.specs.OutcomeViews.{outcome_of, target_of};
@@ -23,6 +23,7 @@ use crate::files::{File, FileRefusal};
 use crate::refusals::Refusal;
 use crate::report::{AreaAnswer, AreaLine, Line, TableLine, Verdict};
 use crate::status::Status;
+use crate::trial::TrialWords;
 use crate::verifying::Verification;
 use certificate::Certificate;
 use itf_reader::{Finding, Structure};
@@ -37,6 +38,25 @@ use table_layout::{AreaOf, Layout, Table};
 pub struct Target<'a> {
     pub name: &'a str,
     pub trial: Option<u32>,
+}
+
+impl<'a> Target<'a> {
+    /// The certificates of a check go to the file of that name.
+    pub fn of_check(name: &'a str) -> Target<'a>
+        ensures { target_of result ≡ check_target name.now }
+    {
+        Target { name, trial: None }
+    }
+
+    /// The certificates of a trial go to its file.
+    pub fn of_trial(trial: &TrialWords<'a>) -> Target<'a>
+        ensures { target_of result ≡ trial_target trial.now.size trial.now.certificate.now }
+    {
+        Target {
+            name: trial.certificate,
+            trial: Some(trial.size),
+        }
+    }
 }
 
 /// Certificates, and the name of the file that they go to.

@@ -3,7 +3,7 @@ use ili_grammar::SyntaxCode;
 use resolver::ModelCode;
 
 /// Why a model is refused.
-#[derive(Clone, Copy, Debug, PartialEq, Eq)]
+#[derive(Clone, Copy)]
 pub enum RefusalCode {
     /// No token begins here.
     BadByte,

@@ -10,7 +10,6 @@ ghost use Rattle.delivery.specs.Drawings.{AreDrawings};
 ghost use Rattle.delivery.specs.FiledTexts.{AreVerified, IsVerified};
 ghost use Rattle.delivery.specs.Judging.{AreJudged, IsChecked, objects};
 ghost use Rattle.delivery.specs.OutcomeViews.{outcome_of, target_of};
-ghost use Rattle.delivery.specs.Outcomes.{check_target, trial_target};
 ghost use Rattle.delivery.specs.Pieces.{IsJudged};
 
 use crate::area_answers::answers_of;
@@ -18,7 +17,6 @@ use crate::judging::Judged;
 use crate::outcome::{
     Outcome, Target, area_too_large, areas_outcome, misbuilt, rejected, verified,
 };
-use crate::trial::TrialWords;
 use crate::verifying::verify_areas;
 use plane::Drawing;
 use ports::Memory;
@@ -45,8 +43,9 @@ fn check_areas<'a>(
     areas_outcome(alloc, layout, count, target, answers)
 }
 
-// The outcome of a transfer that came to that. The certificates go to the target.
-fn judged_for<'a>(
+/// The outcome of a check or a trial whose transfer came to that. The certificates go to the
+/// target.
+pub fn checked<'a>(
     alloc: Global,
     target: &Target<'a>,
     layout: &Layout,
@@ -64,44 +63,6 @@ fn judged_for<'a>(
         Judged::Oversized => area_too_large(alloc),
         Judged::Clean(count, drawings) => check_areas(alloc, target, layout, count, &drawings),
     }
-}
-
-/// The outcome of a check whose transfer came to that. The certificates go to the file of that
-/// name.
-pub fn checked<'a>(
-    alloc: Global,
-    name: &'a str,
-    layout: &Layout,
-    judged: Judged,
-) -> Result<Outcome<'a>, Memory>
-    requires valid { IsValid (layout_view layout.now) }
-    requires text { (text : List ℕ) × IsJudged (layout_view layout.now) text judged }
-    ensures { (text : List ℕ) → IsJudged (layout_view layout.now) text judged
-        → IfOk result (λ o. IsChecked (check_target name.now) (layout_view layout.now) text
-        (outcome_of o)) }
-{
-    let target = Target { name, trial: None };
-    judged_for(alloc, &target, layout, judged)
-}
-
-/// The outcome of a trial whose transfer came to that.
-pub fn tried<'a>(
-    alloc: Global,
-    trial: &TrialWords<'a>,
-    layout: &Layout,
-    judged: Judged,
-) -> Result<Outcome<'a>, Memory>
-    requires valid { IsValid (layout_view layout.now) }
-    requires text { (text : List ℕ) × IsJudged (layout_view layout.now) text judged }
-    ensures { (text : List ℕ) → IsJudged (layout_view layout.now) text judged
-        → IfOk result (λ o. IsChecked (trial_target trial.now.size trial.now.certificate.now)
-        (layout_view layout.now) text (outcome_of o)) }
-{
-    let target = Target {
-        name: trial.certificate,
-        trial: Some(trial.size),
-    };
-    judged_for(alloc, &target, layout, judged)
 }
 
 // Judges filed certificates against the drawings of all areas of so many objects.

@@ -119,6 +119,30 @@ fn read_pieces<S: Shelf>(
     Err(FileRefusal::TooLong)
 }
 
+// What the file of a transfer is, by the names of its layout.
+fn judge_file<S: Shelf>(
+    alloc: Global,
+    shelf: &mut S,
+    name: &str,
+    layout: &Layout,
+    names: &Names,
+) -> Result<TransferReading, Memory>
+    requires valid { IsValid (layout_view layout.now) }
+    requires named { form_in names.now ≡ form_of (layout_view layout.now) }
+    ensures transfer { IfOk result (IsTransfer (S.held shelf.old) name.now (layout_view layout.now)
+        (Rose (S.read_faults shelf.old name.now) (S.read_faults shelf.new name.now))) }
+    ensures held { S.held shelf.new ≡ S.held shelf.old }
+    ensures writes { S.write_faults shelf.old ≤ S.write_faults shelf.new }
+    ensures reads { NoReadFell (S.read_faults shelf.old) (S.read_faults shelf.new) }
+{
+    let mut judge = Judge::new(alloc, layout)?;
+    match read_pieces(alloc, shelf, name, layout, names, &mut judge) {
+        Ok(()) => Ok(TransferReading::Judged(judge.finish(alloc, layout, names)?)),
+        Err(FileRefusal::Memory) => Err(Memory),
+        Err(refusal) => Ok(TransferReading::Unread(refusal)),
+    }
+}
+
 /// Reads the file of a transfer in pieces of 65,536 bytes, and judges it by the layout of its
 /// model. It is read to its end, or up to a piece past its limit, whatever its first lines hold.
 ///
@@ -139,12 +163,7 @@ pub fn read_transfer<S: Shelf>(
     ensures reads { NoReadFell (S.read_faults shelf.old) (S.read_faults shelf.new) }
 {
     let names = Names::new(alloc, layout)?;
-    let mut judge = Judge::new(alloc, layout)?;
-    match read_pieces(alloc, shelf, name, layout, &names, &mut judge) {
-        Ok(()) => Ok(TransferReading::Judged(judge.finish(alloc, layout, &names)?)),
-        Err(FileRefusal::Memory) => Err(Memory),
-        Err(refusal) => Ok(TransferReading::Unread(refusal)),
-    }
+    judge_file(alloc, shelf, name, layout, &names)
 }
 
 /// Judges the text of a transfer that is held in memory, by the layout of its model.

@@ -17,9 +17,10 @@ mod objects;
 mod words;
 
 use crate::files::File;
+use crate::text::Text;
 pub use counts::events_are_counted;
 use itoa::Buffer;
-use objects::{Place, Text};
+use objects::Place;
 use ports::Memory;
 use std::alloc::Global;
 pub use words::{TrialWords, one_trial, trial_of};

@@ -1,23 +1,16 @@
 // The curves of lines, vertex by vertex.
-ghost use Rattle.std.specs.Prelude.{◌≡◌, ◌≤◌, ◌<◌, ◌+◌, ◌++◌, ◌∷◌, ◌^◌, [], false, List, length};
-ghost use Rattle.std.specs.Prelude.{vec_len, None, OnOk, IfOk, slice_index_or};
-ghost use Rattle.std.specs.List.{All, flat_map};
-ghost use Rattle.resolver.specs.Values.{line_of};
+ghost use Rattle.std.specs.Prelude.{◌≡◌, ◌≤◌, ◌<◌, ◌+◌, ◌++◌, ◌∷◌, ◌^◌, false, List, vec_len, OnOk};
+ghost use Rattle.std.specs.Prelude.{IfOk};
 ghost use Rattle.field_values.specs.Places.{are_collinear, place_view};
 ghost use Rattle.itf_reader.specs.RowReadings.{vertex_view};
-ghost use Rattle.itf_reader.specs.StrokeFindings.{Seen, seen, place_of, all_seen};
-ghost use Rattle.itf_reader.specs.Views.{row_of, rows_of, slice_of, strokes_of, vertex_of};
-ghost use Rattle.domain_rules.specs.CleanPlaces.{IsSoundVertex, AreSoundVertices};
-ghost use Rattle.delivery.specs.AreaLimits.{vertex_count, vertices_in};
+ghost use Rattle.itf_reader.specs.StrokeFindings.{Seen};
 ghost use Rattle.delivery.specs.Drawings.{point_at, straight_between, half_arcs, arc_over};
-ghost use Rattle.delivery.specs.Drawings.{curves_after, line_curves, row_curves, IsWindowOf};
-ghost use Rattle.delivery.specs.Drawable.{IsIn, HasSoundLine, IsPenIn, rest_curves, waiting};
+ghost use Rattle.delivery.specs.Drawable.{IsIn, IsPenIn, rest_curves, waiting};
 
-use field_values::{Place, is_same_place, read_vertex};
-use itf_reader::{ReadVertex, Row, Vertex, VertexKind, VertexSlice};
+use field_values::{Place, is_same_place};
+use itf_reader::{ReadVertex, VertexKind};
 use plane::{Drawing, Point, Window2};
 use ports::Memory;
-use resolver::LineForm;
 use straight_predicates::{Turn, turn};
 
 /// Where a line goes on: the place that it has come to, and the vertex that an open arc leads over.
@@ -155,103 +148,4 @@ pub fn draw_to(pen: Pen, vertex: ReadVertex, drawing: &mut Drawing) -> Result<Pe
             })
         }
     }
-}
-
-// The place of a vertex, its line and its kind.
-fn read(form: &LineForm, vertex: Vertex) -> ReadVertex
-    requires { IsSoundVertex (line_of form.now) (vertex_of vertex) }
-    ensures { vertex_view result ≡ seen (line_of form.now) (vertex_of vertex.entry) }
-{
-    match read_vertex(form, vertex.fields) {
-        Ok(value) => ReadVertex {
-            at: value.at,
-            line: vertex.line,
-            kind: vertex.kind,
-        },
-        Err(_) => unreachable!(),
-    }
-}
-
-// Adds the curves of the vertices that follow a place.
-fn add_vertices(
-    form: &LineForm,
-    start: Place,
-    vertices: VertexSlice,
-    drawing: &mut Drawing,
-) -> Result<(), Memory>
-    requires window { IsWindowOf (line_of form.now).window drawing.old.window }
-    requires start_in { IsIn drawing.old.window (place_view start) }
-    requires sound { AreSoundVertices (line_of form.now) (slice_of vertices) }
-    requires room { vec_len drawing.old.curves + length (slice_of vertices) < 2 ^ 30 }
-    ensures curves { OnOk result (drawing.new.curves.items ≡ drawing.old.curves.items ++
-        curves_after (place_view start) None (all_seen (line_of form.now)
-        (slice_of vertices.entry))) }
-    ensures few { OnOk result (vec_len drawing.new.curves ≤ vec_len drawing.old.curves +
-        length (slice_of vertices.entry)) }
-    ensures window { OnOk result (drawing.new.window ≡ drawing.old.window) }
-    ensures points { OnOk result (drawing.new.points.items ≡ drawing.old.points.items) }
-{
-    let mut pen = Pen {
-        at: start,
-        over: None,
-    };
-    let mut rest = vertices;
-    while let Some((vertex, others)) = rest.split_first() {
-        pen = draw_to(pen, read(form, vertex), drawing)?;
-        rest = others;
-    }
-    Ok(())
-}
-
-// Adds the curves of a line from its start.
-fn add_line(form: &LineForm, vertices: VertexSlice, drawing: &mut Drawing) -> Result<(), Memory>
-    requires window { IsWindowOf (line_of form.now).window drawing.old.window }
-    requires sound { AreSoundVertices (line_of form.now) (slice_of vertices) }
-    requires room { vec_len drawing.old.curves + length (slice_of vertices) < 2 ^ 30 }
-    ensures curves { OnOk result (drawing.new.curves.items ≡ drawing.old.curves.items ++
-        line_curves (line_of form.now) (slice_of vertices.entry)) }
-    ensures few { OnOk result (vec_len drawing.new.curves ≤ vec_len drawing.old.curves +
-        length (slice_of vertices.entry)) }
-    ensures window { OnOk result (drawing.new.window ≡ drawing.old.window) }
-    ensures points { OnOk result (drawing.new.points.items ≡ drawing.old.points.items) }
-{
-    match vertices.split_first() {
-        Some((first, others)) => add_vertices(form, read(form, first).at, others, drawing),
-        None => Ok(()),
-    }
-}
-
-// Adds the curves of an object's line.
-fn add_row(form: &LineForm, row: &Row, drawing: &mut Drawing) -> Result<(), Memory>
-    requires window { IsWindowOf (line_of form.now).window drawing.old.window }
-    requires sound { HasSoundLine (line_of form.now) (row_of row.now) }
-    requires room { vec_len drawing.old.curves + vertices_in (strokes_of row.now.strokes.items)
-        < 2 ^ 30 }
-    ensures curves { OnOk result (drawing.new.curves.items ≡ drawing.old.curves.items ++
-        row_curves (line_of form.now) (row_of row.now)) }
-    ensures few { OnOk result (vec_len drawing.new.curves ≤ vec_len drawing.old.curves +
-        vertices_in (strokes_of row.now.strokes.items)) }
-    ensures window { OnOk result (drawing.new.window ≡ drawing.old.window) }
-    ensures points { OnOk result (drawing.new.points.items ≡ drawing.old.points.items) }
-{
-    match row.strokes.as_slice() {
-        [stroke, ..] => add_line(form, stroke.vertices.as_slice(), drawing),
-        [] => Ok(()),
-    }
-}
-
-/// Adds the curves of the lines of objects, in order.
-pub fn add_curves(form: &LineForm, rows: &[Row], drawing: &mut Drawing) -> Result<(), Memory>
-    requires window { IsWindowOf (line_of form.now).window drawing.old.window }
-    requires sound { All (HasSoundLine (line_of form.now)) (rows_of rows.now) }
-    requires room { vec_len drawing.old.curves + vertex_count (rows_of rows.now) < 2 ^ 30 }
-    ensures curves { OnOk result (drawing.new.curves.items ≡ drawing.old.curves.items ++
-        flat_map (row_curves (line_of form.now)) (rows_of rows.now)) }
-    ensures window { OnOk result (drawing.new.window ≡ drawing.old.window) }
-    ensures points { OnOk result (drawing.new.points.items ≡ drawing.old.points.items) }
-{
-    for row in rows {
-        add_row(form, row, drawing)?;
-    }
-    Ok(())
 }

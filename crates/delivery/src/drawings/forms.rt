@@ -2,14 +2,13 @@
 ghost use Rattle.std.specs.Prelude.{◌≡◌, ◌∷◌, [], slice_get};
 ghost use Rattle.resolver.specs.Sound.{IsNarrow};
 ghost use Rattle.resolver.specs.Values.{line_of, window_of};
-ghost use Rattle.table_layout.specs.Values.{area_view, columns_view, layout_view, lines_view};
-ghost use Rattle.table_layout.specs.Values.{tables_view};
-ghost use Rattle.delivery.specs.Drawings.{lines_in, columns_in, IsWindowOf};
+ghost use Rattle.table_layout.specs.Values.{area_view, layout_view, lines_view, tables_view};
+ghost use Rattle.delivery.specs.Drawings.{lines_in, IsWindowOf};
 ghost use Rattle.delivery.specs.Drawable.{HasForms};
 
 use plane::{Point, Window2};
 use resolver::{LineForm, Window};
-use table_layout::{AreaOf, Column, Layout, TableId};
+use table_layout::{AreaOf, Layout, TableId};
 
 // The forms of the lines of a table, none where there is no such table.
 fn lines_of(layout: &Layout, id: TableId) -> &[LineForm]
@@ -32,17 +31,6 @@ pub fn line_form<'a>(layout: &'a Layout, area: &AreaOf) -> &'a LineForm
     match lines_of(layout, area.lines) {
         [form, ..] => form,
         [] => unreachable!(),
-    }
-}
-
-/// The columns of a table, none where there is no such table.
-pub fn columns_of(layout: &Layout, id: TableId) -> &[Column]
-    ensures { columns_view result.now ≡ columns_in (slice_get
-        (tables_view layout.now.tables.items) id.0) }
-{
-    match layout.tables.get(id.0 as usize) {
-        Some(table) => &table.columns,
-        None => &[],
     }
 }
 

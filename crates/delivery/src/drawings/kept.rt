@@ -3,15 +3,18 @@ ghost use Rattle.std.specs.Prelude.{◌≡◌, ◌+◌, ◌<◌, ◌≤◌, ◌+
 ghost use Rattle.std.specs.Prelude.{None, slice_get, IfOk, OnOk};
 ghost use Rattle.std.specs.List.{All, AllZip};
 ghost use Rattle.itf_reader.specs.RowReadings.{vertices_view};
+ghost use Rattle.resolver.specs.Sound.{IsNarrow};
+ghost use Rattle.resolver.specs.Values.{line_of};
 ghost use Rattle.field_values.specs.Places.{place_view};
 ghost use Rattle.plane.specs.Rule.Plans.{plan};
 ghost use Rattle.table_layout.specs.Values.{area_view, areas_view, layout_view};
 ghost use Rattle.delivery.specs.AreaAnswers.{plans};
 ghost use Rattle.delivery.specs.Drawable.{IsIn};
 ghost use Rattle.delivery.specs.Drawings.{curves_after};
-ghost use Rattle.delivery.specs.KeptDrawings.{AreIn, ArePointsIn, CanBeDrawn, IsDrawnFrom};
+ghost use Rattle.delivery.specs.KeptDrawings.{AreIn, ArePointsIn, AreDrawable, AreDrawn};
+ghost use Rattle.delivery.specs.KeptDrawings.{CanBeDrawn, IsDrawnFrom};
 ghost use Rattle.delivery.specs.KeptDrawings.{kept_curves, points_there, seen_curves, total};
-ghost use Rattle.delivery.specs.KeptViews.{places_in, point_columns_view};
+ghost use Rattle.delivery.specs.KeptViews.{kept_of, places_in, point_columns_view};
 
 use super::curves::{Pen, draw_to};
 use super::forms::{line_form, plane_window};
@@ -20,8 +23,9 @@ use field_values::Place;
 use itf_reader::ReadVertex;
 use plane::{Drawing, Placed};
 use ports::Memory;
+use resolver::LineForm;
 use std::alloc::Global;
-use table_layout::{AreaOf, Layout, TableId};
+use table_layout::{AreaOf, Layout};
 
 // Adds the curves of the vertices that follow a place.
 fn add_after(start: Place, vertices: &[ReadVertex], drawing: &mut Drawing) -> Result<(), Memory>
@@ -100,14 +104,33 @@ fn add_placed(points: &[Placed], drawing: &mut Drawing) -> Result<(), Memory>
     Ok(())
 }
 
-// The points that are kept in the column of that number, none where there is no such column.
-fn points_in(columns: &[PointColumn], number: u32) -> &[Placed]
+/// The points that are kept in the column of that number, none where there is no such column.
+pub fn points_in(columns: &[PointColumn], number: u32) -> &[Placed]
     ensures { result.now ≡ points_there (slice_get (point_columns_view columns.now) number) }
 {
     match columns.get(number as usize) {
         Some(column) => &column.points,
         None => &[],
     }
+}
+
+/// The drawing of lines of that form, from what is kept of their table, and of these points.
+pub fn draw(
+    alloc: Global,
+    form: &LineForm,
+    lines: &TableKept,
+    points: &[Placed],
+) -> Result<Drawing, Memory>
+    requires narrow { IsNarrow (line_of form.now).window }
+    requires drawable { AreDrawable (line_of form.now) (kept_of lines.now).counts
+        (kept_of lines.now).vertices points.now }
+    ensures { IfOk result (λ d. AreDrawn (line_of form.now) (kept_of lines.now).counts
+        (kept_of lines.now).vertices points.now (plan d)) }
+{
+    let mut drawing = Drawing::new(alloc, plane_window(&form.window));
+    add_strokes(&lines.counts, &lines.vertices, &mut drawing)?;
+    add_placed(points, &mut drawing)?;
+    Ok(drawing)
 }
 
 // The drawing of an area from what is kept of its two tables.
@@ -122,12 +145,9 @@ fn drawing_from(
         (area_view area.now) (plan d)) }
 {
     let form = line_form(layout, area);
-    let mut drawing = Drawing::new(alloc, plane_window(&form.window));
     let lines = &tables[area.lines.0 as usize];
-    add_strokes(&lines.counts, &lines.vertices, &mut drawing)?;
     let objects = &tables[area.main.0 as usize];
-    add_placed(points_in(&objects.columns, area.column), &mut drawing)?;
-    Ok(drawing)
+    draw(alloc, form, lines, points_in(&objects.columns, area.column))
 }
 
 /// The drawings of all areas from what is kept of the rows, in order.

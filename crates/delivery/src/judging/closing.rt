@@ -196,8 +196,30 @@ fn gather(alloc: Global, tables: &mut [TableKept]) -> Result<Vec<Finding>, Memor
     Ok(all)
 }
 
-// All findings, in the order of the report: those of the rows and those of the keys. Each list is
-// put in order, and then both together.
+// The findings of the rows, in order.
+fn row_findings(alloc: Global, tables: &mut [TableKept]) -> Result<Vec<Finding>, Memory>
+    ensures found { IfOk result (λ found. findings_of found.items ≡ in_order (all_found
+        (kept_in tables.old))) }
+    ensures places { IfOk result (λ found. map places_of (kept_in tables.new) ≡ map places_of
+        (kept_in tables.old)) }
+{
+    let mut found = gather(alloc, tables)?;
+    sort_findings(&mut found)?;
+    Ok(found)
+}
+
+// The findings of the keys, in order.
+fn key_findings(alloc: Global, keys: KeyFeed) -> Result<Vec<Finding>, Memory>
+    ensures { (l : GivenLayout) (rows : List (ℕ × GivenRow)) → HasRows l keys.entry rows
+        → IfOk result (λ found. findings_of found.items ≡ in_order (fed_keys l rows)) }
+{
+    let mut found = Vec::new(alloc);
+    keys.finish(&mut found)?;
+    sort_findings(&mut found)?;
+    Ok(found)
+}
+
+// All findings, in the order of the report: those of the rows and those of the keys.
 fn all_findings(
     alloc: Global,
     tables: &mut [TableKept],
@@ -209,11 +231,8 @@ fn all_findings(
     ensures places { IfOk result (λ found. map places_of (kept_in tables.new) ≡ map places_of
         (kept_in tables.old)) }
 {
-    let mut found = gather(alloc, tables)?;
-    sort_findings(&mut found)?;
-    let mut of_keys = Vec::new(alloc);
-    keys.finish(&mut of_keys)?;
-    sort_findings(&mut of_keys)?;
+    let mut found = row_findings(alloc, tables)?;
+    let mut of_keys = key_findings(alloc, keys)?;
     found.append(&mut of_keys)?;
     sort_findings(&mut found)?;
     Ok(found)

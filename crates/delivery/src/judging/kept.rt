@@ -6,7 +6,7 @@ ghost use Rattle.resolver.specs.Values.{form_of};
 ghost use Rattle.table_layout.specs.Values.{columns_view, table_view};
 ghost use Rattle.itf_reader.specs.Few.{HasFew};
 ghost use Rattle.itf_reader.specs.RowReadings.{cells_view, vertices_view};
-ghost use Rattle.itf_reader.specs.Views.{row_of};
+ghost use Rattle.itf_reader.specs.Views.{row_of, rows_of};
 ghost use Rattle.ili_grammar.specs.Syntax.{Codes as GivenCodes};
 ghost use Rattle.table_layout.specs.Layouts.{Table as GivenTable};
 ghost use Rattle.itf_reader.specs.StrokeFindings.{is_of_area};
@@ -187,5 +187,24 @@ impl TableKept {
         read_row(codes, table, row, values, &mut self.found)?;
         self.add_vertices(&mut values.vertices)?;
         add_points(row.line, &values.cells, &mut self.columns)
+    }
+
+    /// What is kept of rows.
+    pub fn of_rows(
+        alloc: Global,
+        codes: &Codes,
+        table: &Table,
+        rows: &[Row],
+    ) -> Result<TableKept, Memory>
+        requires { HasFew (table_view table.now) }
+        ensures { IfOk result (λ k. kept_of k ≡ kept (codes_of codes.now) (table_view table.now)
+            (rows_of rows.now)) }
+    {
+        let mut kept = TableKept::new(alloc, table)?;
+        let mut values = RowValues::new(alloc);
+        for row in rows {
+            kept.add_row(codes, table, row, &mut values)?;
+        }
+        Ok(kept)
     }
 }

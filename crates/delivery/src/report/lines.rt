@@ -17,7 +17,7 @@ pub struct TableLine {
 }
 
 /// What is found out about an area.
-#[derive(Clone, Copy, Debug, PartialEq, Eq)]
+#[derive(Clone, Copy)]
 pub enum AreaAnswer {
     /// It is not decided: no level settles its drawing. Two curves that show it, each by its line,
     /// of which one is a half arc; or one half arc, by its line twice.
@@ -47,7 +47,7 @@ pub struct AreaLine {
 }
 
 /// The last line of a report.
-#[derive(Clone, Copy, Debug, PartialEq, Eq)]
+#[derive(Clone, Copy)]
 pub enum Verdict {
     /// So many objects, those of helper tables included.
     Accepted(u128),

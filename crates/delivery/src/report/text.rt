@@ -19,11 +19,10 @@ use super::lines::{AreaAnswer, AreaLine, Line, TableLine, Verdict};
 use crate::files::File;
 use crate::outcome::Outcome;
 use crate::refusals::Refusal;
+use crate::text::Text;
 use itf_reader::{Fault, Finding, Structure};
-use itoa::Buffer;
 use ports::Memory;
 use std::alloc::Global;
-use std::marker::Model;
 use table_layout::Role;
 
 fn file_text(file: File) -> &'static [u8]
@@ -46,56 +45,15 @@ fn role_text(role: Role) -> &'static [u8]
     }
 }
 
-// The text of a report as far as it is made.
-#[derive(Drop)]
-struct Text {
-    bytes: Vec<u8>,
-}
-
-impl Model for Text {
-    ghost use Rattle.std.specs.Prelude.{List, ℕ};
-
-    ghost Value = { List ℕ };
-
-    ghost view = { λ text. text.bytes.items };
-}
-
 impl Text {
-    fn add(&mut self, bytes: &[u8]) -> Result<(), Memory>
-        ensures { OnOk result (self.new ≡ self.old ++ bytes.now) }
-    {
-        self.bytes.extend_from_slice(bytes)?;
-        Ok(())
-    }
-
-    fn add_count(&mut self, count: u128) -> Result<(), Memory>
-        ensures { OnOk result (self.new ≡ self.old ++ decimal count) }
-    {
-        let mut buffer = Buffer::new();
-        self.add(buffer.format(count).as_bytes())
-    }
-
-    fn add_number(&mut self, number: u32) -> Result<(), Memory>
-        ensures { OnOk result (self.new ≡ self.old ++ decimal number) }
-    {
-        let mut buffer = Buffer::new();
-        self.add(buffer.format(number).as_bytes())
-    }
-
     // What a finding names besides its place, with a blank before it.
     fn add_other(&mut self, fault: &Fault) -> Result<(), Memory>
         ensures { OnOk result (self.new ≡ self.old ++ other_text (other_of fault.now)) }
     {
         match fault {
             Fault::Value(_) => Ok(()),
-            Fault::Repeat(_, line) => {
-                self.add(b" ")?;
-                self.add_number(*line)
-            }
-            Fault::Reference(_, word) => {
-                self.add(b" ")?;
-                self.add(word.bytes())
-            }
+            Fault::Repeat(_, line) => self.add_next_count(u128::from(*line)),
+            Fault::Reference(_, word) => self.add_next(word.bytes()),
         }
     }
 
@@ -105,10 +63,8 @@ impl Text {
     {
         self.add(b"FINDING ")?;
         self.add_number(finding.line)?;
-        self.add(b" ")?;
-        self.add(code_text(finding.code()))?;
-        self.add(b" ")?;
-        self.add_number(finding.column)?;
+        self.add_next(code_text(finding.code()))?;
+        self.add_next_count(u128::from(finding.column))?;
         self.add_other(&finding.fault)
     }
 
@@ -136,14 +92,10 @@ impl Text {
     {
         self.add(b"TABLE ")?;
         self.add(table.topic.bytes())?;
-        self.add(b" ")?;
-        self.add(table.name.bytes())?;
-        self.add(b" ")?;
-        self.add(role_text(table.role))?;
-        self.add(b" ")?;
-        self.add_count(u128::from(table.columns))?;
-        self.add(b" ")?;
-        self.add_count(u128::from(table.lines))
+        self.add_next(table.name.bytes())?;
+        self.add_next(role_text(table.role))?;
+        self.add_next_count(u128::from(table.columns))?;
+        self.add_next_count(u128::from(table.lines))
     }
 
     // Words, and two lines of the transfer.
@@ -152,8 +104,7 @@ impl Text {
     {
         self.add(words)?;
         self.add_number(first)?;
-        self.add(b" ")?;
-        self.add_number(second)
+        self.add_next_count(u128::from(second))
     }
 
     // EMPTY line side
@@ -171,10 +122,8 @@ impl Text {
     {
         self.add(b"PROVED ")?;
         self.add_count(u128::from(level))?;
-        self.add(b" ")?;
-        self.add_count(u128::from(curves))?;
-        self.add(b" ")?;
-        self.add_count(u128::from(points))
+        self.add_next_count(u128::from(curves))?;
+        self.add_next_count(u128::from(points))
     }
 
     fn add_answer(&mut self, answer: AreaAnswer) -> Result<(), Memory>
@@ -203,10 +152,8 @@ impl Text {
     {
         self.add(b"AREA ")?;
         self.add(area.topic.bytes())?;
-        self.add(b" ")?;
-        self.add(area.table.bytes())?;
-        self.add(b" ")?;
-        self.add(area.attribute.bytes())?;
+        self.add_next(area.table.bytes())?;
+        self.add_next(area.attribute.bytes())?;
         self.add(b" ")?;
         self.add_answer(area.answer)
     }
@@ -217,10 +164,8 @@ impl Text {
     {
         self.add(b"NOTPROVED ")?;
         self.add_number(area)?;
-        self.add(b" ")?;
-        self.add_number(u32::from(rule))?;
-        self.add(b" ")?;
-        self.add_number(place)
+        self.add_next_count(u128::from(rule))?;
+        self.add_next_count(u128::from(place))
     }
 
     // STRUCTURE line code
@@ -229,18 +174,15 @@ impl Text {
     {
         self.add(b"STRUCTURE ")?;
         self.add_number(line)?;
-        self.add(b" ")?;
-        self.add(structure_text(code))
+        self.add_next(structure_text(code))
     }
 
     // A line and a column, each with a blank before it, and a blank.
-    fn add_place(&mut self, line: u32, column: u32) -> Result<(), Memory>
+    fn add_position(&mut self, line: u32, column: u32) -> Result<(), Memory>
         ensures { OnOk result (self.new ≡ self.old ++ place_text line column) }
     {
-        self.add(b" ")?;
-        self.add_number(line)?;
-        self.add(b" ")?;
-        self.add_number(column)?;
+        self.add_next_count(u128::from(line))?;
+        self.add_next_count(u128::from(column))?;
         self.add(b" ")
     }
 
@@ -250,7 +192,7 @@ impl Text {
     {
         self.add(b"FAULT MODEL ")?;
         self.add(refusal_text(refusal.code))?;
-        self.add_place(refusal.line, refusal.column)?;
+        self.add_position(refusal.line, refusal.column)?;
         self.add(&refusal.word)
     }
 
@@ -287,12 +229,9 @@ impl Text {
     {
         self.add(b"TRIAL ")?;
         self.add_number(size)?;
-        self.add(b" ")?;
-        self.add_count(u128::from(curves))?;
-        self.add(b" ")?;
-        self.add_count(u128::from(events))?;
-        self.add(b" ")?;
-        self.add_count(u128::from(points))
+        self.add_next_count(u128::from(curves))?;
+        self.add_next_count(u128::from(events))?;
+        self.add_next_count(u128::from(points))
     }
 
     // The words of a line, without its end.
@@ -347,10 +286,8 @@ impl Text {
 pub fn report(alloc: Global, outcome: &Outcome<'_>) -> Result<Vec<u8>, Memory>
     ensures { IfOk result (λ text. text.items ≡ report_of (outcome_of outcome.now)) }
 {
-    let mut text = Text {
-        bytes: Vec::new(alloc),
-    };
+    let mut text = Text::new(alloc);
     text.add_findings(&outcome.findings)?;
     text.add_lines(&outcome.lines)?;
-    Ok(text.bytes)
+    Ok(text.into_bytes())
 }

@@ -4,6 +4,8 @@ use Rattle.table_layout.specs.Values.{layout_view}
 use Rattle.delivery.specs.Commands.{check}
 use Rattle.delivery.specs.CommandViews.{names_of}
 use Rattle.delivery.specs.Gathering.{texts, ReadsAll}
+use Rattle.delivery.specs.Judging.{IsChecked}
+use Rattle.delivery.specs.Outcomes.{Target}
 use Rattle.delivery.specs.OutcomeViews.{outcome_of}
 use Rattle.delivery.specs.Pieces.{IsTransfer}
 use Rattle.delivery.specs.declared.transfers.TransferReading.{TransferReading}
@@ -26,7 +28,7 @@ returns-in-Judged-clause-outcome g c =
     (λ o h. record {
       gathered = texts (layout_view c.args.layout.now) (t.0 ∷ []);
       reads = inr (inr (t.0, t.1, refl));
-      amounts = h;
+      amounts = subst (λ (x : Target). IsChecked x (layout_view c.args.layout.now) t.0 (outcome_of o)) c.of_check-target.ensures h;
     })
     (c.checked.ensures t.0 t.2)
 

@@ -1,8 +1,18 @@
+use Rattle.std.proofs.Common.{subst}
+use Rattle.table_layout.specs.Values.{layout_view}
+use Rattle.delivery.specs.Judging.{IsChecked}
+use Rattle.delivery.specs.Outcomes.{Target}
+use Rattle.delivery.specs.OutcomeViews.{outcome_of}
 use Rattle.delivery.specs.TrialFiles.{transfer_text}
+use Rattle.delivery.proofs.Steps.{if_ok}
 use Rattle.delivery.proofs.deciding.decide_trial.Goals as goal
 
-pub tried-requires-clause-text : goal.tried-requires-clause-text
-tried-requires-clause-text c = (transfer_text c.args.trial.now.size, c.in_ok-judged.ensures)
+pub checked-requires-clause-text : goal.checked-requires-clause-text
+checked-requires-clause-text c = (transfer_text c.args.trial.now.size, c.in_ok-judged.ensures)
 
 pub returns : goal.returns
-returns c = c.tried.ensures (transfer_text c.args.trial.now.size) c.in_ok-judged.ensures
+returns c =
+    let text = transfer_text c.args.trial.now.size in
+    if_ok _ _ c.checked.result
+    (λ o h. subst (λ (x : Target). IsChecked x (layout_view c.args.layout.now) text (outcome_of o)) c.of_trial-target.ensures h)
+    (c.checked.ensures text c.in_ok-judged.ensures)

@@ -1,18 +1,68 @@
 use Rattle.std.proofs.Common.{refl}
+use Rattle.resolver.specs.Values.{line_of}
 use Rattle.itf_reader.specs.Views.{transfer_of}
 use Rattle.plane.specs.Rule.Plans.{plan}
-use Rattle.table_layout.specs.Values.{layout_view}
-use Rattle.delivery.proofs.Drawables.{number_drawable, drawn_at}
+use Rattle.table_layout.specs.Values.{area_view, layout_view}
+use Rattle.delivery.specs.KeptViews.{kept_of}
+use Rattle.delivery.proofs.Drawables.{area_is, area_table, forms, there}
+use Rattle.delivery.proofs.KeptAt.{points_here}
+use Rattle.delivery.proofs.KeptPlaces.{drawable_as, drawing_as}
+use Rattle.delivery.proofs.KeptSteps.{table_within}
 use Rattle.delivery.proofs.Steps.{if_ok}
 use Rattle.delivery.proofs.drawings.drawing.Goals as goal
 
-pub drawing_of-requires : goal.drawing_of-requires
-drawing_of-requires c =
-    number_drawable (layout_view c.args.layout.now) (transfer_of c.args.transfer.now) c.args.layout.now.areas.items c.args.area c.index.result.now c.requires.area c.index.ensures refl
-    c.requires.valid c.requires.clean c.requires.small
+pub line_form-form-requires : goal.line_form-form-requires
+line_form-form-requires c =
+    let l = layout_view c.args.layout.now in
+    let x = c.index-found.result.now in
+    forms l (area_view x) c.requires.valid (area_is l c.args.layout.now.areas.items c.args.area x c.requires.area c.index-found.ensures refl c.requires.valid)
+
+pub kept_at-requires-clause-there : goal.kept_at-requires-clause-there
+kept_at-requires-clause-there c =
+    let l = layout_view c.args.layout.now in
+    let x = c.index-found.result.now in
+    let h = area_is l c.args.layout.now.areas.items c.args.area x c.requires.area c.index-found.ensures refl c.requires.valid in
+    table_within c.args.layout.now.tables.items x.lines.0 h.helper h.lines
+
+pub kept_at-requires-2-clause-there : goal.kept_at-requires-2-clause-there
+kept_at-requires-2-clause-there c =
+    let l = layout_view c.args.layout.now in
+    let x = c.index-found.result.now in
+    let a = area_table l (area_view x) c.requires.valid (area_is l c.args.layout.now.areas.items c.args.area x c.requires.area c.index-found.ensures refl c.requires.valid) in
+    table_within c.args.layout.now.tables.items x.main.0 a.owner a.main
+
+pub draw-requires-clause-drawable : goal.draw-requires-clause-drawable
+draw-requires-clause-drawable c =
+    let l = layout_view c.args.layout.now in
+    let rows = transfer_of c.args.transfer.now in
+    let areas = c.args.layout.now.areas.items in
+    let x = c.index-found.result.now in
+    let h = area_is l areas c.args.area x c.requires.area c.index-found.ensures refl c.requires.valid in
+    let a = area_table l (area_view x) c.requires.valid h in
+    let ks = c.in_ok-lines.lines in
+    let ms = c.in_ok-objects.objects in
+    drawable_as l rows c.requires.valid c.requires.clean (area_view x) h (line_of c.line_form-form.result.now) c.line_form-form.ensures.lines (kept_of ks) (kept_of ms)
+    (c.in_ok-lines.ensures h.helper h.lines) (c.in_ok-objects.ensures a.owner a.main) c.points_in.result.now
+    (points_here (kept_of ms) ms refl c.deref.result.now c.deref.ensures.value x.column c.points_in.result.now c.points_in.ensures)
+    (c.requires.small (area_view x) (there l areas c.args.area x c.requires.area c.index-found.ensures refl))
 
 pub returns : goal.returns
 returns c =
-    if_ok _ _ c.drawing_of.result
-    (λ d h. drawn_at (layout_view c.args.layout.now) (transfer_of c.args.transfer.now) c.args.layout.now.areas.items c.args.area c.index.result.now c.requires.area c.index.ensures refl (plan d) h)
-    c.drawing_of.ensures
+    let l = layout_view c.args.layout.now in
+    let rows = transfer_of c.args.transfer.now in
+    let areas = c.args.layout.now.areas.items in
+    let x = c.index-found.result.now in
+    let h = area_is l areas c.args.area x c.requires.area c.index-found.ensures refl c.requires.valid in
+    let a = area_table l (area_view x) c.requires.valid h in
+    let ks = c.in_ok-lines.lines in
+    let ms = c.in_ok-objects.objects in
+    if_ok _ _ c.draw.result
+    (λ d w. (
+      area_view x,
+      there l areas c.args.area x c.requires.area c.index-found.ensures refl,
+      drawing_as l rows c.requires.valid c.requires.clean (area_view x) h (line_of c.line_form-form.result.now) c.line_form-form.ensures.lines (kept_of ks) (kept_of ms)
+          (c.in_ok-lines.ensures h.helper h.lines) (c.in_ok-objects.ensures a.owner a.main) c.points_in.result.now
+          (points_here (kept_of ms) ms refl c.deref.result.now c.deref.ensures.value x.column c.points_in.result.now c.points_in.ensures)
+          (plan d) w,
+    ))
+    c.draw.ensures

@@ -1,4 +1,4 @@
-use Rattle.delivery.proofs.PointLemmas.{one_form, narrow_form}
+use Rattle.delivery.proofs.LineForms.{one_form, narrow_form}
 use Rattle.delivery.proofs.drawings.forms.line_form.Goals as goal
 
 pub returns-clause-lines : goal.returns-clause-lines

@@ -13,7 +13,7 @@ use Rattle.delivery.specs.declared.judging.closing.Judged.{Judged}
 use Rattle.delivery.proofs.FewCurves.{few_curves}
 use Rattle.delivery.proofs.Steps.{if_ok}
 use Rattle.delivery.proofs.Zips.{drawn_count}
-use Rattle.delivery.proofs.rows.judged_for.Goals as goal
+use Rattle.delivery.proofs.rows.checked.Goals as goal
 
 pub check_areas-requires-clause-drawn : goal.check_areas-requires-clause-drawn
 check_areas-requires-clause-drawn c =

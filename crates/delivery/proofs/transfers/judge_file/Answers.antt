@@ -1,4 +1,4 @@
-use Rattle.delivery.proofs.transfers.read_transfer.Goals as goal
+use Rattle.delivery.proofs.transfers.judge_file.Goals as goal
 
 pub finish-requires-clause-text : goal.finish-requires-clause-text
 finish-requires-clause-text g c =
