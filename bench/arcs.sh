@@ -52,15 +52,10 @@ tell() {
     }'
 }
 
-# The count of the search: its own, or where the compiler wrote it into its callers, that of judging
-# a transfer without reading it.
+# The count of the search: its own, or where the compiler wrote it into its callers, theirs, which do
+# little else.
 search() {
-    local own
-    own=$(counted "$1" area_search::finding::find_area delivery::area_answers::answer_of)
-    if [ "$own" = 0 ]; then
-        own=$(( $(counted "$1" delivery::rows::judged_for delivery::rows::judged_for::) - $(counted "$1" delivery::transfers::read_transfer delivery::transfers::read_transfer::) ))
-    fi
-    echo "$own"
+    counted "$1" area_search::finding::find_area delivery::area_answers::answer_of delivery::rows::checked
 }
 
 for kind in cover arcs; do
