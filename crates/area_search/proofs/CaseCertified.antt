@@ -1,4 +1,4 @@
--- What is written of a case tells a run, labels, places and links that certify it.
+-- What is written of a case gives a run, labels, places and links that certify it.
 use Rattle.std.proofs.Common.{◌≡◌, inl, inr, ℕ, ◌<◌, List, [], length, map, slice_index, refl, sym, ap, subst, ◌∙◌, arith, pos}
 use Rattle.std.proofs.lemmas.List.{length-map}
 use Rattle.half_edges.specs.HalfEdges.{HalfEdges, next_of, prev_of, size}

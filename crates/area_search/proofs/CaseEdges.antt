@@ -44,7 +44,7 @@ get_same (z ∷ xs) (suc i) x y l = get_same xs i x y (omega (arith, l))
 pub nth_curve_is : (d : Plan) (i : ℕ) (c : Curve) → i < length d.curves → c ≡ get_or d.curves i c → c ≡ curve d i
 nth_curve_is d i c l e = e ∙ get_same d.curves i c _ l
 
--- what an owner's part tells of the edge's
+-- what an owner's part says of the edge's
 pub whole_part : (p : runs.Part) → part_of p ≡ part.Straight → p ≡ runs.whole
 whole_part runs.whole e = refl
 whole_part runs.inner e = absurd (let q : part.Inner ≡ part.Straight = e in cc)

@@ -1,4 +1,4 @@
--- The faces of the points of a case, and what they tell of points outside and of points in one face.
+-- The faces of the points of a case, and what they say of points outside and of points in one face.
 use Rattle.std.proofs.Common.{◌≡◌, ◌↔◌, inl, ℕ, zero, suc, ◌<◌, ◌≤◌, true, false, Option, Some, None, List, [], ◌∷◌, map, length, take, slice_index, refl, sym, ap, subst, ◌∙◌, arith, pos}
 use Rattle.std.proofs.lemmas.List.{length-map}
 use Rattle.half_edges.specs.HalfEdges.{HalfEdges}

@@ -1,4 +1,4 @@
--- What the faces beside the curves of a case tell of their sides.
+-- What the faces beside the curves of a case say of their sides.
 use Rattle.std.proofs.Common.{◌≡◌, ◌↔◌, ◌⊎◌, inl, inr, ℕ, ◌+◌, ◌<◌, Bool, true, false, not, Option, Some, None, List, [], length, slice_index, refl, sym, ap, subst, ◌∙◌, arith, pos}
 use Rattle.half_edges.specs.HalfEdges.{HalfEdges, size}
 use Rattle.plane.specs.CurveRuns.Levels.{AreFacesOfTubes, beside_inner, beside_outer}

@@ -206,7 +206,7 @@ module _ (s : Labelling) (g : Rooting s) where
   abbrev Told : Half → Type 0
   Told h = RootAt (d s) (level s) (r s) (numbers (name s)) g.places h
 
-  -- a half-edge of the run that is a root as it is told, and as the laws of the plane know it
+  -- a half-edge of the run that is a root as a case has it, and as the laws of the plane know it
   abbrev pub Root : Half → Type 0
   Root h = (edge_of h < m s) × Told h × IsFaceRoot (d s) (bays s) (r s) (name s) h
 

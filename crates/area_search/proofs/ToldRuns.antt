@@ -1,5 +1,5 @@
--- What notes and places tell of moves: a run with tubes over the edges of a drawing, and labels, places and links that certify it. Of the
--- moves of a timetable at claimed positions it is what a certificate tells.
+-- What notes and places say of moves: a run with tubes over the edges of a drawing, and labels, places and links that certify it. Of the
+-- moves of a timetable at claimed positions it is what a certificate says.
 use Rattle.std.proofs.Common.{◌≡◌, ◌⊎◌, inl, inr, ℕ, suc, ◌<◌, Bool, pos, List, [], length, get_or, refl}
 use Rattle.plane.specs.CurveRuns.CertifiedCurves.{CertifiedCurves, IsInCell, IsInTube}
 use Rattle.plane.specs.CurveRuns.TubedRuns.{IsOfTube, IsTubedRun, half_within, owned}
@@ -36,12 +36,12 @@ run_at d level vs = replay (pos 0) (length (edges_at d level)) (edge_at d level)
 abbrev pub within_at : Plan → ℕ → ℕ → Half
 within_at d level e = half_within d (drawn_bays d level) (edge_at d level) e
 
--- The point lies in a cell with the label of its number, and the place tells it.
+-- The point lies in a cell with the label of its number, and the place says so.
 pub record CellAt (d : Plan) (r : Replay) (lab : Labels) (places : List PointPlace) (j : ℕ) : Type 0 where
   pub cell : IsInCell r lab (object d j) (suc j)
   pub tells : place_in places j ≡ place.Cell cell.index
 
--- The point lies in a tube, with the label of its number outside the chain on its side of the circle, and the place tells it.
+-- The point lies in a tube, with the label of its number outside the chain on its side of the circle, and the place says so.
 pub record TubeAt (d : Plan) (level : ℕ) (inside outside : ℕ → ℕ) (places : List PointPlace) (j : ℕ) : Type 0 where
   pub tube : IsInTube d (drawn_bays d level) inside outside (object d j) (suc j)
   pub is_inside : Bool
@@ -53,7 +53,7 @@ pub record FacesTubeAt (d : Plan) (level : ℕ) (h : Half) : Type 0 where
   pub of_tube : IsOfTube (owned d (drawn_bays d level) (edge_of h)).part
   pub is : h ≡ within_at d level (edge_of h)
 
--- The place tells a cell in which the point lies, and the half-edge bounds it.
+-- The place gives a cell in which the point lies, and the half-edge bounds it.
 pub record BoundsCellAt (d : Plan) (r : Replay) (places : List PointPlace) (h : Half) (j : ℕ) : Type 0 where
   pub strip : ℕ
   pub index : ℕ
@@ -78,7 +78,7 @@ RootAt d level r lab places h =
 abbrev pub rank_in : List HalfNote → Half → ℕ
 rank_in notes h = (note_in notes h).rank
 
--- The moves are a complete run over the edges of the drawing at the level, and the notes and places tell labels, links and places that
+-- The moves are a complete run over the edges of the drawing at the level, and the notes and places give labels, links and places that
 -- certify it.
 pub record TellsRun (d : Plan) (level : ℕ) (vs : List Move) (notes : List HalfNote) (written : List PointPlace) (inside outside : ℕ → ℕ) (lead : Half → Lead) : Type 0 where
   pub run : IsTubedRun d (drawn_bays d level) (length (edges_at d level)) (edge_at d level) (steps_from [] vs)

@@ -21,7 +21,7 @@ pub record Stops {A : Type 0} (text : A → List ℕ) (P : A → Type 0) (bytes 
   pub whole : k ≤ lf_count bytes
   pub none : k < lf_count bytes → (y : A) → P y → (more z : List ℕ) → text y ++ more ≡ first_lines (suc k) bytes ++ z → ⊥
 
--- what is told of the line after the first k ones, where the first has the number n
+-- what is reported of the line after the first k ones, where the first has the number n
 pub data IsReported (bytes : List ℕ) (k n : ℕ) : CertFault → Type 0 where
   reported_line : (m : ℕ) → m ≡ n + k → length (first_lines k bytes) < length bytes → IsReported bytes k n (faults.Line m)
   reported_number : (m : ℕ) → m ≡ n + k → length (first_lines k bytes) < length bytes → IsReported bytes k n (faults.Number m)

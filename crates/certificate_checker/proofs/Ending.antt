@@ -1,4 +1,4 @@
--- What the marks and the mesh tell when all events are replayed, and the first rule that is broken.
+-- What the marks and the mesh say when all events are replayed, and the first rule that is broken.
 use Rattle.std.proofs.Common.{◌≡◌, ◌⊎◌, ℕ, ◌*◌, ◌<◌, ◌≤◌, inl, inr, Bool, true, None, List, [], length, get_or, refl, arith, ap, sym, ◌∙◌, subst, pos}
 use Rattle.plane.specs.Faces.Classes.{Across}
 use Rattle.plane.specs.Faces.Halves.{Half, half_of, number, over, under}

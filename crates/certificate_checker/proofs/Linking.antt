@@ -1,4 +1,4 @@
--- What the mesh and the marks tell of a half-edge's link.
+-- What the mesh and the marks say of a half-edge's link.
 use Rattle.std.proofs.Common.{◌≡◌, ◌↔◌, ◌⊎◌, ℕ, zero, suc, ◌+◌, ◌*◌, ◌<◌, ◌≤◌, inl, inr, Bool, true, false, IsTrue, List, [], ◌∷◌, length, get_or, refl, arith, ap, sym, ◌∙◌, subst}
 use Rattle.plane.specs.Faces.Halves.{Beside, Half, edge_of, half_of, mark, number, over, under}
 use Rattle.half_edges.specs.HalfEdges.{HalfEdges, next_of, prev_of, size}

@@ -8,7 +8,7 @@ use Rattle.certificate_checker.proofs.ListParts.{by_eq}
 use Rattle.certificate_checker.specs.Marked.{AreMarked, IsAtBorder, IsMarked, IsNamed, NamesAcross, OfSome}
 
 module _ (P : Gap → Half → Type 0) where
-  -- so far, and by the gaps that are left, as by all gaps from the begin
+  -- so far, and by the gaps that are left, as by all gaps from the beginning
   abbrev pub IsMarking : List Bool → List Gap → List Bool → List Gap → Type 0
   IsMarking now rest old all = (h : Half) → (IsMarked now h ⊎ OfSome P rest h) ↔ (IsMarked old h ⊎ OfSome P all h)
 

@@ -224,7 +224,7 @@ module _ (l : Layout) (rows : List (List Row)) where
       none : (d : Plan) → AreStraights d → IsUndecidedPlan d → ⊥
       none d s u = elim u.half_arc as (λ z. ⊥) [ inl n ↦ no_half_arc d u.first s n | inr n ↦ no_half_arc d u.second s n ]
 
--- what is held of answers, by whether one is a fault and whether one is left
+-- what is reported of answers, by whether one is a fault and whether one is left
 abbrev pub outcome_by : Layout → ℕ → Target → List AreaAnswer → List Plain → Bool → Bool → Outcome
 outcome_by l objects target xs cs b c =
     if b then reported status.Rejected (with_verdict (area_lines l l.areas xs) verdict.Rejected)

@@ -15,7 +15,7 @@ use Rattle.delivery.specs.Outcomes.{area_line, area_lines, trial_line, size_line
 use Rattle.delivery.specs.declared.report.lines.AreaAnswer.{AreaAnswer}
 use Rattle.delivery.specs.declared.report.lines.Line as code
 
--- nothing is left to be held
+-- nothing is left to be reported
 pub all_lines : (held rest all : List Line) → rest ≡ [] → held ++ rest ≡ all → held ≡ all
 all_lines held rest all e h = sym (append-nil held) ∙ ap (λ (s : List Line). held ++ s) (sym e) ∙ h
 
@@ -25,7 +25,7 @@ lines_end l (a ∷ as_) [] h = refl
 lines_end l (a ∷ as_) (x ∷ xs) (inl h) = absurd (cc)
 lines_end l (a ∷ as_) (x ∷ xs) (inr h) = absurd (cc)
 
--- one area more is held
+-- one area more is reported
 pub lines_more : (l : Layout) (all : List AreaOf) (a : AreaOf) (as_ : List AreaOf) (whole : List AreaAnswer) (x : AreaAnswer) (xs : List AreaAnswer) (old new : List code.Line) (line : code.Line) (result : List Line) → all ≡ a ∷ as_ → whole ≡ x ∷ xs
     → new ≡ old ++ line ∷ [] → line_of line ≡ area_line l (area_view a) x → lines_of old ++ area_lines l (areas_view all) whole ≡ result → lines_of new ++ area_lines l (areas_view as_) xs ≡ result
 lines_more l all a as_ whole x xs old new line result e f g h k =

@@ -1,4 +1,4 @@
--- What a certificate claims is claims by its text.
+-- What a certificate claims is known by its text.
 use Rattle.std.proofs.Common.{◌≡◌, ℕ, zero, suc, ◌*◌, List, [], ◌∷◌, length, refl, sym, ap, subst, arith}
 use Rattle.certificate.specs.Spelling.{ArePaired, pairs, view}
 use Rattle.certificate.specs.declared.notes.Certificate.{Certificate}

@@ -92,7 +92,7 @@ module _ (l : Layout) (text : List ℕ) (j : Judge) (h : HasText l text j) (last
       closed = s all ∙ ap (λ (f : LogicalLines). closed_rows (form_of l) f.lines) (sym found);
     }
 
--- what the code tells of a text that is at fault
+-- what the code answers to a text that is at fault
 pub kept_err : (l : Layout) (text : List ℕ) (fault : Option (ℕ × Structure)) (e : ReadRefusal) → Tells fault (Err e) → ((n : ℕ) (code : Structure) → fault ≡ Some (n, code) → IsRefused (form_of l) (lines_of l text) n code) → IsKept l text (Err e)
 kept_err l text fault (refusals.At line code) h r = r line (fault_of code) h
 kept_err l text fault refusals.Memory h r = tt

@@ -37,7 +37,7 @@ use Rattle.delivery.specs.ModelTexts.{Refusal, lex_refusal, end_refusal, token_r
 same_tokens : (text : List ℕ) (a b : List Token) → AreTokens text a → AreTokens text b → a ≡ b
 same_tokens text a b h k = let e = one_answer text 0 (tokens a) (tokens b) h k in cc
 
--- a fault of the tokens that a refusal tells
+-- a fault of the tokens that a refusal names
 given_fault : (text : List ℕ) (f : LexFault) (r : Refusal) → IsFault text f → lex_refusal f ≡ Some r → Gives text 0 (fault f)
 given_fault text (lexed.BadByte l c) r h e = h
 given_fault text (lexed.OpenExplanation l c) r h e = h
@@ -86,7 +86,7 @@ module _ (text : List ℕ) where
       let same : t ≡ u = cc in
       e ∙ ap (λ (x : SyntaxCode). token_refusal text x t) codes ∙ ap (token_refusal text d) same ∙ sym g
 
-  -- what the reader of the syntax tells of the tokens that it was given
+  -- what the reader of the syntax says of the tokens that it was given
   module _ (ts us : List Token) (f : SyntaxFault) (c : SyntaxCode) (k : Option ℕ) (are : AreTokens text ts) (same : us ≡ ts) (h : IsFirstFault (toks text us) f) (is : f ≡ parsed.At c k) where
     fault_there : (j : Option ℕ) → k ≡ j → IsFirstFault (toks text ts) (parsed.At c j)
     fault_there j e =

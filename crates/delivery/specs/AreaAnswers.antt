@@ -28,7 +28,7 @@ abbrev pub object_line : Plan → ℕ → ℕ
 object_line d j =
     (get_or d.points j (record { at = record { x = pos 0; y = pos 0 }; line = 0 })).line
 
--- a fault of the drawing, held by the lines of its curves and objects
+-- a fault of the drawing, by the lines of its curves and objects
 abbrev pub fault_answer : Plan → AreaFinding → AreaAnswer
 fault_answer d (fault.Meeting i j) = Meeting (curve_line d i) (curve_line d j)
 fault_answer d (fault.On j i) = On (object_line d j) (curve_line d i)
@@ -36,7 +36,7 @@ fault_answer d (fault.Outside j) = Outside (object_line d j)
 fault_answer d (fault.Two i j) = Two (object_line d i) (object_line d j)
 fault_answer d (fault.Empty i left) = Empty (curve_line d i) left
 
--- two curves that are not decided, or one named twice, held by their lines
+-- two curves that are not decided, or one named twice, by their lines
 abbrev pub undecided_answer : Plan → ℕ → ℕ → AreaAnswer
 undecided_answer d i j = Undecided (curve_line d i) (curve_line d j)
 

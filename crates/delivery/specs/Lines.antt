@@ -104,7 +104,7 @@ abbrev pub proof_text : ℕ → ℕ → ℕ → List ℕ
 proof_text level curves points =
     codes "PROVED " ++ decimal level ++ codes " " ++ decimal curves ++ codes " " ++ decimal points
 
--- curves and objects are held by their lines
+-- curves and objects are named by their lines
 abbrev pub area_text : AreaAnswer → List ℕ
 area_text (answer.Undecided first second) = codes "UNDECIDED " ++ pair_text first second
 area_text (answer.Meeting first second) = codes "MEETING " ++ pair_text first second

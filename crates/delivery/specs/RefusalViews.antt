@@ -34,17 +34,17 @@ abbrev pub IsSmallReading : Reading → Type 0
 IsSmallReading (readings.Syntax syntax) = IsWithinLimits (model_of syntax)
 IsSmallReading (readings.Refused r) = ⊤
 
--- a fault of the names and types is held so; out of memory is not held
+-- a fault of the names and types is refused so; out of memory is no refusal
 abbrev pub IsNameRefusal : ModelFault → Refusal → Type 0
 IsNameRefusal (faults.At code name) r =
     r ≡ name_refusal (record { code = code; name = ident_of name })
 IsNameRefusal faults.Memory r = ⊥
 
--- the first broken rule is held
+-- the refusal names the first broken rule
 abbrev pub NamesFirstBroken : ModelSyntax → Refusal → Type 0
 NamesFirstBroken m r = (f : Fault) × IsFirstBroken m f × (r ≡ name_refusal f)
 
--- the tables of what the syntax stands for are laid out so, or the first broken rule is held
+-- the tables of what the syntax stands for are laid out so, or the first broken rule is named
 abbrev pub IsLaidOut : ModelSyntax → ModelReading → Type 0
 IsLaidOut m (models.Laid layout) =
     (model : ResolvedModel) × BreaksNone m × IsModel m model

@@ -18,13 +18,14 @@ use crate::word::Word;
 use ports::{Shelf, Sink};
 use std::alloc::Global;
 
-/// HasEffects what the words ask for, over files by name and an output, and answers with a status
-/// whose number is the exit status of the program.
+/// Does what the words ask for, over files by name and an output, and answers with a status whose
+/// number is the exit status of the program.
 ///
 /// `words` are those after the program's name. The files that a command reads are read whole, in
 /// pieces of 65,536 bytes: 4,194,304 bytes are the limit for a model, 268,435,456 for a transfer,
-/// and at most a piece more is read. The verdict is fixed before anything is written. Out of
-/// memory is the one answer without a cause. It never comes after the first write.
+/// 1,073,741,824 for certificates, and at most a piece more is read. The verdict is fixed before
+/// anything is written. Out of memory is the one answer without a cause. It never comes after the
+/// first write.
 pub fn run<S: Shelf, K: Sink>(alloc: Global, words: &[Word], shelf: &mut S, out: &mut K) -> Status
     // The cause of the answer: the headline.
     ensures cause { HasCause (S.held shelf.old)

@@ -1,4 +1,4 @@
-// IsFiled certificates, judged against the drawings of a layout's areas.
+// Filed certificates, judged against the drawings of a layout's areas.
 ghost use Rattle.std.specs.Prelude.{◌≡◌, ◌↔◌, ℕ, List, ◌<◌, ◌≤◌, ◌^◌, length, IfOk, IsTrue};
 ghost use Rattle.std.specs.List.{AllByRecursion};
 ghost use Rattle.certificate.specs.Spelling.{ArePaired, view, views};

@@ -23,8 +23,9 @@
 //!   undefined and the words are a value of the form (`Meets`). Where nothing is found, each vertex
 //!   and each point of an area lies in its window, and each arc is one (`clean_places`). Rows that
 //!   are judged one after another have the findings of the whole transfer (`fed_values`).
-//! - **What it asks.** `check_values` takes a valid layout, as `layout` gives it, and a transfer
-//!   that was read for it. Rows of tables that the layout lacks are not looked at.
+//! - **What it asks.** `check_values` asks for a valid layout, as `layout` gives it. It is made for
+//!   a transfer that was read for this layout, but does not ask for that: rows of tables that the
+//!   layout lacks are not looked at.
 //! - **Not here:** whether identifications and IDENT values repeat, and whether a reference names a
 //!   row. By its form each word is an identification.
 //! - **Degenerate cases:** a row may have no word and a vertex no field. A line of one vertex has

@@ -173,7 +173,7 @@ module _ (mesh : HalfEdges) (cells : List Gap) (is : IsMesh mesh) (known : AreKn
       whole (x ∷ xs) zero l = absurd (omega (arith, l))
       whole (x ∷ xs) (suc k) l = ap (λ (ys : List ℕ). x ∷ ys) (whole xs k (omega (arith, l)))
 
--- ---- at the begin, when the face at the border has spread
+-- ---- at the beginning, when the face at the border has spread
 module _ (mesh : HalfEdges) (cells : List Gap) (b s : Search) (first : HasSearched mesh cells b) (begun : b.passed ≡ 0) (waiting : IsWaiting b 0) (border : (h : ℕ) → AtBorder cells h → get_or b.faces.items h 0 ≡ 0)
     (searched : HasSearched mesh cells s) (done : s.passed ≡ length s.queue.items) (kept : IsKept b.faces.items s.faces.items) (given : IsGiven 0 b.faces.items s.faces.items) where
   zero_kept : (g : ℕ) → get_or b.faces.items g 0 ≡ 0 → get_or s.faces.items g 0 ≡ 0

@@ -1,4 +1,4 @@
--- The fault that a run of the machine tells is the first fault, and there is only one.
+-- The fault that a run of the machine gives is the first fault, and there is only one.
 use Rattle.std.proofs.Common.{◌≡◌, ℕ, suc, ◌+◌, ◌<◌, ◌≤◌, List, [], ◌∷◌, ◌++◌, length, take, drop, Some, None, refl, sym, ap, ◌∙◌, subst, arith, append_assoc, append-nil, Bool, true, false, nat_lt, ◌-◌, length-take-le, take-add}
 use Rattle.std.proofs.lemmas.Bool.{ltb-true, ltb-false}
 use Rattle.std.proofs.lemmas.List.{drop_all, take-append-drop, append_cancel_right}
@@ -26,7 +26,7 @@ by_lt {P} a b f g = of (nat_lt a b) refl
     of true e = f (ltb-true a b e)
     of false e = g (ltb-false a b e)
 
--- ---- what the machine tells is the first fault
+-- ---- what the machine gives is the first fault
 front_is : (all p : List Tok) (k : ℕ) → all ≡ p ++ drop k all → p ≡ take k all
 front_is all p k e = append_cancel_right p (take k all) (drop k all) (sym e ∙ sym (take-append-drop k all))
 

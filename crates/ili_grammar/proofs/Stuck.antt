@@ -1,4 +1,4 @@
--- Where a symbol takes no step by the first token, the fault there is told with its code.
+-- Where a symbol takes no step by the first token, the fault there has its code.
 use Rattle.std.proofs.Common.{◌≡◌, ℕ, zero, suc, List, [], ◌∷◌, ◌++◌, Option, Some, None, Bool, true, false, cond, refl, sym, ap, ◌∙◌, subst, arith}
 use Rattle.std.proofs.lemmas.Bool.Decides.{nat_tests}
 use Rattle.std.specs.Str.{bytes_eq}

@@ -18,7 +18,7 @@ abbrev pub broken_after : ℕ → List Piece → Option LineFault
 broken_after last [] = Some (OpenContinue last)
 broken_after last (q ∷ ps) = if is_cont q.fields then fault_after q ps else Some (OpenContinue last)
 
--- whatever follows the group, its fault and its line are told by what is kept
+-- whatever follows the group, its fault and its line are known by what is kept
 pub record Opens (group : List Piece) (held : OpenLine) (last : ℕ) : Type 0 where
   pub fault : (rest : List Piece) → fault_of (group ++ rest) ≡ broken_after last rest
   pub line : (rest : List Piece) → line_of (group ++ rest) ≡ line_in (with_fields held (added_by rest))

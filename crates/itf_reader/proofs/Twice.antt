@@ -158,7 +158,7 @@ body_stays f (last earlier) Ende n fs = stays (last earlier) (done earlier) refl
 body_stays f (done earlier) w n fs = λ u h k. absurd cc
 body_stays f s w n fs = λ u h k. absurd cc
 
--- what is told of the lines after is told of these too
+-- what is named in the lines after is named in these too
 abbrev ok_at : State → Result State Code
 ok_at s = Ok s
 

@@ -5,17 +5,18 @@
 //! A crate above may use the clauses of the traits alone; a test may also use what
 //! `MemoryShelf` and `MemorySink` promise beyond them.
 //!
-//! - **What a contract sees.** A shelf has `held`, a map from names to bytes where it says
-//!   them, a count of failed reads for each name, and one count of failed writes. A sink has
-//!   `written`, where it gives it, and one count of faults. A shelf or sink that gives its bytes
-//!   goes on telling them. No count ever falls; each stays at 2^64 - 1 once it is there.
+//! - **What a contract sees.** A shelf has `held`, a map from names to bytes, where it says what
+//!   it holds, a count of failed reads for each name, and one count of failed writes. A sink has
+//!   `written`, where it says what was written, and one count of faults. A shelf or a sink that
+//!   says so before a call says so after it. No count ever falls; each stays at 2^64 - 1 once it is
+//!   there.
 //! - **When a call fails.** `Failed` comes only where the count of that call rose (`Rose`).
 //!   Then a prefix of the bytes may have been added, or a file that was to be started may be
 //!   empty; no file of another name has changed.
 //! - **In memory** (`MemoryShelf`, `MemorySink`) all bytes are known, chosen calls fail, and the
 //!   contracts say exactly when a call fails and how much room there is without a refusal.
-//! - **Real files and standard output** (`RealShelf`, `RealSink`) give no bytes. They are a few
-//!   lines over std, and what they read or write is trusted, not proved.
+//! - **Real files and standard output** (`RealShelf`, `RealSink`) never say what they hold. They
+//!   are a few lines over std, and what they read or write is trusted, not proved.
 //! - **Names.** `Name` owns the bytes of a name, `Key` borrows them as the key of a map. A contract
 //!   sees both as lists of bytes.
 //! - **Sorted keys.** `SortedKeys` has the keys of a column in order and finds the first element

@@ -1,4 +1,4 @@
--- The domains of a scope, one rule told after the other.
+-- The domains of a scope, judged by one rule after the other.
 use Rattle.std.proofs.Common.{◌≡◌, ℕ, List, ◌++◌, map, Option, ap, sym, ◌∙◌}
 use Rattle.std.specs.List.{flat_map}
 use Rattle.ili_grammar.specs.Syntax.{Ident, DomainSyntax}

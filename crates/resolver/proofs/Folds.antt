@@ -14,7 +14,7 @@ list_behind {X} i xs x lt at = drop-cons xs i x lt ∙ ap (λ (y : X). y ∷ dro
 pub list_from : {X : Type 0} (i : ℕ) (xs read : List X) (x : X) → read ≡ xs → i < length read → x ≡ get_or read i x → drop i xs ≡ x ∷ drop (i + 1) xs
 list_from {X} i xs read x r lt at = ap (λ (l : List X). drop i l) (sym r) ∙ list_behind i read x lt at ∙ ap (λ (l : List X). x ∷ drop (i + 1) l) r
 
--- what is at fault in one more part of a list was told
+-- what is at fault in one more part of a list was reported
 pub told_over : {X : Type 0} (part : List X → List Fault) (i : ℕ) (xs read : List X) (x : X) (here : List Fault) (before after : Option Fault)
     → ((rest : List X) → part (x ∷ rest) ≡ here ++ part rest) → read ≡ xs → i < length read → x ≡ get_or read i x → after ≡ first_from before here
     → first_from after (part (drop (i + 1) xs)) ≡ first_from before (part (drop i xs))

@@ -34,7 +34,7 @@ twice_alike b d (e ∷ es) h =
     ∙ ap (λ (fs : List Fault). fault_if (is_among e.key d) code.Twice e.name ++ fs)
     (twice_alike (b ++ (e.key ∷ [])) (d ++ (e.key ∷ [])) es (λ q. any_append (same q) b (e.key ∷ []) ∙ ap (λ (t : Bool). t || is_among q (e.key ∷ [])) (h q) ∙ sym (any_append (same q) d (e.key ∷ []))))
 
--- one more name was fault_in, and is kept
+-- one more name was judged, and is kept
 pub key_told : (before kept : List (List ℕ)) (key : List ℕ) (name : Ident) (best after : Option Fault) (rest : List Entry)
     → after ≡ first_from best (fault_if (is_among key before) code.Twice name) → kept ≡ insert_key (pointwise nat_eq) before key
     → first_from after (twice kept rest) ≡ first_from best (twice before (record { key = key; name = name } ∷ rest))
@@ -45,7 +45,7 @@ key_told before kept key name best after rest t k =
     (twice_alike (insert_key (pointwise nat_eq) before key) (before ++ (key ∷ [])) rest (λ q. among_insert before key q))
     ∙ sym (first_append best (fault_if (is_among key before) code.Twice name) (twice (before ++ (key ∷ [])) rest))
 
--- one more part of a list of names was told
+-- one more part of a list of names was judged
 pub entries_told : (here behind rest : List Entry) (kept before : List (List ℕ)) (best after : Option Fault)
     → ((more : List Entry) → first_from after (twice kept more) ≡ first_from best (twice before (here ++ more)))
     → first_from after (twice kept (behind ++ rest)) ≡ first_from best (twice before ((here ++ behind) ++ rest))

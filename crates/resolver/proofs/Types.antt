@@ -1,4 +1,4 @@
--- Types and lines, one part told after the other.
+-- Types and lines, one part judged after the other.
 use Rattle.std.proofs.Common.{◌≡◌, ℕ, ◌+◌, ◌<◌, List, ◌++◌, length, drop, get_or, Option, refl, ap, sym, subst, ◌∙◌}
 use Rattle.std.specs.Option.{option_map}
 use Rattle.ili_grammar.specs.declared.syntax.Element as element
@@ -27,7 +27,7 @@ attribute_out = fold_out-AttributeSyntax Content TypeSyntax AttributeSyntax Line
 pub line_out : (l : line.LineSyntax) → line_of l ≡ a_line (record { straights = (out-LineSyntax l).straights; arcs = (out-LineSyntax l).arcs; vertex = ident_of (out-LineSyntax l).vertex; overlap = option_map decimal_of (out-LineSyntax l).overlap }) (attributes_of (out-LineSyntax l).attributes.items) (lists_of (out-LineSyntax l).idents.items)
 line_out = fold_out-LineSyntax Content TypeSyntax AttributeSyntax LineSyntax content_step type_step attribute_step line_step
 
--- the elements of a list were fault_in, and now the lists within them
+-- the elements of a list were judged, and now the lists within them are
 pub parts_begin : (e : element.Element) (read : List element.Element) (before after : Option Fault) → read ≡ (out-Element e).parts.items
     → after ≡ first_from before (twice_in (element_names (elements_of read)))
     → first_from after (parts_faults (elements_of (out-Element e).parts.items)) ≡ first_from before (element_faults (element_of e))
@@ -37,7 +37,7 @@ parts_begin e read before after r t =
     ∙ sym (first_append before (twice_in (element_names (elements_of parts))) (parts_faults (elements_of parts)))
     ∙ ap (λ (x : Element). first_from before (element_faults x)) (sym (element_out e))
 
--- a line's vertices, names and own lines were fault_in, and now its attributes
+-- a line's vertices, names and own lines were judged, and now its attributes are
 pub line_begin : (s : Scope) (owner : Ident) (shape : Shape) (l : line.LineSyntax) (reads : List attribute.AttributeSyntax) (lists : List list.IdentList) (rest : List attribute.AttributeSyntax) (before vertex names lines : Option Fault)
     → reads ≡ (out-LineSyntax l).attributes.items → lists ≡ (out-LineSyntax l).idents.items → rest ≡ (out-LineSyntax l).attributes.items
     → vertex ≡ first_from before (vertex_faults s owner shape (ident_of (out-LineSyntax l).vertex) (option_map decimal_of (out-LineSyntax l).overlap))

@@ -1,5 +1,5 @@
--- What a model without fault stands for. Where a rule is broken it is some model, which nobody
--- sees.
+-- What a model without fault stands for. Where a rule is broken it is some model, which is never
+-- answered.
 use Rattle.std.specs.Prelude.{ℕ, ℤ, pos, unsigned_abs, Bool, cond, ◌||◌, List, map, Option, Some}
 use Rattle.std.specs.Prelude.{None}
 use Rattle.std.specs.Option.{unwrap_or, option_map}

@@ -30,7 +30,7 @@ none_of : (fs gs : List Fault) → fs ++ gs ≡ [] → (fs ≡ []) × (gs ≡ []
 none_of [] gs e = (refl, e)
 none_of (f ∷ fs) gs e = absurd (omega (arith, ap (λ (l : List Fault). length l) e))
 
--- ---- what is not told twice is different
+-- ---- what is not reported as twice is different
 -- 1 for what passes
 abbrev once : Bool → ℕ
 once b = cond b 1 0
@@ -84,7 +84,7 @@ different before (x ∷ es) all e =
 no_names : AreDifferent []
 no_names name = omega arith
 
--- names of which none stands again are not told twice
+-- names of which none stands again are not reported as twice
 not_twice : (before : List (List ℕ)) (es : List Entry) → ((n : Ident) → StandsAgain before es n → ⊥) → twice before es ≡ []
 not_twice before es none = go (twice before es) refl
   where

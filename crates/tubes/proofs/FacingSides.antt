@@ -147,7 +147,7 @@ edge_by_owned d level e l = mapped (runs.edge_list (drawn_bays d level) 0 d.curv
     mapped (o ∷ os) zero l = refl
     mapped (o ∷ os) (suc k) l = mapped os k (omega (arith, l))
 
--- ---- the side that two tests tell is that of the half-edge within
+-- ---- the side that two tests say is that of the half-edge within
 sides_agree : (e : ℕ) (p : runs.Part) (c : Curve) (x : Edge) → side_of (part_of p) c x ≡ facing_of p (runs.side_within (runs.third_is_left c) p (runs.runs_on c x) e)
 sides_agree e runs.whole c x = refl
 sides_agree e runs.inner c x = by_tests (runs.third_is_left c) (runs.runs_on c x)

@@ -111,7 +111,7 @@ nothing_real gaps g e h r = elim (subst (λ xs. Has (sides g) xs) e (map_has gap
     wrong w = subst (λ (b : Bool). cond b ⊥ (Unit {0})) w tt
 
 -- ---- moves that leave nothing
--- what is closed was there at the begin or opened at some move, and the other way round
+-- what is closed was there at the beginning or opened at some move, and the other way round
 module _ (g : Gap) where
   pub closed_new : (k : ℕ) (now : List ℕ) (gaps : List Gap) (vs : List Move) → Has g (closed_from k now gaps vs)
       → (is_real g ≡ true) × (Has g gaps ⊎ ((j : ℕ) × (j < length vs) × Has g (opened (k + j) (get_or (steps_from now vs) j no_step))))

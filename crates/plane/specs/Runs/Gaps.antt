@@ -85,7 +85,7 @@ closed_from k now gaps (v ∷ vs) =
 abbrev pub no_gap : Gap
 no_gap = record { lower = None; upper = None; event = 0 }
 
--- of a replay from its begin
+-- of a replay from its beginning
 abbrev pub open_gaps : List Move → List Gap
 open_gaps vs = gaps_from 0 [] (no_gap ∷ []) vs
 

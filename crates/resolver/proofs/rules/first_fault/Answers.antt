@@ -14,7 +14,7 @@ use Rattle.resolver.proofs.Bounded.{bounded_outside}
 use Rattle.resolver.proofs.Within.{bounded_everywhere, bounded_topics}
 use Rattle.resolver.proofs.rules.first_fault.Goals as goal
 
--- what is wrong outside the topics was fault_in, and then what is wrong in them
+-- what is wrong outside the topics was reported, and then what is wrong in them
 all_told : (m : ModelSyntax) (above : List DomainSyntax) (topics : List TopicSyntax) (none outer all : Option Fault) → above ≡ everywhere m → topics ≡ m.topics → none ≡ None
     → outer ≡ first_from none (domains_faults (outside above))
     → all ≡ first_from outer (twice_in (map (λ t. t.name) topics) ++ flat_map (topic_faults above) topics) → all ≡ first_fault m
