@@ -27,7 +27,7 @@ use std::alloc::Global;
 /// anything is written. Out of memory is the one answer without a cause. It never comes after the
 /// first write.
 pub fn run<S: Shelf, K: Sink>(alloc: Global, words: &[Word], shelf: &mut S, out: &mut K) -> Status
-    // The cause of the answer: the headline.
+    // The cause of the answer: the main claim.
     ensures cause { HasCause (S.held shelf.old)
         (ReadRose (S.read_faults shelf.old) (S.read_faults shelf.new))
         words.now result }

@@ -1,5 +1,5 @@
-// Laws of meshes of events. Who replays a run keeps `IsTurned` by them, and reads `next` at its
-// end.
+// Laws of meshes of events. A program that replays a run keeps `IsTurned` by them, and reads `next`
+// at its end.
 ghost use Rattle.std.specs.Prelude.{◌≡◌, ◌↔◌, ℕ, ℤ, suc, ◌<◌, ◌^◌, ◌≤◌, List, [], length, map};
 ghost use Rattle.std.specs.Prelude.{get_or, slice_index, take};
 ghost use Rattle.plane.specs.declared.kinds.Edge.{Edge};

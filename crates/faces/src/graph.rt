@@ -1,4 +1,4 @@
-// What a search walks on.
+// What a search goes over.
 ghost use Rattle.std.specs.Prelude.{◌≡◌, ◌^◌, ◌<◌, IfOk, length};
 ghost use Rattle.half_edges.specs.HalfEdges.{size};
 ghost use Rattle.half_edges.specs.Meshes.{IsMesh};

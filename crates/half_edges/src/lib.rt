@@ -1,4 +1,4 @@
-//! The half-edge mesh: the arena in which faces are walked.
+//! The half-edge mesh: half-edges by number, with the next and the previous one round each face.
 //!
 //! This layer turns edges between vertices, and for each vertex the order of the edges about it,
 //! into circles of half-edges, each of which bounds a face. It keeps the rule that a boundary is

@@ -1,4 +1,4 @@
-// The arena: four lists side by side, with one entry for each half-edge.
+// The mesh: four lists side by side, with one entry for each half-edge.
 ghost use Rattle.std.specs.Prelude.{◌≡◌, ◌≢◌, ℕ, ◌<◌, ◌≤◌, ◌+◌, ◌-◌, ◌/◌, ◌%◌, ◌^◌, ◌++◌, ◌∷◌, []};
 ghost use Rattle.std.specs.Prelude.{◌↔◌, length, slice_index, IfOk, OnOk, OnErr, IsTrue, vec_len};
 ghost use Rattle.std.specs.Prelude.{vec_capacity};

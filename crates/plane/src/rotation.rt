@@ -40,8 +40,8 @@ pub fn next_half_edge_is_clockwise()
         → Run m E steps → Next (replay w m E steps) h g → Next (replay w m E steps) f g → h ≡ f }
 {}
 
-/// Two neighbours of a live list see each other across a cell; the first edge of the list and the
-/// last one touch the border.
+/// Two neighbours of a live list have a cell between them; the first edge of the list and the last
+/// one are at the border.
 pub fn neighbours_are_across()
     ensures across { (w : ℤ) (m : ℕ) (E : ℕ → Edge) (steps : List Step) (k i d e : ℕ)
         → k ≤ length steps → At ((replay w m E steps).list k) i d
@@ -70,8 +70,8 @@ pub fn connected_half_edges_are_one_class()
         → IsBorder (replay w m E steps) c ⊎ ((h : Half) × Beside (replay w m E steps) h c) }
 {}
 
-/// Who follows the links comes to a root of the same face. Along a link the label stays and the
-/// rank falls, so links end, at a root of the same label in the same class.
+/// Links lead to a root of the same face. Along a link the label stays and the rank falls, so links
+/// end, at a root of the same label in the same class.
 pub fn falling_links_lead_to_roots()
     ensures { (w : ℤ) (m : ℕ) (E : ℕ → Edge) (steps : List Step) (label rank : Half → ℕ)
         (link : Half → Lead) (root : Half → Bool) (h : Half)
