@@ -10,7 +10,7 @@ pub record Leads (f : ℕ → ℕ) (g h : ℕ) : Type 0 where
   pub count : ℕ
   pub there : steps f count g ≡ h
 
--- the circles of f part the numbers below n: to lead to each other is an equivalence among them
+-- the cycles of f part the numbers below n: to lead to each other is an equivalence among them
 pub record Parts (f : ℕ → ℕ) (n : ℕ) : Type 0 where
   pub within : (g h : ℕ) → g < n → Leads f g h → h < n
   pub itself : (h : ℕ) → h < n → Leads f h h

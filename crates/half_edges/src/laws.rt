@@ -21,13 +21,13 @@ pub fn turning()
         → origin_of m (turned m h) ≡ origin_of m h }
 {}
 
-/// The circles of `next` part the half-edges, and so do those of `next` of `twin`.
+/// The cycles of `next` part the half-edges, and so do those of `next` of `twin`.
 pub fn circles()
     ensures of_next { (m : HalfEdges) → IsMesh m → Parts (next_of m) (size m) }
     ensures of_turning { (m : HalfEdges) → IsMesh m → Parts (turned m) (size m) }
 {}
 
-/// Once a vertex is linked, the half-edges that begin there form one circle of `next` of `twin`:
+/// Once a vertex is linked, the half-edges that begin there form one cycle of `next` of `twin`:
 /// the list, backwards.
 pub fn one_circle()
     ensures given { (old new : HalfEdges) (around : List ℕ) → IsLinked old new around
@@ -63,7 +63,7 @@ pub fn unlinked()
         → IsLoose m around }
 {}
 
-/// A number that each half-edge shares with its `next` is the same along each circle of `next`.
+/// A number that each half-edge shares with its `next` is the same along each cycle of `next`.
 pub fn along()
     ensures { (m : HalfEdges) (numbers : List ℕ) (g h : ℕ) → IsMesh m → AgreesAlong m.next numbers
         → g < size m → Leads (next_of m) g h → slice_index numbers g ≡ slice_index numbers h }

@@ -1,7 +1,7 @@
 //! The half-edge mesh: half-edges by number, with the next and the previous one round each face.
 //!
 //! This layer turns edges between vertices, and for each vertex the order of the edges about it,
-//! into circles of half-edges, each of which bounds a face. It keeps the rule that a boundary is
+//! into cycles of half-edges, each of which bounds a face. It keeps the rule that a boundary is
 //! closed: every half-edge has one `next` and one `prev`, and each undoes the other.
 //!
 //! - **Half-edges.** Edge e has two: 2e runs from the edge's high vertex to its low one and has
@@ -23,9 +23,9 @@
 //!   parts that are not connected. An edge from a vertex to itself is ruled out by the
 //!   condition of `add_edge`.
 //! - **Laws** (`laws`), for the layers above: the half-edges that begin at a linked vertex form one
-//!   circle of `next` of `twin`, which is the list backwards; linking one vertex leaves the
-//!   others as they are; the circles of `next` part the half-edges; what agrees along `next` is
-//!   the same along each circle.
+//!   cycle of `next` of `twin`, which is the list backwards; linking one vertex leaves the
+//!   others as they are; the cycles of `next` part the half-edges; what agrees along `next` is
+//!   the same along each cycle.
 //!
 //! Cost: four lists of `u32` side by side, 16 bytes a half-edge, and of the vertices only their
 //! number. `new` takes no memory for them yet, `add_edge` is amortised constant,

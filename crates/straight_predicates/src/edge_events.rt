@@ -24,7 +24,7 @@ impl Timetable {
     ghost use Rattle.straight_predicates.specs.EdgeLists.{edge_of};
     ghost use Rattle.straight_predicates.specs.Tables.{table_of};
 
-    /// The events of these edges' ends, of which this is the timetable. The only error is want of
+    /// The events of these edges' ends, of which this is the timetable. The only error is out of
     /// memory. It takes time linear in the edges, and 8 bytes for each.
     pub fn edge_events(&self, alloc: Global, edges: &[Edge]) -> Result<EdgeEvents, Memory>
         requires { IsTimetable (length edges.now) (edge_of edges.now) (table_of self.now) }

@@ -16,7 +16,7 @@ use ports::{Memory, Name};
 use resolver::{ResolvedModel, Topic};
 use std::alloc::Global;
 
-/// The tables, columns, lines, IDENT lists and areas of a resolved model. The only error is want
+/// The tables, columns, lines, IDENT lists and areas of a resolved model. The only error is out
 /// of memory. Time and memory are in proportion to the model.
 pub fn layout(alloc: Global, model: &ResolvedModel) -> Result<Layout, Memory>
     requires { IsSound (model_of model.now) }

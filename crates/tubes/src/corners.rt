@@ -19,7 +19,7 @@ use std::alloc::Global;
 
 /// The first event at which a corner of a tube, other than the ends of its half arc, is an end of
 /// another curve's edge; of the list of the drawing's edges at some level. `low` and `high` have
-/// the events at the low and at the high ends of the edges, by number. The only error is want of
+/// the events at the low and at the high ends of the edges, by number. The only error is out of
 /// memory. It takes two passes over the edges and 4 bytes for each event, and nothing of that for a
 /// drawing of straights.
 pub fn foreign_corner(
