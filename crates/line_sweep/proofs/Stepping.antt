@@ -1,4 +1,4 @@
--- From one event of a sweep to the next, and its begin and end.
+-- From one event of a sweep to the next, and its beginning and end.
 use Rattle.std.proofs.Common.{◌≡◌, ℕ, suc, inl, inr, Some, ◌+◌, ◌<◌, ◌≤◌, List, [], ◌∷◌, ◌++◌, length, map, take, drop, filter, get_or, refl, arith, ap, sym, ◌∙◌, subst, add-one, All, drop_of_length-le}
 use Rattle.std.proofs.lemmas.List.{append-nil, length-map}
 use Rattle.plane.specs.declared.kinds.Edge.{Edge}

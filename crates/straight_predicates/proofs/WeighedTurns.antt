@@ -1,4 +1,4 @@
--- Turns between three points that all come after one point chain.
+-- Turns about one point are transitive, for three points that all come after it.
 use Rattle.std.proofs.Common.{◌≡◌, ◌⊎◌, ℤ, pos, ◌+ℤ◌, ◌*ℤ◌, ◌-ℤ◌, ◌<ℤ◌, ◌≤ℤ◌, inl, inr, [], ◌∷◌, refl, arith, ap}
 use Rattle.std.proofs.lemmas.Int.{ints}
 use Rattle.plane.specs.declared.kinds.Point.{Point}

@@ -1,5 +1,5 @@
 -- A swept run by numbers: its steps, its live lists, and each moment of it.
--- This is the bridge from lists of steps that are done and to do to steps by number.
+-- It leads from lists of steps that are done and to do to steps by number.
 use Rattle.std.proofs.Common.{◌≡◌, ℕ, zero, suc, ◌+◌, ◌-◌, ◌<◌, ◌≤◌, List, [], ◌∷◌, length, get_or, ℤ, ◌<ℤ◌, refl, arith, ap, sym, ◌∙◌, inl, inr, subst}
 use Rattle.plane.specs.declared.kinds.Point.{Point}
 use Rattle.plane.specs.Lists.{Has}
