@@ -28,7 +28,7 @@ use tubes::{EdgeList, facings};
 /// The answer to a drawing by a complete run of its edges at the least level that settles it: its
 /// first fault, or a certificate with empty names. The only error is out of memory. It takes what
 /// placing the points, the mesh, its faces and the links of a certificate take, one after another;
-/// before the mesh is made, the edges are let go, and before its faces are labelled the events of
+/// before the mesh is made, the edges are freed, and before its faces are labelled the events of
 /// the run.
 pub(crate) fn finish(
     alloc: Global,
@@ -84,7 +84,7 @@ pub(crate) fn answer_case(
     }
 }
 
-/// Where the objects' points of the case lie, by its edges, which are then let go, and their run.
+/// Where the objects' points of the case lie, by its edges, which are then freed, and their run.
 fn spots_of_run(
     alloc: Global,
     case: &Case,
@@ -132,7 +132,7 @@ fn answer_placed(
     answer_outlined(alloc, case, spots, &labelled, &cells, positions)
 }
 
-/// The cells of a run, whose events are let go.
+/// The cells of a run, whose events are freed.
 fn cells_alone(swept: Swept) -> Vec<Cell>
     ensures { result.items ≡ swept.cells.items }
 {

@@ -20,8 +20,8 @@
 //!   before the edges of a level above 0 are listed (`missing_tubes`). Of a drawing that a level
 //!   settles, with a complete run of its edges at that level (`finishing`): one replay of the run
 //!   for the places of the points, which say for each whether it lies on a curve, in the tube of a
-//!   half arc or in a cell (`spots`), after which the edges are let go but for what they stand for;
-//!   one for the mesh of its half-edges, after which the events of the run are let go but for their
+//!   half arc or in a cell (`spots`), after which the edges are freed but for what they stand for;
+//!   one for the mesh of its half-edges, after which the events of the run are freed but for their
 //!   positions; the faces of the mesh by what its cells join, and those beside each curve
 //!   (`case_sides`); and links from each half-edge to the border, a tube or a point. What the
 //!   certificate says is what the run, the places, the faces and the links are;
