@@ -1,10 +1,10 @@
 #!/usr/bin/env bash
 # Counts what half arcs cost `check` of the built program, in instructions as `callgrind` counts
-# them, beside a plain C++ sweep over the straights and the chords of the half arcs, whose reading of
-# numbers is taken away. On a delivery that level 0 settles: the edge list with its tubes, the sweep
-# of the edges, the test of the corners and of the cells, all of the search. On the same one with a
-# bad pair: the search of bad pairs with a half arc. On the same one with a half arc that has no
-# tube: the levels from 1 to 5. Prints ratios, no absolute counts.
+# them, beside a plain C++ sweep over the straights and the chords of the half arcs, whose reading
+# of numbers is taken away. On a delivery that level 0 settles: the edge list with its tubes, the
+# sweep of the edges, the test of the corners and of the cells, all of the search. On the same one
+# with a bad pair: the search of bad pairs with a half arc. On the same one with a half arc that has
+# no tube: the levels from 1 to 5. Prints ratios, no absolute counts.
 #
 # usage: bench/arcs.sh [ITFCHECK [SIZE]]    (crates/itfcheck/out/itfcheck and 10000 where none is
 #                                           given; a run takes some minutes)
@@ -22,8 +22,8 @@ count() {
     callgrind_annotate --inclusive=yes --threshold=100 "$out.raw" > "$out"
 }
 
-# The inclusive count of the first of these functions that is named: what the compiler wrote into its
-# caller has no count of its own. With a name that ends in two colons, of all of its instances.
+# The inclusive count of the first of these functions that is named: what the compiler wrote into
+# its caller has no count of its own. With a name that ends in two colons, of all of its instances.
 counted() {
     python3 - "$@" <<'PY'
 import re, sys
@@ -52,8 +52,8 @@ tell() {
     }'
 }
 
-# The count of the search: its own, or where the compiler wrote it into its callers, theirs, which do
-# little else.
+# The count of the search: its own, or where the compiler wrote it into its callers, theirs, which
+# do little else.
 search() {
     counted "$1" area_search::finding::find_area delivery::area_answers::answer_of delivery::rows::checked
 }

@@ -20,8 +20,8 @@ usage: drawings.py grid N FOLDER        N by N squares, two N (N + 1) straights
 
 FOLDER gets `model` and `transfer`, which `check` accepts where nothing else is said, and the same as
 32-bit numbers in units of a millimetre: `straights`, x and y of the start, x and y of the end,
-`arcs`, x and y of the start, of the place on the arc and of the end, `chords`, the straights and the two chords of each arc, and
-`points`, x and y. The same arguments give the same bytes.
+`arcs`, x and y of the start, of the place on the arc and of the end, `chords`, the straights and the
+two chords of each arc, and `points`, x and y. The same arguments give the same bytes.
 """
 import os
 import random

@@ -1,7 +1,7 @@
 #!/usr/bin/env bash
 # Refuses each growth of the built program in turn: a library in front of the C library's `malloc`,
-# `calloc` and `realloc` refuses the N-th of their calls, or the N-th and all behind it, for N from 1
-# until a run asks for fewer. `realloc` counts where it asks for more. Each run has to end with
+# `calloc` and `realloc` refuses the N-th of their calls, or the N-th and all behind it, for N from
+# 1 until a run asks for fewer. `realloc` counts where it asks for more. Each run has to end with
 # status 8, nothing written and no certificate file made or changed, or with what the run with no
 # refusal answers, byte for byte. It measures nothing, and stops at the first run that does neither.
 #

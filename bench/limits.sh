@@ -2,11 +2,11 @@
 # Runs `verify` of the built program on certificates, and `check` on transfers, that are legal or
 # almost legal and as dear as a text of their size can be. Beside them stands an ordinary file: the
 # certificate and the transfer of a grid of 500 by 500 squares. CPU time is that of a byte of the
-# text, as a multiple of a byte of the ordinary one; of a certificate it is what `verify` takes above
-# a run with an empty certificate. Peak memory is a multiple of the text, above an empty one. The
-# best of two runs counts. Last come many half arcs of which each second has a point in its tube at
-# level 5, beside the same ones with their points elsewhere. The aims: 10 times the time, 8 times the
-# text in memory.
+# text, as a multiple of a byte of the ordinary one; of a certificate it is what `verify` takes
+# above a run with an empty certificate. Peak memory is a multiple of the text, above an empty one.
+# The best of two runs counts. Last come many half arcs of which each second has a point in its tube
+# at level 5, beside the same ones with their points elsewhere. The aims: 10 times the time, 8 times
+# the text in memory.
 #
 # usage: bench/limits.sh [ITFCHECK [MIB]]     (crates/itfcheck/out/itfcheck, and texts of 64 MiB)
 . "$(dirname "${BASH_SOURCE[0]}")/begin.sh"

@@ -1,10 +1,10 @@
 #!/usr/bin/env bash
 # Runs `compile` of the built program on models in which one AREA domain with many attributes of
-# lines is used by many attributes: each use has a helper table with columns of its own, so a text of
-# some kilobytes asks for gigabytes. Without a limit it prints the peak memory beside the text, and
-# what a use of an attribute takes. Then memory is limited (`ulimit -v`), from so little that nothing
-# starts on: each run has to end with status 8 and no output, or with the answer of the run without a
-# limit, and `check` has to leave the file of the certificates as it was.
+# lines is used by many attributes: each use has a helper table with columns of its own, so a text
+# of some kilobytes asks for gigabytes. Without a limit it prints the peak memory beside the text,
+# and what a use of an attribute takes. Then memory is limited (`ulimit -v`), from so little that
+# nothing starts on: each run has to end with status 8 and no output, or with the answer of the run
+# without a limit, and `check` has to leave the file of the certificates as it was.
 #
 # usage: bench/model_memory.sh [ITFCHECK]      (crates/itfcheck/out/itfcheck where none is given)
 . "$(dirname "${BASH_SOURCE[0]}")/begin.sh"

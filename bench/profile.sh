@@ -1,7 +1,8 @@
 #!/usr/bin/env bash
 # Tells where the CPU time of `check` and `verify` goes, by crate and by function, as `perf record`
 # samples it on a grid of 500 by 500 squares. Time of the C library and of the kernel stands by
-# itself. A function that the compiler wrote into its caller counts for the caller, and so its crate.
+# itself. A function that the compiler wrote into its caller counts for the caller, and so its
+# crate.
 #
 # usage: bench/profile.sh [ITFCHECK]      (crates/itfcheck/out/itfcheck where none is given)
 . "$(dirname "${BASH_SOURCE[0]}")/begin.sh"

@@ -1,11 +1,11 @@
 #!/usr/bin/env bash
-# Runs `certificate_checker::check` alone over a drawing and its filed certificate: 501,000 straights
-# of a square grid and 900,600 of a drawing of parcels, beside a plain C++ sweep over the same
-# numbers. What reading the numbers and the certificate takes is measured by itself and taken away,
-# and what reading the numbers takes from the plain sweep. Memory is what `check` takes above the
-# drawing and the certificate, which are held before it begins. Then it runs over level strokes that
-# are all live at once, at two sizes: each event moves the part of the live list that is above it.
-# The certificates are made by `check` of the built program that is named, else by
+# Runs `certificate_checker::check` alone over a drawing and its filed certificate: 501,000
+# straights of a square grid and 900,600 of a drawing of parcels, beside a plain C++ sweep over the
+# same numbers. What reading the numbers and the certificate takes is measured by itself and taken
+# away, and what reading the numbers takes from the plain sweep. Memory is what `check` takes above
+# the drawing and the certificate, which are held before it begins. Then it runs over level strokes
+# that are all live at once, at two sizes: each event moves the part of the live list that is above
+# it. The certificates are made by `check` of the built program that is named, else by
 # plain_certificate.py; the program over `certificate_checker` is built in a scratch folder. Prints
 # ratios, no absolute times.
 #
@@ -20,8 +20,8 @@ scratch_crate verify_bench 'ports plane certificate certificate_checker' \
     certificate_checker
 cat > "$crate/src/main.rt" <<'END'
 // Reads straights and points as 32-bit numbers and a certificate, and checks it. With a word that
-// begins with r it only reads; with one that begins with w it opens the files `held` and `go` before
-// it checks, which are pipes that stop it there.
+// begins with r it only reads; with one that begins with w it opens the files `held` and `go`
+// before it checks, which are pipes that stop it there.
 #![tactic(auto)]
 
 ghost use Rattle.std.specs.Prelude.{IsTrue};

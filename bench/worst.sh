@@ -1,8 +1,8 @@
 #!/usr/bin/env bash
-# Runs `check` and `verify` of the built program on drawings that are made to be hard: straights that
-# are all live at once, one vertex for all, upright straights alone, a comb. Each stands beside
-# parcels with about as many straights. One run each; prints CPU time and peak memory, and the
-# time beside that of the parcels.
+# Runs `check` and `verify` of the built program on drawings that are made to be hard: straights
+# that are all live at once, one vertex for all, upright straights alone, a comb. Each stands beside
+# parcels with about as many straights. One run each; prints CPU time and peak memory, and the time
+# beside that of the parcels.
 #
 # usage: bench/worst.sh [ITFCHECK]      (crates/itfcheck/out/itfcheck where none is given)
 . "$(dirname "${BASH_SOURCE[0]}")/begin.sh"
