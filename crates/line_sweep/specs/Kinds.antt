@@ -1,8 +1,10 @@
 -- Events and cells without where they lie in memory.
-use Rattle.std.specs.Prelude.{◌≡◌, ℕ, ◌<◌, ⊤, List, [], ◌∷◌, length, map}
+use Rattle.std.specs.Prelude.{◌≡◌, ℕ, ◌<◌, ◌≤◌, ◌-◌, ⊤, List, [], ◌∷◌, length, map, slice_index_or}
 use Rattle.plane.specs.declared.kinds.Edge.{Edge}
+use Rattle.plane.specs.declared.kinds.Point.{Point}
 use Rattle.plane.specs.Forms.Meets.{Bad}
-use Rattle.plane.specs.Runs.Moves.{Move}
+use Rattle.plane.specs.Forms.Vectors.{Before}
+use Rattle.plane.specs.Runs.Moves.{Move, no_move}
 use Rattle.plane.specs.Runs.Gaps.{Gap}
 use Rattle.plane.specs.Runs.Timetables.{Timed}
 use Rattle.straight_predicates.specs.EdgeLists.{edge_of}
@@ -26,6 +28,14 @@ moves_at_blocks [] blocks = []
 moves_at_blocks (t ∷ table) [] = []
 moves_at_blocks (t ∷ table) (b ∷ blocks) =
     move_at_block t b.position b.count ∷ moves_at_blocks table blocks
+
+-- The event before that number comes before the point, and the one of that number does not. In a
+-- list whose events are in order there is one such number: that of the first event which does not
+-- come before the point, or that of all events.
+pub record IsFirstFrom (moves : List Move) (at : Point) (n : ℕ) : Type 0 where
+  pub within : n ≤ length moves
+  pub earlier : 0 < n → Before (slice_index_or moves (n - 1) no_move).at at
+  pub rest : n < length moves → Before (slice_index_or moves n no_move).at at → ⊥
 
 abbrev pub gap_of : Cell → Gap
 gap_of c = record { lower = c.lower; upper = c.upper; event = c.event }

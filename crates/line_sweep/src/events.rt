@@ -2,7 +2,7 @@
 ghost use Rattle.std.specs.Prelude.{◌≡◌, ◌<◌, ◌≤◌, length, slice_index_or, List};
 ghost use Rattle.plane.specs.Runs.Moves.{no_move};
 ghost use Rattle.straight_predicates.specs.Tables.{table_of};
-ghost use Rattle.line_sweep.specs.Kinds.{move_of, moves_at_blocks};
+ghost use Rattle.line_sweep.specs.Kinds.{IsFirstFrom, move_of, moves_at_blocks};
 
 use plane::Point;
 use std::marker::Model;
@@ -86,10 +86,10 @@ impl Events {
         }
     }
 
-    /// The number of the first event that does not come before the point, or that of all events,
-    /// by a search among them.
+    /// Of events in order, the number of the first that does not come before the point, or that of
+    /// all events where each comes before it; by binary search.
     pub fn first_from(&self, at: Point) -> u32
-        ensures { result ≤ length self.now }
+        ensures { IsFirstFrom self.now at result }
     {
         let mut first = 0;
         let mut end = self.len();

@@ -28,7 +28,7 @@ fn is_in_bays(inner: &[Point], outer: &[Point], at: Point) -> bool
     ensures { IsTrue result ↔ InSomeBay inner.now outer.now (point at) }
 {
     for i in 0..outer.len() {
-        if is_in(inner[i], inner[i + 1], outer[i], at) {
+        if is_in_triangle(inner[i], inner[i + 1], outer[i], at) {
             return true;
         }
     }
@@ -40,15 +40,16 @@ fn is_in_gaps(inner: &[Point], outer: &[Point], at: Point) -> bool
     ensures { IsTrue result ↔ InSomeGap inner.now outer.now (point at) }
 {
     for i in 1..outer.len() {
-        if is_in(inner[i], outer[i - 1], outer[i], at) {
+        if is_in_triangle(inner[i], outer[i - 1], outer[i], at) {
             return true;
         }
     }
     false
 }
 
-/// Whether the point is in the closed triangle, whichever way its corners turn.
-fn is_in(p: Point, q: Point, r: Point, at: Point) -> bool
+/// Whether the point is in the closed triangle of three corners that are not collinear, whichever
+/// way they turn. It takes no memory.
+pub fn is_in_triangle(p: Point, q: Point, r: Point, at: Point) -> bool
     requires { IsTurnable p q r at }
     ensures { IsTrue result ↔ InTriangle (point at) (point p) (point q) (point r) }
 {

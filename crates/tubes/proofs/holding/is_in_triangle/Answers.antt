@@ -1,5 +1,5 @@
 use Rattle.tubes.proofs.TubeTriangles.{by_equal, in_left, in_right, turnable_swapped}
-use Rattle.tubes.proofs.holding.is_in.Goals as goal
+use Rattle.tubes.proofs.holding.is_in_triangle.Goals as goal
 
 pub is_left_of_sides-requires-in-Right : goal.is_left_of_sides-requires-in-Right
 is_left_of_sides-requires-in-Right c = turnable_swapped c.args.p c.args.q c.args.r c.args.at c.requires
