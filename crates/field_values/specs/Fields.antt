@@ -79,16 +79,6 @@ width (model.AreaPoint w) = 2
 width (model.Coord3 b) = 3
 width other = 1
 
--- the bounds of a column whose one word is a number
-abbrev pub number_limits : Form → Option Limits
-number_limits (model.Range l) = Some l
-number_limits (model.Dim1 l) = Some l
-number_limits (model.Dim2 l) = Some l
-number_limits (model.Radians l) = Some l
-number_limits (model.Grads l) = Some l
-number_limits (model.Degrees l) = Some l
-number_limits other = None
-
 -- the bounds of words that are numbers, one for each word
 abbrev pub axes : Form → List Limits
 axes (model.Range l) = l ∷ []

@@ -44,7 +44,7 @@ mod vertices;
 mod words;
 
 pub use columns::read_column;
-pub use forms::{number_limits, width};
+pub use forms::width;
 pub use laws::{columns_are_met, leaves_are_spelled};
 pub use place::Place;
 pub use places::{is_no_arc, is_same_place};
