@@ -94,13 +94,13 @@ module _ (d : Plan) (c : Claims) (table : List Timed) (is_table : IsTableOf d c.
   abbrev s : Subject
   s = subject_of d c table
 
-  told_place : (j : ℕ) → j < length s.points → certifying.TellsCell s j ⊎ certifying.TellsTube s inside outside j
+  told_place : (j : ℕ) → j < length s.points → certifying.PlacesInCell s j ⊎ certifying.PlacesInTube s inside outside j
   told_place j l = elim (x.places j l) [
     | inl t ↦ inl (record { cell = t.cell; tells = t.tells })
     | inr t ↦ inr (record { tube = t.tube; is_inside = t.is_inside; side = t.side; tells = t.tells })
   ]
 
-  root_is : (h : Half) → RootAt d c.level (run_at d c.level (moves_at table c.positions)) (labels_in c.notes) c.places h → certifying.IsToldRoot s h
+  root_is : (h : Half) → RootAt d c.level (run_at d c.level (moves_at table c.positions)) (labels_in c.notes) c.places h → certifying.IsRootByRule s h
   root_is h (inl t) = inl (record { of_tube = t.of_tube; is = t.is })
   root_is h (inr (inl t)) = inr (inl t)
   root_is h (inr (inr (j, l, e, inl t))) = inr (inr (j, l, e, inl (record { strip = t.strip; index = t.index; placed = t.placed; tells = t.tells; beside = t.beside })))

@@ -22,7 +22,7 @@ use Rattle.plane.specs.Runs.Timetables.{Timed, move_at, no_event}
 use Rattle.certificate.specs.declared.notes.PointPlace.TheVariants as place
 use Rattle.tubes.proofs.EdgeLemmas.{first_is, later_is}
 use Rattle.tubes.proofs.LevelEdges.{first_inner, first_outer, of_half_arc}
-use Rattle.certificate_checker.specs.Certifying.{BoundsToldCell, Certifies, CertifiesBy, IsToldRoot, Says, TellsCell, TellsTube, says_across, says_next, says_previous, says_root}
+use Rattle.certificate_checker.specs.Certifying.{BoundsNamedCell, Certifies, CertifiesBy, IsRootByRule, Says, PlacesInCell, PlacesInTube, says_across, says_next, says_previous, says_root}
 use Rattle.certificate_checker.specs.Rules.{BetweenAt, BlockAt, BoundsCell, CornerAt, HasLabels, HasLabelsOf, IsInOwnCell, IsInOwnTube, IsOnSide, IsPointPlaced, IsRootOf, LeadsBy, PassesEvent, SlopesAt}
 use Rattle.certificate_checker.specs.Subjects.{Claims, Subject, bays_of, edge, event, events_before, first_of, index_of, labels, live_list, moves, note_at, owned_of, point_at, position_at, rank, replay_of, side_label, strip_of, under_place, within}
 use Rattle.certificate_checker.specs.Verdicts.{AllRules, IsTableOf, Proves, subject_of}
@@ -138,7 +138,7 @@ module _ (d : Plan) (c : Claims) (table : List Timed) (t : IsTableOf d c.level t
       (λ y l. subst (λ (q : Point). Before q (point_at s j)) (event_is y (omega (arith, l, p.fits, steps_size))) (p.passed y l))
       (λ y l h. subst (λ (q : Point). Before (point_at s j) q) (event_is y h) (p.coming y l (omega (arith, h, steps_size))))
 
-  in_cell : (j : ℕ) → TellsCell s j → IsInOwnCell s j
+  in_cell : (j : ℕ) → PlacesInCell s j → IsInOwnCell s j
   in_cell j a =
       let index : index_of s j ≡ a.cell.index = ap under_place a.tells in
       record {
@@ -149,7 +149,7 @@ module _ (d : Plan) (c : Claims) (table : List Timed) (t : IsTableOf d c.level t
         upper = a.cell.upper_label;
       }
 
-  in_tube : (j : ℕ) → TellsTube s inside outside j → IsInOwnTube s j
+  in_tube : (j : ℕ) → PlacesInTube s inside outside j → IsInOwnTube s j
   in_tube j b = record {
     curve = b.tube.number;
     inside = b.is_inside;
@@ -174,13 +174,13 @@ module _ (d : Plan) (c : Claims) (table : List Timed) (t : IsTableOf d c.level t
   is_placed j l = elim (x.places j l) [ inl a ↦ inl (in_cell j a) | inr b ↦ inr (in_tube j b) ]
 
   -- ---- links
-  bounds_cell : (h : Half) (j : ℕ) → BoundsToldCell s h j → BoundsCell s h j
+  bounds_cell : (h : Half) (j : ℕ) → BoundsNamedCell s h j → BoundsCell s h j
   bounds_cell h j b =
       let index : index_of s j ≡ b.index = ap under_place b.tells in
       let strip = strip_is j b.strip b.index b.placed in
       record { cell = b.tells ∙ ap place.Cell (sym index); beside = rw (strip, index) b.beside }
 
-  to_root : (h : Half) → IsToldRoot s h → IsRootOf s h
+  to_root : (h : Half) → IsRootByRule s h → IsRootOf s h
   to_root h (inl f) = inl f
   to_root h (inr (inl y)) = inr (inl y)
   to_root h (inr (inr (j, l, e, inl b))) = inr (inr (j, l, e, inl (bounds_cell h j b)))
@@ -189,7 +189,7 @@ module _ (d : Plan) (c : Claims) (table : List Timed) (t : IsTableOf d c.level t
   abbrev Root : Half → Type 0
   Root = curves.IsCurveRoot d (bays_of s) (replay_of s) (labels s) (within s) inside outside
 
-  leads_by : (h : Half) (y : Lead) → Says (note_at s h) y → IsLead (replay_of s) (mark (labels s)) (rank s) Root h y → (y ≡ root → IsToldRoot s h) → LeadsBy s h (note_at s h).link
+  leads_by : (h : Half) (y : Lead) → Says (note_at s h) y → IsLead (replay_of s) (mark (labels s)) (rank s) Root h y → (y ≡ root → IsRootByRule s h) → LeadsBy s h (note_at s h).link
   leads_by h _ (says_root e z) i r = subst (LeadsBy s h) (sym e) (z, to_root h (r refl))
   leads_by h _ (says_next g e) i r = subst (LeadsBy s h) (sym e) (g, i.0, i.1)
   leads_by h _ (says_previous g e) i r = subst (LeadsBy s h) (sym e) (g, i.0, i.1)

@@ -28,20 +28,20 @@ pub data Says (n : HalfNote) : Lead → Type 0 where
   says_across : (g : Half) → n.link ≡ link.Across (number g) → Says n (across g)
 
 -- The point lies in a cell with the label of its number, and the place says so.
-pub record TellsCell (s : Subject) (j : ℕ) : Type 0 where
+pub record PlacesInCell (s : Subject) (j : ℕ) : Type 0 where
   pub cell : IsInCell (replay_of s) (labels s) (point_at s j) (suc j)
   pub tells : place_at s j ≡ place.Cell cell.index
 
 -- The point lies in a tube, with the label of its number outside the chain on its side of the
 -- circle, and the place says so.
-pub record TellsTube (s : Subject) (inside outside : ℕ → ℕ) (j : ℕ) : Type 0 where
+pub record PlacesInTube (s : Subject) (inside outside : ℕ → ℕ) (j : ℕ) : Type 0 where
   pub tube : IsInTube s.drawing (bays_of s) inside outside (point_at s j) (suc j)
   pub is_inside : Bool
   pub side : IsOnSide is_inside (power (arc (curve s.drawing tube.number)) (point (point_at s j)))
   pub tells : place_at s j ≡ place.Tube tube.number is_inside
 
 -- The place gives a cell in which the point lies, and the half-edge bounds it.
-pub record BoundsToldCell (s : Subject) (h : Half) (j : ℕ) : Type 0 where
+pub record BoundsNamedCell (s : Subject) (h : Half) (j : ℕ) : Type 0 where
   pub strip : ℕ
   pub index : ℕ
   pub placed : IsPlaced (replay_of s) (point_at s j) strip index
@@ -50,12 +50,12 @@ pub record BoundsToldCell (s : Subject) (h : Half) (j : ℕ) : Type 0 where
 
 -- The half-edge faces a tube from within, or has label 0 and was a neighbour of a border, or bounds
 -- the place of its label's point.
-abbrev pub IsToldRoot : Subject → Half → Type 0
-IsToldRoot s h =
+abbrev pub IsRootByRule : Subject → Half → Type 0
+IsRootByRule s h =
     FacesTube s h
     ⊎ (((mark (labels s) h ≡ 0) × Touches (replay_of s) h)
     ⊎ ((j : ℕ) × (j < length s.points) × (mark (labels s) h ≡ suc j)
-    × (BoundsToldCell s h j ⊎ BoundsTube s h j)))
+    × (BoundsNamedCell s h j ⊎ BoundsTube s h j)))
 
 -- The claims give a complete run over the edges of the drawing, which certifies it, and the places
 -- and links that do.
@@ -65,9 +65,9 @@ pub record CertifiesBy (s : Subject) (inside outside : ℕ → ℕ) (lead : Half
   pub fit : Fit [] (moves s)
   pub certified : CertifiedCurves s.drawing (bays_of s) (replay_of s) (labels s)
       (within s) inside outside (rank s) lead
-  pub places : (j : ℕ) → j < length s.points → TellsCell s j ⊎ TellsTube s inside outside j
+  pub places : (j : ℕ) → j < length s.points → PlacesInCell s j ⊎ PlacesInTube s inside outside j
   pub says : (h : Half) → edge_of h < length s.edges → Says (note_at s h) (lead h)
-  pub roots : (h : Half) → edge_of h < length s.edges → lead h ≡ root → IsToldRoot s h
+  pub roots : (h : Half) → edge_of h < length s.edges → lead h ≡ root → IsRootByRule s h
 
 pub record Certifies (d : Plan) (c : Claims) : Type 0 where
   pub table : List Timed

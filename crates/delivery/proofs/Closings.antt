@@ -13,7 +13,7 @@ use Rattle.itf_reader.specs.Layouts.{form_of}
 use Rattle.itf_reader.specs.Machine.{start}
 use Rattle.itf_reader.specs.Readings.{Structure, IsRead, IsRefused}
 use Rattle.itf_reader.specs.Reads as reads
-use Rattle.itf_reader.specs.Reads.{answer, fault_at, read_from, end_of, read, refused, Tells}
+use Rattle.itf_reader.specs.Reads.{answer, fault_at, read_from, end_of, read, refused, FindsFault}
 use Rattle.itf_reader.specs.Refusals.{fault_of}
 use Rattle.itf_reader.specs.declared.refusal.ReadRefusal.{ReadRefusal}
 use Rattle.itf_reader.specs.declared.refusal.ReadRefusal.TheVariants as refusals
@@ -93,7 +93,7 @@ module _ (l : Layout) (text : List ℕ) (j : Judge) (h : HasText l text j) (last
     }
 
 -- what the code answers to a text that is at fault
-pub kept_err : (l : Layout) (text : List ℕ) (fault : Option (ℕ × Structure)) (e : ReadRefusal) → Tells fault (Err e) → ((n : ℕ) (code : Structure) → fault ≡ Some (n, code) → IsRefused (form_of l) (lines_of l text) n code) → IsKept l text (Err e)
+pub kept_err : (l : Layout) (text : List ℕ) (fault : Option (ℕ × Structure)) (e : ReadRefusal) → FindsFault fault (Err e) → ((n : ℕ) (code : Structure) → fault ≡ Some (n, code) → IsRefused (form_of l) (lines_of l text) n code) → IsKept l text (Err e)
 kept_err l text fault (refusals.At line code) h r = r line (fault_of code) h
 kept_err l text fault refusals.Memory h r = tt
 

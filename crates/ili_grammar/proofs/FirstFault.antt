@@ -13,7 +13,7 @@ use Rattle.ili_grammar.specs.Models.{Spells, Begins, IsTransfer}
 use Rattle.ili_grammar.specs.Faults.{IsFault, IsFirst, this_one, later_one, IsCode, IsFaultCode, IsFirstFault}
 use Rattle.ili_grammar.specs.Machine.{start}
 use Rattle.ili_grammar.specs.Run.{Outcome, whole, short, stopped, run, StopsAt}
-use Rattle.ili_grammar.specs.Steps.{IsToldBy, IsFaultAt}
+use Rattle.ili_grammar.specs.Steps.{IsReportedBy, IsFaultAt}
 use Rattle.ili_grammar.specs.declared.source.Wanted.TheVariants as wants
 use Rattle.ili_grammar.proofs.FaultStands.{stop_of}
 use Rattle.ili_grammar.proofs.CodeStands.{fault_stands}
@@ -33,11 +33,11 @@ front_is all p k e = append_cancel_right p (take k all) (drop k all) (sym e ∙ 
 not_all : (all : List Tok) (k : ℕ) (t : Tok) (r : List Tok) → drop k all ≡ t ∷ r → k < length all
 not_all all k t r e = by_lt k (length all) (λ (h : k < length all). h) (λ (h : length all ≤ k). let f = drop_all k all h in absurd (cc))
 
-pub first_fault : (all : List Tok) (f : fault.SyntaxFault) → IsToldBy all (run all (start 32 ∷ [])) f → IsFirstFault all f
+pub first_fault : (all : List Tok) (f : fault.SyntaxFault) → IsReportedBy all (run all (start 32 ∷ [])) f → IsFirstFault all f
 first_fault all faults.Memory h = tt
 first_fault all (faults.At c None) h = of (run all (start 32 ∷ [])) refl h
   where
-    of : (o : Outcome) → run all (start 32 ∷ []) ≡ o → IsToldBy all o (faults.At c None) → IsFirstFault all (faults.At c None)
+    of : (o : Outcome) → run all (start 32 ∷ []) ≡ o → IsReportedBy all o (faults.At c None) → IsFirstFault all (faults.At c None)
     of whole e h = absurd h
     of (stopped d v) e h = absurd h
     of short e h =
@@ -46,7 +46,7 @@ first_fault all (faults.At c None) h = of (run all (start 32 ∷ [])) refl h
         subst (λ (p : List Tok). IsFault p [] × IsFaultCode p [] (code_of c)) q (s.2, s.3)
 first_fault all (faults.At c (Some k)) h = of (run all (start 32 ∷ [])) refl h
   where
-    of : (o : Outcome) → run all (start 32 ∷ []) ≡ o → IsToldBy all o (faults.At c (Some k)) → IsFirstFault all (faults.At c (Some k))
+    of : (o : Outcome) → run all (start 32 ∷ []) ≡ o → IsReportedBy all o (faults.At c (Some k)) → IsFirstFault all (faults.At c (Some k))
     of whole e h = absurd h
     of short e h = absurd h
     of (stopped d v) e h =
@@ -59,9 +59,9 @@ first_fault all (faults.At c (Some k)) h = of (run all (start 32 ∷ [])) refl h
 -- a token behind a whole model
 pub trailing : (all v : List Tok) (t : Tok) (r : List Tok) (m : ModelSyntax) (f : fault.SyntaxFault) → v ≡ t ∷ r → IsTransfer 32 m all v → IsFaultAt all v wants.Other f → IsFirstFault all f
 trailing all v t r m f e x h =
-    first_fault all f (subst (λ (o : Outcome). IsToldBy all o f) (sym (transfer_drives 32 m all v x [])) (subst (λ (w : List Tok). IsFaultAt all w wants.Other f → IsToldBy all (run w []) f) (sym e) (told t f) h))
+    first_fault all f (subst (λ (o : Outcome). IsReportedBy all o f) (sym (transfer_drives 32 m all v x [])) (subst (λ (w : List Tok). IsFaultAt all w wants.Other f → IsReportedBy all (run w []) f) (sym e) (told t f) h))
   where
-    told : (t : Tok) (f : fault.SyntaxFault) → IsFaultAt all (t ∷ r) wants.Other f → IsToldBy all (run (t ∷ r) []) f
+    told : (t : Tok) (f : fault.SyntaxFault) → IsFaultAt all (t ∷ r) wants.Other f → IsReportedBy all (run (t ∷ r) []) f
     told (tok k i) faults.Memory h = absurd h
     told (tok k i) (faults.At c None) h = absurd h
     told (tok k i) (faults.At c (Some n)) h = h

@@ -7,7 +7,7 @@ use Rattle.ili_grammar.specs.Syntax.{Ident, Decimal}
 use Rattle.ili_grammar.specs.Kinds.{same_kind, Not}
 use Rattle.ili_grammar.specs.Machine.{Sym, want, optional, step, at_limit}
 use Rattle.ili_grammar.specs.Run.{Outcome, run}
-use Rattle.ili_grammar.specs.Steps.{IsToldBy, Refuses, Left, Goes, Leads, LeadsName, LeadsNumber}
+use Rattle.ili_grammar.specs.Steps.{IsReportedBy, Refuses, Left, Goes, Leads, LeadsName, LeadsNumber}
 use Rattle.ili_grammar.proofs.CodeStands.{same_self}
 use Rattle.ili_grammar.proofs.Stops.{off}
 
@@ -21,7 +21,7 @@ pub then : {all w u : List Tok} {new left : List Sym} {f : fault.SyntaxFault} (m
 then {all} {w} {u} {new} {left} {f} more g l h = record {
   told = λ stack.
       let e = ap (run w) (append_assoc new more stack) ∙ g.by (more ++ stack) (left_more left more stack l) ∙ sym (ap (run u) (append_assoc left more stack)) in
-      subst (λ (o : Outcome). IsToldBy all o f) (sym e) (h.told stack);
+      subst (λ (o : Outcome). IsReportedBy all o f) (sym e) (h.told stack);
 }
 
 pub join : {w u v : List Tok} {new left last : List Sym} (more : List Sym) → Goes w new u left → Left (left ++ more) → Goes u (left ++ more) v last → Goes w (new ++ more) v last
@@ -50,7 +50,7 @@ left_all [] stack h = absurd h
 left_all (s ∷ new) stack h = tt
 
 pub refused_at : {all w u : List Tok} {new left : List Sym} {f : fault.SyntaxFault} → Goes w new u left → Left left → Refuses all u left f → Refuses all w new f
-refused_at {all} {w} {u} {new} {left} {f} g l h = record { told = λ stack. subst (λ (o : Outcome). IsToldBy all o f) (sym (g.by stack (left_all left stack l))) (h.told stack) }
+refused_at {all} {w} {u} {new} {left} {f} g l h = record { told = λ stack. subst (λ (o : Outcome). IsReportedBy all o f) (sym (g.by stack (left_all left stack l))) (h.told stack) }
 
 pub onward : {w u v : List Tok} {new left last : List Sym} → Goes w new u left → Left left → Goes u left v last → Goes w new v last
 onward {w} {u} {v} {new} {left} {last} g l h = record { by = λ stack k. g.by stack (left_all left stack l) ∙ h.by stack k }
@@ -60,10 +60,10 @@ stay w new = record { by = λ stack l. refl }
 
 -- what stands behind a refused symbol does not count
 pub first : {all w : List Tok} {new : List Sym} {f : fault.SyntaxFault} (more : List Sym) → Refuses all w new f → Refuses all w (new ++ more) f
-first {all} {w} {new} {f} more h = record { told = λ stack. subst (λ (s : List Sym). IsToldBy all (run w s) f) (sym (append_assoc new more stack)) (h.told (more ++ stack)) }
+first {all} {w} {new} {f} more h = record { told = λ stack. subst (λ (s : List Sym). IsReportedBy all (run w s) f) (sym (append_assoc new more stack)) (h.told (more ++ stack)) }
 
 pub no_memory : (all w : List Tok) (new : List Sym) (f : fault.SyntaxFault) → f ≡ faults.Memory → Refuses all w new f
-no_memory all w new f e = record { told = λ stack. subst (λ (f : fault.SyntaxFault). IsToldBy all (run w (new ++ stack)) f) (sym e) tt }
+no_memory all w new f e = record { told = λ stack. subst (λ (f : fault.SyntaxFault). IsReportedBy all (run w (new ++ stack)) f) (sym e) tt }
 
 -- a fault that is handed on
 pub handed : {A : Type 0} (r : Result A fault.SyntaxFault) (P : fault.SyntaxFault → Type 0) (e : fault.SyntaxFault) → IsErrAnd r (λ f. f ≡ e) → P e → IfErr r P

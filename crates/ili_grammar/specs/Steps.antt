@@ -49,15 +49,15 @@ kind_at (tok k i ∷ r) = Some k
 
 -- the fault says where a run of the machine stopped, and with which code; out of memory says
 -- nothing
-abbrev pub IsToldBy : List Tok → Outcome → fault.SyntaxFault → Type 0
-IsToldBy all o faults.Memory = ⊤
-IsToldBy all short (faults.At c None) = code_of c ≡ Expected
-IsToldBy all (stopped e v) (faults.At c (Some k)) = (code_of c ≡ e) × (v ≡ drop k all)
-IsToldBy all _ (faults.At c t) = ⊥
+abbrev pub IsReportedBy : List Tok → Outcome → fault.SyntaxFault → Type 0
+IsReportedBy all o faults.Memory = ⊤
+IsReportedBy all short (faults.At c None) = code_of c ≡ Expected
+IsReportedBy all (stopped e v) (faults.At c (Some k)) = (code_of c ≡ e) × (v ≡ drop k all)
+IsReportedBy all _ (faults.At c t) = ⊥
 
 -- whatever comes after these symbols, the machine stops as the fault says
 pub record Refuses (all w : List Tok) (new : List Sym) (f : fault.SyntaxFault) : Type 0 where
-  pub told : (stack : List Sym) → IsToldBy all (run w (new ++ stack)) f
+  pub told : (stack : List Sym) → IsReportedBy all (run w (new ++ stack)) f
 
 -- something is left to come
 abbrev pub Left : List Sym → Type 0

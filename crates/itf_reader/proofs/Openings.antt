@@ -17,7 +17,7 @@ use Rattle.itf_reader.specs.Refusals.{Refuses}
 use Rattle.itf_reader.specs.ClosedRows.{closed_rows, by_table}
 use Rattle.itf_reader.specs.RowFeeds.{Standing, standing, stopped, after_lines, shown_rows, RowState}
 use Rattle.itf_reader.specs.Views.{transfer_of}
-use Rattle.itf_reader.specs.Reads.{Answer, read, refused, answer, fault_after, fault_at, TransferState, opening, read_from, end_of, Gives, Tells}
+use Rattle.itf_reader.specs.Reads.{Answer, read, refused, answer, fault_after, fault_at, TransferState, opening, read_from, end_of, Gives, FindsFault}
 use Rattle.itf_reader.proofs.ByTable.{rows_by_table}
 use Rattle.itf_reader.proofs.Codes.{has_code}
 use Rattle.itf_reader.proofs.Drive.{text_drive}
@@ -99,7 +99,7 @@ finished : {P : Type 0} (b : Bool) → (b ≡ false → P) → (b ≡ true → P
 finished true f t = t refl
 finished false f t = f refl
 
-tells_gives : (f : Form) (rows : List (ℕ × Row)) (fault : Option (ℕ × Structure)) (e : ReadRefusal) → Tells fault (Err e) → Gives (answer f rows fault) (Err e)
+tells_gives : (f : Form) (rows : List (ℕ × Row)) (fault : Option (ℕ × Structure)) (e : ReadRefusal) → FindsFault fault (Err e) → Gives (answer f rows fault) (Err e)
 tells_gives f rows fault (refusals.At n code) h = ap (answer f rows) h
 tells_gives f rows fault refusals.Memory h = tt
 
@@ -107,7 +107,7 @@ memory_gives : (a : Answer) (e : ReadRefusal) → result_err e ≡ result_err re
 memory_gives a (refusals.At n code) h = absurd cc
 memory_gives a refusals.Memory h = tt
 
-pub finish_err : (f : Form) (s : TransferState) (inner : RowState) (end : LineEnd) (e : ReadRefusal) → s.at ≡ inner.at → (inner.failed ≡ false → Tells (fault_at inner.at end) (Err e))
+pub finish_err : (f : Form) (s : TransferState) (inner : RowState) (end : LineEnd) (e : ReadRefusal) → s.at ≡ inner.at → (inner.failed ≡ false → FindsFault (fault_at inner.at end) (Err e))
     → (inner.failed ≡ true → result_err e ≡ result_err refusals.Memory) → Gives (read_from f s [] end) (Err e)
 finish_err f s inner end e a k m =
     finished inner.failed

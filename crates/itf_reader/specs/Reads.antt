@@ -65,7 +65,7 @@ Gives a (Err (refusals.At line code)) = a ≡ refused line (fault_of code)
 Gives a (Err refusals.Memory) = ⊤
 
 -- the code finds the text at fault there; it takes no memory
-abbrev pub Tells : Option (ℕ × Structure) → Result ⊤ ReadRefusal → Type 0
-Tells fault (Ok done) = fault ≡ None
-Tells fault (Err (refusals.At line code)) = fault ≡ Some (line, fault_of code)
-Tells fault (Err refusals.Memory) = ⊥
+abbrev pub FindsFault : Option (ℕ × Structure) → Result ⊤ ReadRefusal → Type 0
+FindsFault fault (Ok done) = fault ≡ None
+FindsFault fault (Err (refusals.At line code)) = fault ≡ Some (line, fault_of code)
+FindsFault fault (Err refusals.Memory) = ⊥

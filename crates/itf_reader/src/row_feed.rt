@@ -5,7 +5,7 @@ ghost use Rattle.itf_lines.specs.Views.{line_view};
 ghost use Rattle.itf_reader.specs.declared.refusal.ReadRefusal.TheVariants.{Memory as OutOfMemory};
 ghost use Rattle.itf_reader.specs.Machine.{start};
 ghost use Rattle.itf_reader.specs.Names.{form_in};
-ghost use Rattle.itf_reader.specs.Reads.{fault_at, fault_after, Tells};
+ghost use Rattle.itf_reader.specs.Reads.{fault_at, fault_after, FindsFault};
 ghost use Rattle.itf_reader.specs.RowFeeds.{standing, next, shows, shown_row};
 ghost use Rattle.itf_reader.specs.Views.{row_of};
 
@@ -44,7 +44,7 @@ impl Model for RowFeed {
 // The answer at the end of a text whose lines were all taken, by whether ENDE was read.
 fn end_after(end: LineEnd, ended: bool) -> Result<(), ReadRefusal>
     requires { end.total < 4294967295 }
-    ensures { Tells (fault_after end.fault ended end.total) result }
+    ensures { FindsFault (fault_after end.fault ended end.total) result }
 {
     match end.fault {
         Some(LineFault::OpenContinue(line)) => Err(ReadRefusal::At {
@@ -122,7 +122,7 @@ impl RowFeed {
     /// one after the last where the text ends before ENDE. A feed that failed has `Memory`.
     pub fn finish(self, end: LineEnd) -> Result<(), ReadRefusal>
         requires { self.failed ≡ false → end.total < 4294967295 }
-        ensures sound { self.failed ≡ false → Tells (fault_at self.at end) result }
+        ensures sound { self.failed ≡ false → FindsFault (fault_at self.at end) result }
         ensures failed { self.failed ≡ true → result ≡ Err OutOfMemory }
     {
         self.answer_at(end)
@@ -131,7 +131,7 @@ impl RowFeed {
     // What `finish` answers.
     fn answer_at(&self, end: LineEnd) -> Result<(), ReadRefusal>
         requires { self.now.failed ≡ false → end.total < 4294967295 }
-        ensures sound { self.now.failed ≡ false → Tells (fault_at self.now.at end) result }
+        ensures sound { self.now.failed ≡ false → FindsFault (fault_at self.now.at end) result }
         ensures failed { self.now.failed ≡ true → result ≡ Err OutOfMemory }
     {
         if self.failed {
