@@ -3,6 +3,6 @@ pub mod Extending
 pub mod Joining
 pub mod Linking
 pub mod Pigeons
-pub mod Circles
+pub mod Cycles
 pub mod Turning
 pub mod Elsewhere

@@ -2,9 +2,9 @@ use Rattle.std.proofs.Common.{◌≡◌, ℕ, zero, suc, ◌<◌, ◌≤◌, ◌
 use Rattle.half_edges.specs.HalfEdges.{HalfEdges, size, next_of, twin_of}
 use Rattle.half_edges.specs.Meshes.{IsMesh, AgreesAlong}
 use Rattle.half_edges.specs.Stars.{IsStar, TurnsThrough, before, turned}
-use Rattle.half_edges.specs.Circles.{steps, Leads, Parts}
+use Rattle.half_edges.specs.Cycles.{steps, Leads, Parts}
 use Rattle.half_edges.proofs.Twins.{twin-twin, twin_within}
-use Rattle.half_edges.proofs.Circles.{circles_part, leads_onward, kept_along}
+use Rattle.half_edges.proofs.Cycles.{cycles_part, leads_onward, kept_along}
 
 pub turned_within : (m : HalfEdges) (h : ℕ) → IsMesh m → h < size m → turned m h < size m
 turned_within m h mesh l = mesh.next_within _ (twin_within (size m) h mesh.pairs l)
@@ -13,16 +13,16 @@ pub turned_origin : (m : HalfEdges) (h : ℕ) → IsMesh m → h < size m → ge
 turned_origin m h mesh l = mesh.joined _ (twin_within (size m) h mesh.pairs l) ∙ ap (λ k. get_or m.origin k 0) (twin-twin h)
 
 pub faces_part : (m : HalfEdges) → IsMesh m → Parts (next_of m) (size m)
-faces_part m mesh = circles_part (next_of m) (λ h. get_or m.prev h 0) (size m) mesh.next_within mesh.prev_next
+faces_part m mesh = cycles_part (next_of m) (λ h. get_or m.prev h 0) (size m) mesh.next_within mesh.prev_next
 
 pub stars_part : (m : HalfEdges) → IsMesh m → Parts (turned m) (size m)
-stars_part m mesh = circles_part (turned m) (λ h. twin_of (get_or m.prev h 0)) (size m)
+stars_part m mesh = cycles_part (turned m) (λ h. twin_of (get_or m.prev h 0)) (size m)
     (λ h l. turned_within m h mesh l)
     (λ h l. ap twin_of (mesh.prev_next _ (twin_within (size m) h mesh.pairs l)) ∙ twin-twin h)
 
-pub agrees_along_circle : (m : HalfEdges) (numbers : List ℕ) (g h : ℕ) → IsMesh m → AgreesAlong m.next numbers → g < size m → Leads (next_of m) g h
+pub agrees_along_cycle : (m : HalfEdges) (numbers : List ℕ) (g h : ℕ) → IsMesh m → AgreesAlong m.next numbers → g < size m → Leads (next_of m) g h
     → get_or numbers g 0 ≡ get_or numbers h 0
-agrees_along_circle m numbers g h mesh agrees l leads =
+agrees_along_cycle m numbers g h mesh agrees l leads =
     sym (kept_along (next_of m) (λ k. get_or numbers k 0) (size m) mesh.next_within agrees.same leads.count g l)
     ∙ ap (λ k. get_or numbers k 0) leads.there
 
@@ -48,9 +48,9 @@ places_lead m around through j k lj lk =
     let on : Leads f (at last) (at k) = record { count = last - k; there = turns_down m around through (last - k) last (omega arith) (omega arith) ∙ ap at at_end } in
     leads_onward f _ _ _ down (leads_onward f _ _ _ over on)
 
-pub star_one_circle : (m : HalfEdges) (around : List ℕ) (g h : ℕ) → IsStar m around → TurnsThrough m around → g < size m → h < size m
+pub star_one_cycle : (m : HalfEdges) (around : List ℕ) (g h : ℕ) → IsStar m around → TurnsThrough m around → g < size m → h < size m
     → get_or m.origin g 0 ≡ get_or m.origin (get_or around 0 0) 0 → get_or m.origin h 0 ≡ get_or m.origin (get_or around 0 0) 0 → Leads (turned m) g h
-star_one_circle m around g h star through lg lh og oh =
+star_one_cycle m around g h star through lg lh og oh =
     let p = star.whole g lg og in
     let q = star.whole h lh oh in
     rw (← p.2, ← q.2) (places_lead m around through p.0 q.0 p.1 q.1)

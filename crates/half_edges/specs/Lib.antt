@@ -2,4 +2,4 @@ pub mod HalfEdges
 pub mod Meshes
 pub mod Stars
 pub mod Arena
-pub mod Circles
+pub mod Cycles

@@ -4,7 +4,7 @@ ghost use Rattle.half_edges.specs.HalfEdges.{HalfEdges, size, next_of, origin_of
 ghost use Rattle.half_edges.specs.Meshes.{IsMesh, AgreesAlong, without_edges, with_edge};
 ghost use Rattle.half_edges.specs.Stars.{center, IsStar, IsLoose, IsUnlinked, IsLinked};
 ghost use Rattle.half_edges.specs.Stars.{TurnsThrough, turned};
-ghost use Rattle.half_edges.specs.Circles.{Leads, Parts};
+ghost use Rattle.half_edges.specs.Cycles.{Leads, Parts};
 
 /// The two halves of an edge are each other's twins.
 pub fn twins()
@@ -22,14 +22,14 @@ pub fn turning()
 {}
 
 /// The cycles of `next` part the half-edges, and so do those of `next` of `twin`.
-pub fn circles()
+pub fn cycles()
     ensures of_next { (m : HalfEdges) → IsMesh m → Parts (next_of m) (size m) }
     ensures of_turning { (m : HalfEdges) → IsMesh m → Parts (turned m) (size m) }
 {}
 
 /// Once a vertex is linked, the half-edges that begin there form one cycle of `next` of `twin`:
 /// the list, backwards.
-pub fn one_circle()
+pub fn one_cycle()
     ensures given { (old new : HalfEdges) (around : List ℕ) → IsLinked old new around
         → TurnsThrough new around }
     ensures star { (old new : HalfEdges) (around : List ℕ) → IsStar old around

@@ -1,5 +1,5 @@
 use Rattle.std.proofs.Common.{◌≡◌, ℕ, zero, suc, ◌<◌, ◌+◌, ◌-◌, arith, ap, sym, ◌∙◌, refl}
-use Rattle.half_edges.specs.Circles.{steps, Leads, Parts}
+use Rattle.half_edges.specs.Cycles.{steps, Leads, Parts}
 use Rattle.half_edges.proofs.Pigeons.{pigeons}
 
 steps_first : (f : ℕ → ℕ) (n h : ℕ) → steps f (suc n) h ≡ steps f n (f h)
@@ -49,8 +49,8 @@ way_back : (f : ℕ → ℕ) (g : ℕ) → Returns f g → (c : ℕ) → Leads f
 way_back f g r zero = record { count = 0; there = refl }
 way_back f g r (suc c) = let w = way_back f g r c in step_off f g (steps f c g) r w.count w.there
 
-pub circles_part : (f back : ℕ → ℕ) (n : ℕ) → ((h : ℕ) → h < n → f h < n) → ((h : ℕ) → h < n → back (f h) ≡ h) → Parts f n
-circles_part f back n inside undo = record {
+pub cycles_part : (f back : ℕ → ℕ) (n : ℕ) → ((h : ℕ) → h < n → f h < n) → ((h : ℕ) → h < n → back (f h) ≡ h) → Parts f n
+cycles_part f back n inside undo = record {
   within = λ g h l a. rw (← a.there) (steps_within f n inside a.count g l);
   itself = λ h l. record { count = 0; there = refl };
   back = λ g h l a. rw (← a.there) (way_back f g (returns f back n inside undo g l) a.count);
