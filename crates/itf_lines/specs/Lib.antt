@@ -2,7 +2,6 @@ pub mod FeedStates
 pub mod Feeds
 pub mod Fields
 pub mod Fronts
-pub mod Kept
 pub mod LogicalLines
 pub mod Pass
 pub mod PassStates

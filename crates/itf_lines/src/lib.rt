@@ -39,7 +39,6 @@ mod logical;
 mod partial;
 mod pass;
 mod reading;
-mod short;
 mod word;
 
 pub use feed::LineFeed;

@@ -17,8 +17,8 @@
 //!   contracts say exactly when a call fails and how much room there is without a refusal.
 //! - **Real files and standard output** (`RealShelf`, `RealSink`) never say what they hold. They
 //!   are a few lines over std, and what they read or write is trusted, not proved.
-//! - **Names.** `Name` owns the bytes of a name, `Key` borrows them as the key of a map. A contract
-//!   sees both as lists of bytes.
+//! - **Names.** `Bytes` owns a list of bytes, `Name` those of a name; `Key` borrows them as the key
+//!   of a map. A contract sees each as a list of bytes.
 //! - **Sorted keys.** `SortedKeys` has the keys of a column in order and finds the first element
 //!   with a key. It takes n log n comparisons for every input, where a map with a hash that is
 //!   known can be made slow by whoever writes the keys.
@@ -26,9 +26,10 @@
 //!
 //! Cost: `MemoryShelf` finds a file in time linear in the number of files; a read copies what it
 //! gives; an append is amortised linear in the bytes added. `RealShelf` opens the file anew for
-//! each call.
+//! each call. `Bytes` and a `Name` take 16 bytes; only more than 14 bytes have a block of their own.
 #![tactic(auto)]
 
+mod bytes;
 mod calls;
 mod key;
 mod memory_shelf;
@@ -36,10 +37,12 @@ mod memory_sink;
 mod name;
 mod real;
 mod shelf;
+mod short;
 mod sink;
 mod sorted_keys;
 mod stored;
 
+pub use bytes::Bytes;
 pub use key::Key;
 pub use memory_shelf::MemoryShelf;
 pub use memory_sink::MemorySink;

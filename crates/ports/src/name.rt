@@ -1,16 +1,16 @@
 // A name, seen as the list of its bytes.
 ghost use Rattle.std.specs.Prelude.{◌≡◌, IfOk};
 
-use super::Memory;
+use super::{Bytes, Memory};
 use std::alloc::Global;
 use std::hash::{Hash, Hasher};
 use std::marker::Model;
 
-/// A name: a list of bytes of any length, kept in a block of its own. Two are equal where their
-/// bytes are, so that it can be a key of a map.
+/// A name: a list of bytes of any length. It takes 16 bytes, and a block of its own for more than
+/// 14 (`Bytes`). Two are equal where their bytes are, so that it can be a key of a map.
 #[derive(Drop)]
 pub struct Name {
-    bytes: Vec<u8>,
+    bytes: Bytes,
 }
 
 impl Model for Name {
@@ -18,7 +18,7 @@ impl Model for Name {
 
     ghost Value = { List ℕ };
 
-    ghost view = { λ name. name.bytes.items };
+    ghost view = { λ name. name.bytes };
 }
 
 impl Name {
@@ -26,7 +26,7 @@ impl Name {
     pub fn new(alloc: Global, bytes: &[u8]) -> Result<Name, Memory>
         ensures { IfOk result (λ name. name ≡ bytes.now) }
     {
-        let bytes = bytes.to_vec(alloc)?;
+        let bytes = Bytes::new(alloc, bytes)?;
         Ok(Name { bytes })
     }
 
@@ -34,7 +34,7 @@ impl Name {
     pub fn bytes(&self) -> &[u8]
         ensures { result.now ≡ self.now }
     {
-        &self.bytes
+        self.bytes.as_slice()
     }
 }
 
@@ -49,7 +49,7 @@ impl PartialEq for Name {
     ghost laws = { Prim.search (comparing, rules) };
 
     fn eq(&self, other: &Name) -> bool {
-        self.bytes == other.bytes
+        self.bytes() == other.bytes()
     }
 }
 
@@ -70,6 +70,6 @@ impl Hash for Name {
     ghost respects_eq = { Prim.search (hashing, rules) };
 
     fn hash<H: Hasher>(&self, state: &mut H) {
-        self.bytes.hash(state);
+        self.bytes().hash(state);
     }
 }
