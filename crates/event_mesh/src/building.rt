@@ -14,7 +14,7 @@ pub fn mesh_of(alloc: Global, events: u32, low: &[u32], high: &[u32]) -> Result<
     requires ends { AreEnds events low.now high.now }
     ensures { IfOk result (λ mesh. IsMeshOf events low.now high.now (length low.now) mesh) }
 {
-    let mut mesh = Mesh::new(alloc, events)?;
+    let mut mesh = Mesh::with_capacity(alloc, events, low.len() as u32)?;
     for (e, event) in low.iter().enumerate() {
         mesh.add_edge(VertexId(*event), VertexId(high[e]))?;
     }

@@ -28,10 +28,11 @@
 //!   the same along each cycle.
 //!
 //! Cost: four lists of `u32` side by side, 16 bytes a half-edge, and of the vertices only their
-//! number. `new` takes no memory for them yet, `add_edge` is amortised constant,
-//! `link` is linear in its list. Where faces were set before, the first of these two also clears
-//! them, once after each `set_faces`. `faces_agree` and `set_faces` are linear in the half-edges,
-//! the other calls one load. Only `new` and `add_edge` may answer `Memory`.
+//! number. `new` takes no memory for them yet, `with_capacity` all that so many edges need;
+//! `add_edge` is amortised constant, `link` is linear in its list. Where faces were set before, the
+//! first of these two also clears them, once after each `set_faces`. `faces_agree` and `set_faces`
+//! are linear in the half-edges, the other calls one load. Only `new`, `with_capacity` and
+//! `add_edge` may answer `Memory`.
 //!
 //! A triangle with the vertices 0, 1 and 2, its edges 0-1, 0-2 and 1-2 in this order, and the
 //! stars (1, 3), (5, 0) and (2, 4):

@@ -43,12 +43,20 @@ impl Mesh {
     pub fn new(alloc: Global, vertices: u32) -> Result<Mesh, Memory>
         ensures { IfOk result (λ mesh. mesh ≡ without_edges vertices) }
     {
+        Self::with_capacity(alloc, vertices, 0)
+    }
+
+    /// The same, with room for so many edges.
+    pub fn with_capacity(alloc: Global, vertices: u32, edges: u32) -> Result<Mesh, Memory>
+        ensures { IfOk result (λ mesh. mesh ≡ without_edges vertices) }
+    {
+        let halves = 2 * edges as usize;
         Ok(Mesh {
             vertices,
-            next: Vec::new(alloc),
-            prev: Vec::new(alloc),
-            origin: Vec::new(alloc),
-            face: Vec::new(alloc),
+            next: Vec::with_capacity(alloc, halves)?,
+            prev: Vec::with_capacity(alloc, halves)?,
+            origin: Vec::with_capacity(alloc, halves)?,
+            face: Vec::with_capacity(alloc, halves)?,
             faces_set: false,
         })
     }
