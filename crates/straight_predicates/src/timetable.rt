@@ -26,7 +26,7 @@ impl Timetable {
 
     /// The timetable of these edges. The only error is out of memory. It sorts the ends: of m
     /// edges it takes O(m log m) time, and 48 bytes for each while it does; the timetable keeps
-    /// 8 bytes for each edge and 32 for each event.
+    /// 8 bytes for each edge and 32 for each event, and has room for an event at each end.
     pub fn new(alloc: Global, edges: &[Edge]) -> Result<Timetable, Memory>
         requires few { length edges.now < 2 ^ 31 }
         requires sorted { AreSorted edges.now }
@@ -35,7 +35,7 @@ impl Timetable {
             (table_of t)) }
     {
         let ends = sorted_ends(alloc, edges)?;
-        let mut slots = Vec::new(alloc);
+        let mut slots = Vec::with_capacity(alloc, ends.len())?;
         let mut numbers = Vec::with_capacity(alloc, ends.len())?;
         let mut rays = Vec::new(alloc);
         fill(&mut slots, &mut numbers, &mut rays, edges, &ends)?;
