@@ -39,7 +39,7 @@
 //! layout is held while the transfer is read, and its text, which is at most 4,194,304 bytes long.
 //! A transfer is read in pieces of 65,536 bytes and never held: each row is judged when it is
 //! closed, and of it stay its findings, 20 bytes and its keys, and where it belongs to an area 24
-//! bytes for each vertex or point. From these the areas are drawn, with some 60 bytes for a curve;
+//! bytes for each vertex or point. From these the areas are drawn, with 56 bytes for a curve;
 //! then the drawings are searched, or checked against the text of the certificates, one by one.
 #![tactic(auto)]
 
