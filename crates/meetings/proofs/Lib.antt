@@ -8,3 +8,4 @@ pub mod CircleReaches
 pub mod CurveLists
 pub mod BadCurves
 pub mod StraightLists
+pub mod StraightPairs

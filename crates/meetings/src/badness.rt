@@ -1,18 +1,67 @@
-// Whether two curves, one of them a half arc, are bad.
-ghost use Rattle.std.specs.Prelude.{◌≡◌, ◌↔◌, ◌⊎◌, IsTrue, pos, ◌<ℤ◌};
+// Whether two curves are bad.
+ghost use Rattle.std.specs.Prelude.{◌≡◌, ◌↔◌, ◌⊎◌, ◌<◌, IsTrue, length, pos, ◌<ℤ◌};
 ghost use Rattle.plane.specs.declared.kinds.CurveKind.TheVariants as kind;
+ghost use Rattle.plane.specs.Forms.Meets.{Bad};
+ghost use Rattle.plane.specs.Forms.Vectors.{Before};
 ghost use Rattle.plane.specs.Rule.BadPairs.{AreBad, AreOneArc, EndsOn, IsEndOf};
-ghost use Rattle.plane.specs.Rule.BadPairs.{HaveSameEnds, IsCrossedOnTrial};
+ghost use Rattle.plane.specs.Rule.BadPairs.{HaveSameEnds, IsBadPair, IsCrossedOnTrial};
 ghost use Rattle.plane.specs.Rule.Curves.{arc};
 ghost use Rattle.plane.specs.Rule.HalfArcs.{bow};
 ghost use Rattle.plane.specs.Rule.Places.{point};
+ghost use Rattle.straight_predicates.specs.Meetings.{EdgesAreClose};
 ghost use Rattle.arc_predicates.specs.Circles.{AreClose};
-ghost use Rattle.meetings.specs.CurvePairs.{AreArcBad, HaveHalfArc, IsBesideEnds, IsOnCircle};
+ghost use Rattle.plane.specs.Rule.Plans.{plan};
+ghost use Rattle.meetings.specs.CurvePairs.{AreArcBad, AreBothStraight, HaveHalfArc, IsBesideEnds};
+ghost use Rattle.meetings.specs.CurvePairs.{IsOnCircle};
 ghost use Rattle.meetings.specs.PlacedCurves.{ArePlaced, IsPlacedWith};
 
 use super::placing::{is_off_third, is_on, is_on_circle};
 use arc_predicates::{circle, crosses};
-use plane::{Curve, CurveKind, Point};
+use plane::{Curve, CurveKind, Drawing, Edge, Point};
+use straight_predicates::{Meet, edge_between, meet};
+
+/// Whether the two curves of these numbers, the lesser first, are bad. It takes no memory.
+pub fn is_bad(drawing: &Drawing, first: u32, second: u32) -> bool
+    requires order { first < second }
+    requires there { second < length drawing.now.curves.items }
+    ensures { IsTrue result ↔ IsBadPair (plan drawing.now) first second }
+{
+    are_curves_bad(
+        &drawing.curves[first as usize],
+        &drawing.curves[second as usize],
+    )
+}
+
+fn are_curves_bad(first: &Curve, second: &Curve) -> bool
+    requires { ArePlaced first.now second.now }
+    ensures { IsTrue result ↔ AreBad first.now second.now }
+{
+    if have_half_arc(first, second) {
+        are_bad(first, second)
+    } else {
+        are_straights_bad(first, second)
+    }
+}
+
+fn are_straights_bad(first: &Curve, second: &Curve) -> bool
+    requires placed { ArePlaced first.now second.now }
+    requires straights { AreBothStraight first.now second.now }
+    ensures { IsTrue result ↔ AreBad first.now second.now }
+{
+    plane::rule::edges_of_straights();
+    let edge = edge_between(first.from, first.to);
+    let other = edge_between(second.from, second.to);
+    meet_badly(&edge, &other)
+}
+
+fn meet_badly(edge: &Edge, other: &Edge) -> bool
+    requires sorted { Before edge.now.low edge.now.high }
+    requires other_sorted { Before other.now.low other.now.high }
+    requires close { EdgesAreClose edge.now other.now }
+    ensures { IsTrue result ↔ Bad edge.now other.now }
+{
+    matches!(meet(edge, other), Meet::Bad)
+}
 
 /// Whether the two are bad and one of them at least is a half arc. It takes no memory.
 pub fn are_arc_bad(first: &Curve, second: &Curve) -> bool

@@ -3,8 +3,9 @@
 //! - **What it answers.** `bad_meeting`: some pair of curves that is bad, the lesser number first,
 //!   or None exactly where the drawing has no such pair. Two straights are named where some are
 //!   bad; else the least pair with a half arc, by its first number, then by its second
-//!   (`arc_meeting`). `sweep_straights`: the run of the straights' edges, or two that are bad.
-//!   `is_on`: whether a point is on a curve. `reach`: a box that holds a curve.
+//!   (`arc_meeting`). `is_bad`: whether two curves, given by their numbers, are bad.
+//!   `sweep_straights`: the run of the straights' edges, or two that are bad. `is_on`: whether a
+//!   point is on a curve. `reach`: a box that holds a curve.
 //! - **The rule that it serves.** Lines of an area meet in control points alone. What it names is
 //!   not apart in the sense of that rule (`plane::rule::bad_curves_are_not_apart`).
 //! - **How.** The straights' edges are swept (`line_sweep`). Pairs with a half arc are tested where
@@ -21,7 +22,7 @@
 //! Cost: that of a sweep over the straights; then half arcs times the curves that begin within
 //! their boxes along x, or the other way round, at most half arcs times all. Memory is linear: a
 //! sweep's and 36 bytes a curve, then 65 bytes a curve. Without a half arc the second part is one
-//! walk over the curves.
+//! walk over the curves. `is_bad` looks at its two curves alone and takes no memory.
 #![tactic(auto)]
 
 mod arcs;
@@ -35,6 +36,7 @@ mod reaching;
 mod straight_runs;
 
 pub use arcs::arc_meeting;
+pub use badness::is_bad;
 pub use edges::Straights;
 pub use finding::bad_meeting;
 pub use pairs::BadPair;
