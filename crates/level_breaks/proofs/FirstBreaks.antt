@@ -1,5 +1,5 @@
--- The first two curves that break a level, and what a test of two curves of a drawing says.
-use Rattle.std.proofs.Common.{◌≡◌, ◌↔◌, ◌⊎◌, inl, inr, ℕ, ◌<◌, ◌≤◌, Bool, false, IsTrue, Option, Some, None, List, length, refl, arith, sym, ◌∙◌, subst, All}
+-- The first two curves that break a level.
+use Rattle.std.proofs.Common.{◌≡◌, ◌⊎◌, inl, inr, ℕ, ◌<◌, ◌≤◌, Option, Some, None, List, length, refl, arith, sym, subst}
 use Rattle.std.specs.Prelude.{IfSome}
 use Rattle.plane.specs.CurveRuns.TubedRuns as runs
 use Rattle.plane.specs.Forms.Meets.{Bad, Disjoint, IsEnd, Touch}
@@ -7,96 +7,23 @@ use Rattle.plane.specs.Forms.Vectors.{point}
 use Rattle.plane.specs.Lists.{Has}
 use Rattle.plane.specs.Rule.Curves.{arc}
 use Rattle.plane.specs.Rule.Plans.{IsHalfArc, Plan, curve}
-use Rattle.plane.specs.Rule.Windows.{IsDrawn}
 use Rattle.plane.specs.Tubes.Bays.{IsTube}
 use Rattle.plane.specs.Tubes.Windings.{InTile, IsCornerOf, Tile, tiles}
-use Rattle.plane.specs.declared.kinds.Curve.{Curve}
 use Rattle.plane.specs.declared.kinds.CurveKind.TheVariants as kind
 use Rattle.plane.specs.declared.kinds.Edge.{Edge}
 use Rattle.plane.specs.declared.kinds.Point.{Point}
 use Rattle.straight_predicates.proofs.Orders.{by_lt}
-use Rattle.near_pairs.specs.Boxes.{box_of, reach_of}
 use Rattle.near_pairs.specs.LeastPairs.{IsLeastPair, IsLess}
 use Rattle.near_pairs.specs.declared.pairs.NearPair.{NearPair}
-use Rattle.near_pairs.specs.declared.reaches.Reach.{Reach}
 use Rattle.tubes.specs.DrawnEdges.{edge_from}
 use Rattle.tubes.specs.HalfArcTubes.{HasNoTube}
 use Rattle.tubes.specs.Settled.{AreTubesAt, Breaks, HaveTubes, IsFirstBreak, IsSettledAt, IsTubeFor, corners, edges, missing, owned_at}
 use Rattle.tubes.specs.TubedEdges.{HasTube, drawn_bays}
 use Rattle.tubes.specs.declared.kinds.Tube.{Tube}
-use Rattle.level_breaks.specs.GroupBreaks.{AreBroken, HasEdges}
-use Rattle.level_breaks.specs.Groups as groups
-use Rattle.level_breaks.specs.Groups.{AreGroups, HoldsAll, IsGroup, IsTubed}
-use Rattle.level_breaks.specs.LevelLists.{AreBoxesTo, IsBare, IsFirstBare, IsLesser, tube_of}
-use Rattle.level_breaks.specs.declared.groups.Group.{Group}
+use Rattle.level_breaks.specs.LevelLists.{IsBare, IsFirstBare, IsLesser, tube_of}
 use Rattle.level_breaks.specs.declared.pairs.LevelBreak.{LevelBreak}
-use Rattle.level_breaks.proofs.Choices.{clash}
-use Rattle.level_breaks.proofs.ShortForm.{broken_is, group_has_edges, groups_of, tubed_of}
+use Rattle.level_breaks.proofs.ShortForm.{groups_of}
 use Rattle.level_breaks.proofs.Unbroken.{settled}
-
--- ---- a test of two curves
--- the curve, its tube and its box are those of the number
-pub record IsNumbered (d : Plan) (tubes : List (Option Tube)) (boxes : List Reach) (i : ℕ) (g : Group) : Type 0 where
-  pub curve_is : g.curve.now ≡ curve d i
-  pub tube_is : g.tube.now ≡ tube_of tubes i
-  pub reach_is : g.reach ≡ reach_of boxes i
-
-module _ (d : Plan) (level i j : ℕ) (tubes : List (Option Tube)) (boxes : List Reach) (order : i < j) (there : j < length d.curves) (ht : AreTubesAt d level tubes) (hb : AreBoxesTo d.curves tubes (length d.curves) boxes) (g h : Group)
-    (gi : IsNumbered d tubes boxes i g) (hj : IsNumbered d tubes boxes j h) where
-  first_there : i < length d.curves
-  first_there = omega (arith, order, there)
-
-  edged_by : (k : ℕ) (x : Group) → IsNumbered d tubes boxes k x → HasEdges x.curve.now x.tube.now → HasEdges (curve d k) (tube_of tubes k)
-  edged_by k x n e = subst (λ c. HasEdges c (tube_of tubes k)) n.curve_is (subst (λ t. HasEdges x.curve.now t) n.tube_is e)
-
-  tubed_by : (k : ℕ) (x : Group) → k < length d.curves → IsNumbered d tubes boxes k x → HasEdges x.curve.now x.tube.now → IsTubed level (curve d k) (tube_of tubes k)
-  tubed_by k x l n e = tubed_of level (curve d k) (tube_of tubes k) (ht.each k l) (edged_by k x n e)
-
-  group_by : (k : ℕ) (x : Group) → k < length d.curves → All (λ (c : Curve). IsDrawn d.window.low d.window.high c) d.curves → IsNumbered d tubes boxes k x → HasEdges x.curve.now x.tube.now → IsGroup d.window.low d.window.high level x
-  group_by k x l drawn n e = record {
-    drawn = subst (IsDrawn d.window.low d.window.high) (sym n.curve_is) (drawn k _ l);
-    tubed = subst (λ c. IsTubed level c x.tube.now) (sym n.curve_is) (subst (λ t. IsTubed level (curve d k) t) (sym n.tube_is) (tubed_by k x l n e));
-    holds = subst (λ r. HoldsAll (box_of r) (groups.corners x.curve.now x.tube.now)) (sym n.reach_is)
-        (subst (λ c. HoldsAll (box_of (reach_of boxes k)) (groups.corners c x.tube.now)) (sym n.curve_is) (subst (λ t. HoldsAll (box_of (reach_of boxes k)) (groups.corners (curve d k) t)) (sym n.tube_is) (hb.holds k l)));
-  }
-
-  pub placed : level ≤ 5 → All (λ (c : Curve). IsDrawn d.window.low d.window.high c) d.curves → HasEdges g.curve.now g.tube.now → HasEdges h.curve.now h.tube.now → AreGroups g h
-  placed few drawn eg eh = record {
-    low = d.window.low;
-    high = d.window.high;
-    level = level;
-    narrow = d.window.narrow;
-    few = few;
-    first = group_by i g first_there drawn gi eg;
-    second = group_by j h there drawn hj eh;
-  }
-
-  differ : i ≡ j → ⊥
-  differ e = omega (arith, order, e)
-
-  module _ (own_enter : (i e : ℕ) (a : Edge) (p : Point) (t : Tile) → (curve d i).kind ≡ kind.HalfArc → IsTube (arc (curve d i)) (drawn_bays d level i) → e < length (runs.edge_list (drawn_bays d level) 0 d.curves)
-      → (owned_at d level e).curve ≡ i → runs.Connects a (owned_at d level e).from (owned_at d level e).to → IsEnd a p → Has t (tiles (curve d i).from (drawn_bays d level i)) → InTile t (point p) → IsCornerOf t p) where
-    pub sought_is : (b : Bool) → HasEdges g.curve.now g.tube.now → HasEdges h.curve.now h.tube.now → (IsTrue b ↔ AreBroken g.curve.now g.tube.now h.curve.now h.tube.now) → IsTrue b ↔ Breaks d level i j
-    sought_is b eg eh k =
-        let r = broken_is d level own_enter i j (tube_of tubes i) (tube_of tubes j) differ first_there there (tubed_by i g first_there gi eg) (tubed_by j h there hj eh) in
-        let k1 = subst (λ c. IsTrue b ↔ AreBroken c g.tube.now h.curve.now h.tube.now) gi.curve_is k in
-        let k2 = subst (λ t. IsTrue b ↔ AreBroken (curve d i) t h.curve.now h.tube.now) gi.tube_is k1 in
-        let k3 = subst (λ c. IsTrue b ↔ AreBroken (curve d i) (tube_of tubes i) c h.tube.now) hj.curve_is k2 in
-        let k4 = subst (λ t. IsTrue b ↔ AreBroken (curve d i) (tube_of tubes i) (curve d j) t) hj.tube_is k3 in
-        ((λ t. r.0 (k4.0 t)), (λ s. k4.1 (r.1 s)))
-
-    pub none_sought : (b : Bool) → (IsTrue b ↔ (HasEdges g.curve.now g.tube.now × HasEdges h.curve.now h.tube.now)) → b ≡ false → IsTrue b ↔ Breaks d level i j
-    none_sought b k f = (
-      (λ t. clash (sym f ∙ t)),
-      (λ s.
-          let a = groups_of d level i j differ s in
-          let e = group_has_edges d level i (tube_of tubes i) (ht.each i first_there) a.0 in
-          let m = group_has_edges d level j (tube_of tubes j) (ht.each j there) a.1 in
-          k.1 (
-            subst (λ c. HasEdges c g.tube.now) (sym gi.curve_is) (subst (λ t. HasEdges (curve d i) t) (sym gi.tube_is) e),
-            subst (λ c. HasEdges c h.tube.now) (sym hj.curve_is) (subst (λ t. HasEdges (curve d j) t) (sym hj.tube_is) m),
-          )),
-    )
 
 -- ---- half arcs without a tube
 module _ (d : Plan) (level : ℕ) (tubes : List (Option Tube)) (ht : AreTubesAt d level tubes) where

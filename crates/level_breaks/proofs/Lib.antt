@@ -12,4 +12,5 @@ pub mod PartEdges
 pub mod PartClashes
 pub mod LevelListing
 pub mod BrokenPairs
+pub mod PairBreaks
 pub mod FirstBreaks

@@ -74,3 +74,7 @@ AreBroken c t e u =
 abbrev pub HasEdges : Curve → Option Tube → Type 0
 HasEdges c None = c.kind ≡ kind.Straight
 HasEdges c (Some t) = Unit {0}
+
+-- Both have edges, and they break the level.
+abbrev pub AreBreaking : Curve → Option Tube → Curve → Option Tube → Type 0
+AreBreaking c t e u = (HasEdges c t × HasEdges e u) × AreBroken c t e u

@@ -4,7 +4,7 @@ ghost use Rattle.std.specs.Prelude.{length};
 ghost use Rattle.plane.specs.Rule.Plans.{plan};
 ghost use Rattle.near_pairs.specs.LeastPairs.{IsLeastPair};
 ghost use Rattle.tubes.specs.Settled.{AreTubesAt, Breaks, IsFirstBreak, IsSettledAt};
-ghost use Rattle.level_breaks.specs.GroupBreaks.{AreBroken, HasEdges, OneIsUnderChord};
+ghost use Rattle.level_breaks.specs.GroupBreaks.{AreBreaking, AreBroken, HasEdges, OneIsUnderChord};
 ghost use Rattle.level_breaks.specs.Groups.{AreGroups};
 ghost use Rattle.level_breaks.specs.LevelLists.{HasNoBadStraights, IsLesser};
 
@@ -68,8 +68,18 @@ impl<'a> PairTest for BreakTest<'a> {
         let one = self.group(first);
         let other = self.group(second);
         plane::settled::own_edges_of_tubes();
-        have_edges(&one, &other) && are_broken(&one, &other)
+        are_breaking(&one, &other)
     }
+}
+
+/// Whether both curves have edges, and the two break the level.
+pub fn are_breaking(one: &Group, other: &Group) -> bool
+    requires { HasEdges one.now.curve.now one.now.tube.now
+        → HasEdges other.now.curve.now other.now.tube.now → AreGroups one.now other.now }
+    ensures { IsTrue result ↔ AreBreaking one.now.curve.now one.now.tube.now
+        other.now.curve.now other.now.tube.now }
+{
+    have_edges(one, other) && are_broken(one, other)
 }
 
 fn have_edges(one: &Group, other: &Group) -> bool

@@ -2,7 +2,8 @@
 //!
 //! - **What it answers.** `first_break`: the least two curves that break the level, by the first
 //!   number, then by the second; a half arc that has no tube at the level breaks it alone, and is
-//!   named twice. None exactly where the level settles the drawing.
+//!   named twice. None exactly where the level settles the drawing. `breaks_level`: whether two
+//!   curves, given by their numbers, break the level.
 //! - **The rule that it serves.** A level settles a drawing where every two edges that stand for
 //!   its curves meet in common ends alone, corners of tubes are their own, and nothing enters a
 //!   tube (`IsSettledAt` and `Breaks` of `tubes`). No two curves break a level that settles the
@@ -10,7 +11,7 @@
 //!   level is a half arc (`laws::undecided_has_half_arc`), and straights alone are settled at level
 //!   0 (`laws::straights_are_settled`).
 //! - **What it asks for.** No two straights of the drawing are bad. So pairs of straights are not
-//!   tested.
+//!   tested. `breaks_level` asks for no more than two curves.
 //! - **How.** Two curves break a level exactly where one of three things holds: two of their edges,
 //!   one of each curve, meet badly; an edge of one of them ends in the tube of the other, at no end
 //!   of that curve; or one of them is a straight between the ends of the other, a half arc whose
@@ -32,6 +33,7 @@
 //! parts, as for curves that run along each other closer than a part is long. A box of n parts
 //! reads the corners of n parts. Memory: 32 bytes for each corner pair of a tube (32 K bytes
 //! with K = 2^(level + 1) bays), a `Tube` and 65 bytes a curve; comparing takes none.
+//! `breaks_level` makes the tubes of its two curves alone.
 #![tactic(auto)]
 
 mod boxes;
@@ -43,9 +45,11 @@ mod halves;
 pub mod laws;
 mod listing;
 mod meeting;
+mod one_pair;
 mod pairs;
 mod parts;
 mod triangles;
 
 pub use finding::first_break;
+pub use one_pair::breaks_level;
 pub use pairs::LevelBreak;

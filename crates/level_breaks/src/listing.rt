@@ -27,7 +27,8 @@ pub fn level_tubes(alloc: Global, drawing: &Drawing, level: u8) -> Result<Vec<Op
     Ok(tubes)
 }
 
-fn tube_for(alloc: Global, curve: &Curve, level: u8) -> Result<Option<Tube>, Memory>
+/// The same for one curve.
+pub fn tube_for(alloc: Global, curve: &Curve, level: u8) -> Result<Option<Tube>, Memory>
     requires level { level ≤ 5 }
     requires fit { IsFit curve.now }
     ensures { IfOk result (IsTubeFor curve.now level) }
@@ -50,7 +51,8 @@ pub fn boxes(alloc: Global, curves: &[Curve], tubes: &[Option<Tube>]) -> Result<
     Ok(boxes)
 }
 
-fn group_box(curve: &Curve, tube: &Option<Tube>) -> Reach
+/// A box that holds the ends of the curve's edges.
+pub fn group_box(curve: &Curve, tube: &Option<Tube>) -> Reach
     ensures { HoldsAll (box_of result) (corners curve.now tube.now) }
 {
     match tube {
