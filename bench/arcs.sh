@@ -1,10 +1,11 @@
 #!/usr/bin/env bash
 # Counts what half arcs cost `check` of the built program, in instructions as `callgrind` counts
-# them, beside a plain C++ sweep over the straights and the chords of the half arcs, whose reading
-# of numbers is taken away. On a delivery that level 0 settles: the edge list with its tubes, the
-# sweep of the edges, the test of the corners and of the cells, all of the search. On the same one
-# with a bad pair: the search of bad pairs with a half arc. On the same one with a half arc that has
-# no tube: the levels from 1 to 5. Prints ratios, no absolute counts.
+# them, beside a plain C++ sweep over the straights and the chords of the half arcs, whose reading of
+# numbers is taken away. On a delivery that level 0 settles: the edge list with its tubes, the sweep
+# of the edges, the test of the corners and of the cells, all of the search. On the same one with a
+# bad pair: all of the search. On the same one with a half arc that has no tube, so that no level
+# settles it: the search of bad pairs with a half arc, what follows the levels, all of the search.
+# Prints ratios, no absolute counts.
 #
 # usage: bench/arcs.sh [ITFCHECK [SIZE]]    (crates/itfcheck/out/itfcheck and 10000 where none is
 #                                           given; a run takes some minutes)
@@ -71,9 +72,10 @@ for kind in cover arcs; do
     tell "$(search check.counts)" "$sweep" "the search in all" 2.5
     python3 "$top/bench/drawings.py" $kind-bad $size "$work"
     count bad.counts "$itfcheck" check model transfer certificate
-    tell "$(counted bad.counts meetings::arcs::arc_meeting near_pairs::finding::least:: near_pairs::finding::pass::)" "$sweep" "bad pairs with a half arc" 0.8
+    tell "$(search bad.counts)" "$sweep" "the search in all of the bad one"
     python3 "$top/bench/drawings.py" $kind-undecided $size "$work"
     count undecided.counts "$itfcheck" check model transfer certificate
+    tell "$(counted undecided.counts meetings::arcs::arc_meeting area_search::levels::fault_beside_straights)" "$sweep" "bad pairs with a half arc" 0.8
     tell "$(counted undecided.counts area_search::levels::search_levels)" "$sweep" "bad pairs, points and levels"
     tell "$(search undecided.counts)" "$sweep" "the undecided search in all"
 done

@@ -1,5 +1,5 @@
 -- The least level that settles a drawing, and its edges there as a case.
-use Rattle.std.proofs.Common.{◌≡◌, ◌⊎◌, inl, inr, ℕ, ◌*◌, ◌<◌, ◌≤◌, ◌^◌, List, length, arith, refl, ap, ◌∙◌, subst}
+use Rattle.std.proofs.Common.{◌≡◌, ◌⊎◌, inl, inr, ℕ, ◌*◌, ◌<◌, ◌≤◌, ◌^◌, Some, List, length, arith, refl, ap, ◌∙◌, subst}
 use Rattle.plane.specs.Forms.Meets.{Bad, Disjoint, Touch}
 use Rattle.plane.specs.Rule.BadPairs.{IsBadPair}
 use Rattle.plane.specs.Rule.Plans.{Plan, curve}
@@ -10,9 +10,14 @@ use Rattle.plane.specs.declared.kinds.Edge.{Edge}
 use Rattle.meetings.specs.CurvePairs.{AreBothStraight, IsArcPair}
 use Rattle.line_sweep.specs.Kinds.{AreBad}
 use Rattle.level_breaks.specs.declared.pairs.LevelBreak.{LevelBreak}
-use Rattle.tubes.specs.Settled.{Breaks, IsFirstBreak, IsSettledAt, edge_at, edges_at}
+use Rattle.tubes.specs.Settled.{Breaks, IsFirstBreak, IsSettledAt, edge_at, edges_at, owned_at}
+use Rattle.tubes.specs.TubedEdges.{owner_as}
 use Rattle.tubes.specs.declared.kinds.EdgeList.{EdgeList}
+use Rattle.tubes.specs.declared.kinds.Owner.{Owner}
 use Rattle.area_search.specs.Answers.{AreClear, IsAnswer, IsLeastLevel, SettlesNoneBelow, undecided}
+use Rattle.area_search.specs.CaseRoots.{owner_at}
+use Rattle.area_search.specs.LevelAnswers.{AreOfCurves, AreOfDrawing}
+use Rattle.area_search.specs.declared.bad_edges.CurvePair.{CurvePair}
 use Rattle.area_search.specs.declared.kinds.AreaAnswer.TheVariants.{Undecided}
 use Rattle.area_search.proofs.Small.{by_lt}
 
@@ -56,3 +61,25 @@ module _ (d : Plan) (level : ℕ) (list : EdgeList) (edges_are : list.edges.item
 
       by : AreBad (edges_at d level) e f → ⊥
       by k = no (edge_at d level e) (edge_at d level f) k.bad (s.meet e f k.first k.second k.differ)
+
+-- ---- the curves of edges
+-- the owners at a level are curves of the drawing
+pub owners_there : (d : Plan) (level : ℕ) (list : EdgeList) (owners : List Owner) → owners ≡ list.owners.items → length list.owners.items ≡ length list.edges.items → list.edges.items ≡ edges_at d level
+    → ((e : ℕ) → e < length list.edges.items → owner_at list.owners.items e ≡ owner_as (owned_at d level e)) → ((e : ℕ) → e < length (edges_at d level) → (owned_at d level e).curve < length d.curves) → AreOfCurves d owners
+owners_there d level list owners same size edges_are each there e l =
+    let m : e < length list.owners.items = subst (λ (os : List Owner). e < length os) same l in
+    let n : e < length list.edges.items = omega (arith, m, size) in
+    let q = ap length edges_are in
+    let k = ap (λ (os : List Owner). (owner_at os e).curve) same in
+    let o = ap (λ (x : Owner). x.curve) (each e n) in
+    let t = there e (omega (arith, n, q)) in
+    omega (arith, k, o, t)
+
+-- of two that are, in order
+pub pair_there : (d : Plan) (owners : List Owner) (e f a b : ℕ) (p : CurvePair) → AreOfCurves d owners → e < length owners → f < length owners → a ≡ (owner_at owners e).curve → b ≡ (owner_at owners f).curve
+    → p.first < p.second → (p.second ≡ a) ⊎ (p.second ≡ b) → AreOfDrawing d (Some p)
+pair_there d owners e f a b p curves l m g h order second = (order, by second)
+  where
+    by : (p.second ≡ a) ⊎ (p.second ≡ b) → p.second < length d.curves
+    by (inl q) = let k = curves e l in omega (arith, q, g, k)
+    by (inr q) = let k = curves f m in omega (arith, q, h, k)

@@ -1,10 +1,13 @@
 -- What is at fault with the curves of a drawing, whether a level settles it or not, and the answer
 -- at one level.
-use Rattle.std.specs.Prelude.{ℕ, Option, Some, None, ⊤}
+use Rattle.std.specs.Prelude.{ℕ, ◌<◌, Option, Some, None, List, length, ⊤}
 use Rattle.plane.specs.Rule.Plans.{Plan}
 use Rattle.tubes.specs.Settled.{IsSettledAt}
+use Rattle.tubes.specs.declared.kinds.Owner.{Owner}
 use Rattle.area_search.specs.Answers.{AreClear, IsAnswer}
 use Rattle.area_search.specs.declared.kinds.AreaAnswer.TheVariants.{Fault}
+use Rattle.area_search.specs.CaseRoots.{owner_at}
+use Rattle.area_search.specs.declared.bad_edges.CurvePair.{CurvePair}
 use Rattle.area_search.specs.declared.by_sweep.Shown.{Shown}
 use Rattle.area_search.specs.declared.by_sweep.Shown.TheVariants as shown
 use Rattle.area_search.specs.declared.kinds.AreaAnswer.{AreaAnswer}
@@ -20,8 +23,18 @@ abbrev pub IsAnswerAt : Plan → ℕ → Option AreaAnswer → Type 0
 IsAnswerAt d level None = IsSettledAt d level → ⊥
 IsAnswerAt d level (Some answer) = IsAnswer d answer
 
--- What a sweep shows of a level: the answer, or that it does not settle the drawing, or nothing.
+-- Two curves of the drawing, the lesser number first; or none is named.
+abbrev pub AreOfDrawing : Plan → Option CurvePair → Type 0
+AreOfDrawing d None = ⊤
+AreOfDrawing d (Some p) = (p.first < p.second) × (p.second < length d.curves)
+
+-- The owners are curves of the drawing.
+abbrev pub AreOfCurves : Plan → List Owner → Type 0
+AreOfCurves d owners =
+    (e : ℕ) → e < length owners → (owner_at owners e).curve < length d.curves
+
+-- What is shown of a level: the answer, or that it does not settle the drawing, or nothing.
 abbrev pub IsShown : Plan → ℕ → Shown → Type 0
 IsShown d level (shown.Answer answer) = IsAnswer d answer
-IsShown d level shown.Unsettled = IsSettledAt d level → ⊥
+IsShown d level (shown.Unsettled pair) = (IsSettledAt d level → ⊥) × AreOfDrawing d pair
 IsShown d level shown.Nothing = ⊤

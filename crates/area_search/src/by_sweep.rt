@@ -11,6 +11,7 @@ ghost use Rattle.tubes.specs.TubedEdges.{AreUsable, IsTubedList};
 ghost use Rattle.area_search.specs.Answers.{SettlesNoneBelow};
 ghost use Rattle.area_search.specs.LevelAnswers.{IsShown};
 
+use super::bad_edges::{CurvePair, shown_by_edges};
 use super::case::Case;
 use super::cell_sides::are_paired;
 use super::finishing::answer_case;
@@ -28,8 +29,8 @@ use tubes::{EdgeList, edge_list, facings};
 pub(crate) enum Shown {
     /// The answer: the level settles the drawing.
     Answer(AreaAnswer),
-    /// The level does not settle the drawing.
-    Unsettled,
+    /// The level does not settle the drawing. Where two bad edges show it, their two curves.
+    Unsettled(Option<CurvePair>),
     /// Neither.
     Nothing,
 }
@@ -45,15 +46,15 @@ pub(crate) fn answer_by_sweep(alloc: Global, drawing: &Drawing, level: u8) -> Re
     tubes::laws::few_edges();
     level_breaks::laws::settled_is_unbroken();
     if level > 0 && is_tube_missing(alloc, drawing, level)? {
-        return Ok(Shown::Unsettled);
+        return Ok(Shown::Unsettled(None));
     }
     match edge_list(alloc, drawing, level)? {
         Some(list) => answer_list(alloc, drawing, level, list),
-        None => Ok(Shown::Unsettled),
+        None => Ok(Shown::Unsettled(None)),
     }
 }
 
-/// The same, with the edges of the level.
+/// The same, with the edges of the level. Of two that are bad, the curves are tested.
 fn answer_list(alloc: Global, drawing: &Drawing, level: u8, list: EdgeList) -> Result<Shown, Memory>
     requires low { level ≤ 5 }
     requires least { SettlesNoneBelow (plan drawing.now) level }
@@ -63,10 +64,13 @@ fn answer_list(alloc: Global, drawing: &Drawing, level: u8, list: EdgeList) -> R
     ensures { IfOk result (IsShown (plan drawing.now) level) }
 {
     tubes::laws::tubed_lists();
+    tubes::laws::chains_have_edges();
     plane::sweeps::meetings_are_decided();
     match sweep(alloc, &list.edges) {
         Ok(swept) => answer_swept(alloc, drawing, level, list, swept),
-        Err(SweepRefusal::Bad { .. }) => Ok(Shown::Unsettled),
+        Err(SweepRefusal::Bad { first, second }) => {
+            Ok(shown_by_edges(drawing, &list.owners, first, second))
+        }
         Err(SweepRefusal::Memory) => Err(Memory),
     }
 }

@@ -1,11 +1,14 @@
 // The answer to a drawing.
 ghost use Rattle.std.specs.Prelude.{◌≤◌, IfOk, length};
 ghost use Rattle.plane.specs.Rule.Plans.{plan};
-ghost use Rattle.area_search.specs.Answers.{IsAnswer};
+ghost use Rattle.area_search.specs.Answers.{IsAnswer, SettlesNoneBelow};
+ghost use Rattle.area_search.specs.LevelAnswers.{AreOfDrawing, IsShown};
 
+use super::bad_edges::CurvePair;
 use super::by_sweep::{Shown, answer_by_sweep};
 use super::kinds::AreaAnswer;
 use super::levels::search_levels;
+use level_breaks::breaks_level;
 use plane::Drawing;
 use ports::Memory;
 use std::alloc::Global;
@@ -18,9 +21,37 @@ pub fn find_area(alloc: Global, drawing: &Drawing) -> Result<AreaAnswer, Memory>
     requires curves { length (plan drawing.now).curves ≤ 16000000 }
     ensures { IfOk result (IsAnswer (plan drawing.now)) }
 {
-    match answer_by_sweep(alloc, drawing, 0)? {
-        Shown::Answer(answer) => Ok(answer),
-        Shown::Unsettled => search_levels(alloc, drawing, 1),
-        Shown::Nothing => search_levels(alloc, drawing, 0),
+    let mut pair = None;
+    for level in 0..6 {
+        match shown_at(alloc, drawing, level, pair)? {
+            Shown::Answer(answer) => return Ok(answer),
+            Shown::Unsettled(next) => pair = next,
+            Shown::Nothing => return search_levels(alloc, drawing, level),
+        }
     }
+    search_levels(alloc, drawing, 6)
+}
+
+/// What is shown of a level that is the least one or follows one that does not settle the drawing:
+/// by the two curves whose edges were bad there, if they break this level too; else by a sweep. The
+/// only error is out of memory.
+fn shown_at(
+    alloc: Global,
+    drawing: &Drawing,
+    level: u8,
+    pair: Option<CurvePair>,
+) -> Result<Shown, Memory>
+    requires curves { length (plan drawing.now).curves ≤ 16000000 }
+    requires low { level ≤ 5 }
+    requires least { SettlesNoneBelow (plan drawing.now) level }
+    requires pair { AreOfDrawing (plan drawing.now) pair }
+    ensures { IfOk result (IsShown (plan drawing.now) level) }
+{
+    level_breaks::laws::settled_is_unbroken();
+    if let Some(two) = pair {
+        if breaks_level(alloc, drawing, two.first, two.second, level)? {
+            return Ok(Shown::Unsettled(pair));
+        }
+    }
+    answer_by_sweep(alloc, drawing, level)
 }

@@ -126,7 +126,7 @@ fn try_level(alloc: Global, drawing: &Drawing, level: u8) -> Result<Option<AreaA
 {
     match answer_by_sweep(alloc, drawing, level)? {
         Shown::Answer(answer) => Ok(Some(answer)),
-        Shown::Unsettled => Ok(None),
+        Shown::Unsettled(_) => Ok(None),
         Shown::Nothing => answer_by_pairs(alloc, drawing, level),
     }
 }

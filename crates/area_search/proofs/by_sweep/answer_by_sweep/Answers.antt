@@ -15,10 +15,10 @@ pub returns-in-None : goal.returns-in-None
 returns-in-None c =
     let d = plan c.args.drawing.now in
     let (i, half, none) = subst (IsListAt d c.args.level) c.in-None.is c.in_ok-list.ensures.list in
-    λ s. c.settled_is_unbroken.ensures d c.args.level i i s (missing refl half none)
+    ((λ s. c.settled_is_unbroken.ensures d c.args.level i i s (missing refl half none)), tt)
 
 pub returns-then-branch : goal.returns-then-branch
 returns-then-branch c =
     let d = plan c.args.drawing.now in
     let (i, half, none) = c.in_ok-is_tube_missing.ensures (search rules) in
-    λ s. c.settled_is_unbroken.ensures d c.args.level i i s (missing refl half none)
+    ((λ s. c.settled_is_unbroken.ensures d c.args.level i i s (missing refl half none)), tt)
