@@ -20,12 +20,7 @@ pub(crate) struct CurvePair {
 
 /// What two edges show of a level that does not settle the drawing: that their curves are bad, or
 /// no more than which two curves they stand for.
-pub(crate) fn shown_by_edges(
-    drawing: &Drawing,
-    owners: &[Owner],
-    first: u32,
-    second: u32,
-) -> Shown
+pub(crate) fn shown_by_edges(drawing: &Drawing, owners: &[Owner], first: u32, second: u32) -> Shown
     requires first { first < length owners.now }
     requires second { second < length owners.now }
     requires curves { AreOfCurves (plan drawing.now) owners.now }
