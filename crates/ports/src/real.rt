@@ -54,6 +54,10 @@ impl Shelf for RealShelf {
 
     ghost write_faults = { λ s. s.write_faults };
 
+    ghost readable = { λ s q. ⊥ };
+
+    ghost space = { λ s q. None };
+
     /// A fault is counted exactly where the read fails.
     fn read(&mut self, name: &str, from: u64, into: &mut [u8]) -> Result<usize, Failed>
         requires { 0 < length into.old }
@@ -131,6 +135,8 @@ impl Sink for RealSink {
     ghost written = { λ s. None };
 
     ghost faults = { λ s. s.faults };
+
+    ghost space = { λ s. None };
 
     /// A fault is counted exactly where the call fails.
     fn put(&mut self, bytes: &[u8]) -> Result<(), Failed>

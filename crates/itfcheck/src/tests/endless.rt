@@ -24,6 +24,10 @@ impl Shelf for Endless {
 
     ghost write_faults = { λ s. s.faults };
 
+    ghost readable = { λ s q. ⊥ };
+
+    ghost space = { λ s q. None };
+
     fn read(&mut self, name: &str, from: u64, into: &mut [u8]) -> Result<usize, Failed> {
         if name == "T" {
             let left = LENGTH.saturating_sub(from);

@@ -36,6 +36,10 @@ impl Shelf for Pieces {
 
     ghost write_faults = { λ s. s.faults };
 
+    ghost readable = { λ s q. ⊥ };
+
+    ghost space = { λ s q. None };
+
     fn read(&mut self, name: &str, from: u64, into: &mut [u8]) -> Result<usize, Failed> {
         let most = self.most(from).max(1).min(into.len());
         match self.files.read(name, from, &mut into[..most]) {
