@@ -130,11 +130,17 @@ straight name bytes held (Err e) now p g = λ before text w. append_failed befor
 
 -- ---- a line for each item of a list
 
-flat_more : {X : Type 0} (f : X → List ℕ) (xs : List X) (i : ℕ) (d : X) → i < length xs → flat_map f (take (i + 1) xs) ≡ flat_map f (take i xs) ++ f (get_or xs i d)
+pub flat_more : {X : Type 0} (f : X → List ℕ) (xs : List X) (i : ℕ) (d : X) → i < length xs → flat_map f (take (i + 1) xs) ≡ flat_map f (take i xs) ++ f (get_or xs i d)
 flat_more f xs i d l = ap (flat_map f) (take_more xs i d l) ∙ (flat_map-append f (take i xs) (get_or xs i d ∷ []) ∙ ap (λ (t : List ℕ). flat_map f (take i xs) ++ t) (flat_map-cons f (get_or xs i d) [] ∙ append-nil (f (get_or xs i d))))
 
-flat_split : {X : Type 0} (f : X → List ℕ) (xs : List X) (n : ℕ) → flat_map f xs ≡ flat_map f (take n xs) ++ flat_map f (drop n xs)
+pub flat_split : {X : Type 0} (f : X → List ℕ) (xs : List X) (n : ℕ) → flat_map f xs ≡ flat_map f (take n xs) ++ flat_map f (drop n xs)
 flat_split {X = X} f xs n = ap (flat_map f) (sym (take-append-drop n xs)) ∙ flat_map-append f (take n xs) (drop n xs)
+
+pub each_more : {X : Type 0} (f : X → List ℕ) (xs : List X) (i : ℕ) (d : X) (name : List ℕ) (held : Option Files) (waits : List ℕ) (mid : Option Files) (between : List ℕ) (now : Option Files) (left : List ℕ)
+    → i < length xs → Writes name (flat_map f (take i xs)) held waits (Ok tt) mid between → Writes name (f (get_or xs i d)) mid between (Ok tt) now left
+    → Writes name (flat_map f (take (i + 1) xs)) held waits (Ok tt) now left
+each_more f xs i d name held waits mid between now left l h k =
+    subst (λ (t : List ℕ). Writes name t held waits (Ok tt) now left) (sym (flat_more f xs i d l)) (writes_then name (flat_map f (take i xs)) (f (get_or xs i d)) held waits mid between (Ok tt) now left h k)
 
 pub each_failed : {X : Type 0} (f : X → List ℕ) (xs : List X) (i : ℕ) (d : X) (name : List ℕ) (held : Option Files) (waits : List ℕ) (mid : Option Files) (between : List ℕ) (e x : Failed) (now : Option Files) (left other : List ℕ)
     → i < length xs → Writes name (flat_map f (take i xs)) held waits (Ok tt) mid between → Writes name (f (get_or xs i d)) mid between (Err e) now left

@@ -1,11 +1,12 @@
 -- What writing in pieces adds to a file.
-use Rattle.std.specs.Prelude.{◌≡◌, ◌≤◌, ℕ, List, [], ◌++◌, codes, Option, Some, None, Result, Ok}
-use Rattle.std.specs.Prelude.{Err, OnErr, ⊤, ◌⊎◌}
+use Rattle.std.specs.Prelude.{◌≡◌, ◌≤◌, ◌+◌, ℕ, List, [], ◌++◌, length, codes, Option, Some, None}
+use Rattle.std.specs.Prelude.{Result, Ok, Err, IsOk, OnOk, OnErr, ⊤, ◌⊎◌}
 use Rattle.std.specs.Fmt.{decimal}
 use Rattle.std.specs.FinMap as map
 use Rattle.ports.specs.declared.Failed.{Failed}
-use Rattle.ports.specs.Faults.{NoReadFell, Rose}
+use Rattle.ports.specs.Faults.{NoReadFell, Rose, CountsStay}
 use Rattle.ports.specs.Files.{Files, Gained, bytes_of}
+use Rattle.ports.specs.Rooms.{HasRoom}
 use Rattle.certificate.specs.declared.words.Word.{Word}
 use Rattle.certificate.specs.declared.words.Word.TheVariants.{Text, Number, Across}
 
@@ -45,7 +46,16 @@ Writes name bytes held waits result now left =
     (before : Option Files) (text : List ℕ) → Pending before name text held waits
     → Outcome result before name (text ++ bytes) now left
 
--- no count of faults fell, and a call that failed raised that of failed writes
+-- a call wrote these bytes: where the file has room for what waits, for them and for some more, the
+-- call did not fail, and there is room for what then waits and for as many more
+pub record NeedsRoom (bytes : List ℕ) (room : Option ℕ) (waits : List ℕ)
+    (result : Result (Unit {0}) Failed) (now : Option ℕ) (left : List ℕ) : Type 0 where
+  pub goes : (more : ℕ) → HasRoom (length waits + (length bytes + more)) room
+      → IsOk result × HasRoom (length left + more) now
+
+-- no count of faults fell, a call that failed raised that of failed writes, and one that did not
+-- moved none
 abbrev pub OnlyWritesFail : (List ℕ → ℕ) → ℕ → Result (Unit {0}) Failed → (List ℕ → ℕ) → ℕ → Type 0
 OnlyWritesFail reads writes result reads_now writes_now =
     NoReadFell reads reads_now × (writes ≤ writes_now) × OnErr result (Rose writes writes_now)
+    × OnOk result (CountsStay reads writes reads_now writes_now)

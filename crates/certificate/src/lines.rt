@@ -3,7 +3,7 @@ ghost use Rattle.std.specs.Prelude.{◌≡◌, ◌++◌, ◌∷◌, [], OnOk, ma
 ghost use Rattle.std.specs.Fmt.{decimal};
 ghost use Rattle.std.specs.List.{flat_map};
 ghost use Rattle.certificate.specs.Spelling.{line};
-ghost use Rattle.certificate.specs.Appending.{OnlyWritesFail, Writes, word_text, next_word};
+ghost use Rattle.certificate.specs.Appending.{OnlyWritesFail, NeedsRoom, Writes, word_text, next_word};
 
 use crate::page::Page;
 use crate::words::Word;
@@ -14,6 +14,8 @@ use ports::{Failed, Shelf};
 pub fn flush<S: Shelf>(shelf: &mut S, name: &str, page: &mut Page) -> Result<(), Failed>
     ensures written { Writes name.now [] (S.held shelf.old) page.old result (S.held shelf.new)
         page.new }
+    ensures room { NeedsRoom [] (S.space shelf.old name.now) page.old result
+        (S.space shelf.new name.now) page.new }
     ensures empty { OnOk result (page.new ≡ []) }
     ensures faults { OnlyWritesFail (S.read_faults shelf.old) (S.write_faults shelf.old) result
         (S.read_faults shelf.new) (S.write_faults shelf.new) }
@@ -27,6 +29,8 @@ pub fn flush<S: Shelf>(shelf: &mut S, name: &str, page: &mut Page) -> Result<(),
 fn put<S: Shelf>(shelf: &mut S, name: &str, page: &mut Page, bytes: &[u8]) -> Result<(), Failed>
     ensures written { Writes name.now bytes.now (S.held shelf.old) page.old result
         (S.held shelf.new) page.new }
+    ensures room { NeedsRoom bytes.now (S.space shelf.old name.now) page.old result
+        (S.space shelf.new name.now) page.new }
     ensures faults { OnlyWritesFail (S.read_faults shelf.old) (S.write_faults shelf.old) result
         (S.read_faults shelf.new) (S.write_faults shelf.new) }
 {
@@ -49,6 +53,8 @@ fn put_number<S: Shelf>(
 ) -> Result<(), Failed>
     ensures written { Writes name.now (decimal number) (S.held shelf.old) page.old result
         (S.held shelf.new) page.new }
+    ensures room { NeedsRoom (decimal number) (S.space shelf.old name.now) page.old result
+        (S.space shelf.new name.now) page.new }
     ensures faults { OnlyWritesFail (S.read_faults shelf.old) (S.write_faults shelf.old) result
         (S.read_faults shelf.new) (S.write_faults shelf.new) }
 {
@@ -60,6 +66,8 @@ fn put_number<S: Shelf>(
 fn put_across<S: Shelf>(shelf: &mut S, name: &str, page: &mut Page, half: u64) -> Result<(), Failed>
     ensures written { Writes name.now (codes "C" ++ decimal half) (S.held shelf.old) page.old result
         (S.held shelf.new) page.new }
+    ensures room { NeedsRoom (codes "C" ++ decimal half) (S.space shelf.old name.now) page.old result
+        (S.space shelf.new name.now) page.new }
     ensures faults { OnlyWritesFail (S.read_faults shelf.old) (S.write_faults shelf.old) result
         (S.read_faults shelf.new) (S.write_faults shelf.new) }
 {
@@ -76,6 +84,8 @@ fn put_word<S: Shelf>(
 ) -> Result<(), Failed>
     ensures written { Writes name.now (word_text word.now) (S.held shelf.old) page.old result
         (S.held shelf.new) page.new }
+    ensures room { NeedsRoom (word_text word.now) (S.space shelf.old name.now) page.old result
+        (S.space shelf.new name.now) page.new }
     ensures faults { OnlyWritesFail (S.read_faults shelf.old) (S.write_faults shelf.old) result
         (S.read_faults shelf.new) (S.write_faults shelf.new) }
 {
@@ -95,6 +105,8 @@ fn put_next<S: Shelf>(
 ) -> Result<(), Failed>
     ensures written { Writes name.now (next_word word.now) (S.held shelf.old) page.old result
         (S.held shelf.new) page.new }
+    ensures room { NeedsRoom (next_word word.now) (S.space shelf.old name.now) page.old result
+        (S.space shelf.new name.now) page.new }
     ensures faults { OnlyWritesFail (S.read_faults shelf.old) (S.write_faults shelf.old) result
         (S.read_faults shelf.new) (S.write_faults shelf.new) }
 {
@@ -111,6 +123,8 @@ fn put_words<S: Shelf>(
 ) -> Result<(), Failed>
     ensures written { Writes name.now (flat_map next_word words.now) (S.held shelf.old) page.old
         result (S.held shelf.new) page.new }
+    ensures room { NeedsRoom (flat_map next_word words.now) (S.space shelf.old name.now) page.old result
+        (S.space shelf.new name.now) page.new }
     ensures faults { OnlyWritesFail (S.read_faults shelf.old) (S.write_faults shelf.old) result
         (S.read_faults shelf.new) (S.write_faults shelf.new) }
 {
@@ -130,6 +144,8 @@ pub fn put_line<S: Shelf>(
 ) -> Result<(), Failed>
     ensures written { Writes name.now (line (first.now ∷ map word_text words.now))
         (S.held shelf.old) page.old result (S.held shelf.new) page.new }
+    ensures room { NeedsRoom (line (first.now ∷ map word_text words.now)) (S.space shelf.old name.now) page.old result
+        (S.space shelf.new name.now) page.new }
     ensures faults { OnlyWritesFail (S.read_faults shelf.old) (S.write_faults shelf.old) result
         (S.read_faults shelf.new) (S.write_faults shelf.new) }
 {

@@ -1,12 +1,13 @@
 // A certificate's text, written line by line.
 ghost use Rattle.std.specs.Prelude.{◌≡◌, ◌≤◌, ◌++◌, ◌∷◌, ◌<◌, [], OnOk, OnErr};
-ghost use Rattle.std.specs.Prelude.{IfSome, IfNone, length};
+ghost use Rattle.std.specs.Prelude.{IfSome, IfNone, IsOk, length};
 ghost use Rattle.std.specs.List.{flat_map};
-ghost use Rattle.ports.specs.Faults.{NoReadFell, Rose};
+ghost use Rattle.ports.specs.Faults.{NoReadFell, Rose, CountsStay};
 ghost use Rattle.ports.specs.Files.{Puts, Gained, OthersStay, bytes_of};
+ghost use Rattle.ports.specs.Rooms.{HasRoom};
 ghost use Rattle.certificate.specs.Spelling.{event_line, edge_line, place_line, pairs, title_line};
 ghost use Rattle.certificate.specs.Spelling.{sizes_line, certificate_text, spelling, view, views};
-ghost use Rattle.certificate.specs.Appending.{OnlyWritesFail, Writes};
+ghost use Rattle.certificate.specs.Appending.{OnlyWritesFail, NeedsRoom, Writes};
 
 use crate::lines::{flush, put_line};
 use crate::notes::{Certificate, HalfNote, PointPlace};
@@ -23,6 +24,8 @@ fn put_event<S: Shelf>(
 ) -> Result<(), Failed>
     ensures written { Writes name.now (event_line position) (S.held shelf.old) page.old result
         (S.held shelf.new) page.new }
+    ensures room { NeedsRoom (event_line position) (S.space shelf.old name.now) page.old result
+        (S.space shelf.new name.now) page.new }
     ensures faults { OnlyWritesFail (S.read_faults shelf.old) (S.write_faults shelf.old) result
         (S.read_faults shelf.new) (S.write_faults shelf.new) }
 {
@@ -45,6 +48,8 @@ fn put_edge<S: Shelf>(
 ) -> Result<(), Failed>
     ensures written { Writes name.now (edge_line (below.now, above.now)) (S.held shelf.old) page.old
         result (S.held shelf.new) page.new }
+    ensures room { NeedsRoom (edge_line (below.now, above.now)) (S.space shelf.old name.now) page.old result
+        (S.space shelf.new name.now) page.new }
     ensures faults { OnlyWritesFail (S.read_faults shelf.old) (S.write_faults shelf.old) result
         (S.read_faults shelf.new) (S.write_faults shelf.new) }
 {
@@ -68,6 +73,8 @@ fn put_place<S: Shelf>(
 ) -> Result<(), Failed>
     ensures written { Writes name.now (place_line place.now) (S.held shelf.old) page.old result
         (S.held shelf.new) page.new }
+    ensures room { NeedsRoom (place_line place.now) (S.space shelf.old name.now) page.old result
+        (S.space shelf.new name.now) page.new }
     ensures faults { OnlyWritesFail (S.read_faults shelf.old) (S.write_faults shelf.old) result
         (S.read_faults shelf.new) (S.write_faults shelf.new) }
 {
@@ -101,6 +108,8 @@ fn put_title<S: Shelf>(
 ) -> Result<(), Failed>
     ensures written { Writes name.now (title_line (view certificate.now)) (S.held shelf.old)
         page.old result (S.held shelf.new) page.new }
+    ensures room { NeedsRoom (title_line (view certificate.now)) (S.space shelf.old name.now) page.old result
+        (S.space shelf.new name.now) page.new }
     ensures faults { OnlyWritesFail (S.read_faults shelf.old) (S.write_faults shelf.old) result
         (S.read_faults shelf.new) (S.write_faults shelf.new) }
 {
@@ -129,6 +138,8 @@ fn put_sizes<S: Shelf>(
 ) -> Result<(), Failed>
     ensures written { Writes name.now (sizes_line (view certificate.now)) (S.held shelf.old)
         page.old result (S.held shelf.new) page.new }
+    ensures room { NeedsRoom (sizes_line (view certificate.now)) (S.space shelf.old name.now) page.old result
+        (S.space shelf.new name.now) page.new }
     ensures faults { OnlyWritesFail (S.read_faults shelf.old) (S.write_faults shelf.old) result
         (S.read_faults shelf.new) (S.write_faults shelf.new) }
 {
@@ -150,6 +161,8 @@ fn put_events<S: Shelf>(
 ) -> Result<(), Failed>
     ensures written { Writes name.now (flat_map event_line positions.now) (S.held shelf.old)
         page.old result (S.held shelf.new) page.new }
+    ensures room { NeedsRoom (flat_map event_line positions.now) (S.space shelf.old name.now) page.old result
+        (S.space shelf.new name.now) page.new }
     ensures faults { OnlyWritesFail (S.read_faults shelf.old) (S.write_faults shelf.old) result
         (S.read_faults shelf.new) (S.write_faults shelf.new) }
 {
@@ -180,6 +193,8 @@ fn put_edges<S: Shelf>(
 ) -> Result<(), Failed>
     ensures written { Writes name.now (flat_map edge_line (pairs notes.now)) (S.held shelf.old)
         page.old result (S.held shelf.new) page.new }
+    ensures room { NeedsRoom (flat_map edge_line (pairs notes.now)) (S.space shelf.old name.now) page.old result
+        (S.space shelf.new name.now) page.new }
     ensures faults { OnlyWritesFail (S.read_faults shelf.old) (S.write_faults shelf.old) result
         (S.read_faults shelf.new) (S.write_faults shelf.new) }
 {
@@ -200,6 +215,8 @@ fn put_places<S: Shelf>(
 ) -> Result<(), Failed>
     ensures written { Writes name.now (flat_map place_line places.now) (S.held shelf.old) page.old
         result (S.held shelf.new) page.new }
+    ensures room { NeedsRoom (flat_map place_line places.now) (S.space shelf.old name.now) page.old result
+        (S.space shelf.new name.now) page.new }
     ensures faults { OnlyWritesFail (S.read_faults shelf.old) (S.write_faults shelf.old) result
         (S.read_faults shelf.new) (S.write_faults shelf.new) }
 {
@@ -218,6 +235,8 @@ fn put_certificate<S: Shelf>(
 ) -> Result<(), Failed>
     ensures written { Writes name.now (certificate_text (view certificate.now)) (S.held shelf.old)
         page.old result (S.held shelf.new) page.new }
+    ensures room { NeedsRoom (certificate_text (view certificate.now)) (S.space shelf.old name.now) page.old result
+        (S.space shelf.new name.now) page.new }
     ensures faults { OnlyWritesFail (S.read_faults shelf.old) (S.write_faults shelf.old) result
         (S.read_faults shelf.new) (S.write_faults shelf.new) }
 {
@@ -238,6 +257,8 @@ fn put_certificates<S: Shelf>(
 ) -> Result<(), Failed>
     ensures written { Writes name.now (flat_map certificate_text (views all.now)) (S.held shelf.old)
         page.old result (S.held shelf.new) page.new }
+    ensures room { NeedsRoom (flat_map certificate_text (views all.now)) (S.space shelf.old name.now) page.old result
+        (S.space shelf.new name.now) page.new }
     ensures faults { OnlyWritesFail (S.read_faults shelf.old) (S.write_faults shelf.old) result
         (S.read_faults shelf.new) (S.write_faults shelf.new) }
 {
@@ -256,6 +277,8 @@ fn put_text<S: Shelf>(
 ) -> Result<(), Failed>
     ensures written { Writes name.now (spelling (views all.now)) (S.held shelf.old) page.old result
         (S.held shelf.new) page.new }
+    ensures room { NeedsRoom (spelling (views all.now)) (S.space shelf.old name.now) page.old result
+        (S.space shelf.new name.now) page.new }
     ensures faults { OnlyWritesFail (S.read_faults shelf.old) (S.write_faults shelf.old) result
         (S.read_faults shelf.new) (S.write_faults shelf.new) }
 {
@@ -286,6 +309,11 @@ pub fn write<S: Shelf>(all: &[Certificate], shelf: &mut S, name: &str) -> Result
     ensures writes { S.write_faults shelf.old ≤ S.write_faults shelf.new }
     // It fails only where a write failed.
     ensures cause { OnErr result (Rose (S.write_faults shelf.old) (S.write_faults shelf.new)) }
+    // Where the file has room for the text it does not fail, and then no count moved.
+    ensures answers { HasRoom (length (spelling (views all.now))) (S.space shelf.old name.now)
+        → IsOk result }
+    ensures uncounted { OnOk result (CountsStay (S.read_faults shelf.old) (S.write_faults shelf.old)
+        (S.read_faults shelf.new) (S.write_faults shelf.new)) }
 {
     let mut page = Page::new();
     put_text(shelf, name, &mut page, all)?;

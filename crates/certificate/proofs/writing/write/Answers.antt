@@ -5,6 +5,7 @@ use Rattle.certificate.specs.Spelling.{spelling, views}
 use Rattle.certificate.specs.Appending.{Outcome}
 use Rattle.certificate.proofs.Files.{writes_then}
 use Rattle.certificate.proofs.Whole.{begin, is_done, is_failed, gained_stays, outcome_stays}
+use Rattle.certificate.proofs.Rooms.{needs_all, needs_all_failed}
 use Rattle.certificate.proofs.writing.write.Given as given
 use Rattle.certificate.proofs.writing.write.Goals as goal
 
@@ -30,3 +31,11 @@ returns-clause-failed g c = is_failed c.flush.result (g.S.Shelf.held c.args.shel
 
 pub returns-clause-others : goal.returns-clause-others
 returns-clause-others g c = outcome_stays c.flush.result (g.S.Shelf.held c.args.shelf.now) c.args.name.now (spelling (views c.args.all.now)) (g.S.Shelf.held c.flush.new.shelf) c.flush.new.page (omega arith) c.flush.ensures.empty (ended g c)
+
+pub returns-in_err-put_text-clause-answers : goal.returns-in_err-put_text-clause-answers
+returns-in_err-put_text-clause-answers g c = λ room.
+    let p = err_from_is_err_and c.from_residual.result c.from_residual.ensures.1 in
+    rw p.1 (needs_all_failed (spelling (views c.args.all.now)) (g.S.Shelf.space c.args.shelf.now c.args.name.now) c.new-page.result c.in_err-put_text.field-0.0 p.0 (g.S.Shelf.space c.put_text.new.shelf c.args.name.now) c.put_text.new.page c.new-page.ensures c.in_err-put_text.ensures.room room)
+
+pub returns-clause-answers : goal.returns-clause-answers
+returns-clause-answers g c = λ room. needs_all (spelling (views c.args.all.now)) (g.S.Shelf.space c.args.shelf.now c.args.name.now) c.new-page.result (g.S.Shelf.space c.put_text.new.shelf c.args.name.now) c.put_text.new.page c.flush.result (g.S.Shelf.space c.flush.new.shelf c.args.name.now) c.flush.new.page c.new-page.ensures c.in_ok-put_text.ensures.room c.flush.ensures.room room
