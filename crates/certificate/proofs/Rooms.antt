@@ -4,23 +4,10 @@ use Rattle.std.proofs.lemmas.Grind.{common_steps}
 use Rattle.std.specs.Prelude.{IsOk}
 use Rattle.std.specs.List.{flat_map}
 use Rattle.ports.specs.declared.Failed.{Failed}
-use Rattle.ports.specs.Faults.{CountsStay}
 use Rattle.ports.specs.Rooms.{HasRoom, FellBy}
+use Rattle.ports.proofs.Steps.{same_room, less_room, room_left}
 use Rattle.certificate.specs.Appending.{NeedsRoom}
 use Rattle.certificate.proofs.Files.{flat_more, flat_split}
-
--- ---- room for some bytes
-same_room : (m n : ℕ) (room : Option ℕ) → m ≡ n → HasRoom m room → HasRoom n room
-same_room m n room e h = subst (λ (k : ℕ). HasRoom k room) e h
-
-less_room : (m n : ℕ) (room : Option ℕ) → n ≤ m → HasRoom m room → HasRoom n room
-less_room m n None l h = absurd h
-less_room m n (Some r) l h = omega (arith, l, h)
-
-room_left : (n more : ℕ) (room now : Option ℕ) → HasRoom (n + more) room → FellBy n room now → HasRoom more now
-room_left n more None now h f = absurd h
-room_left n more (Some r) None h f = absurd f
-room_left n more (Some r) (Some s) h f = omega (arith, h, f)
 
 no_err : (e : Failed) → IsOk {T = Unit {0}} (Err e) → ⊥
 no_err e h = cc
@@ -90,10 +77,6 @@ needs_each_failed f xs i d room waits mid between e x now left other l h k =
     let two = needs_failed (flat_map f (take i xs) ++ f (get_or xs i d)) (flat_map f (drop (i + 1) xs)) room waits e x now left other one in
     let whole : flat_map f xs ≡ (flat_map f (take i xs) ++ f (get_or xs i d)) ++ flat_map f (drop (i + 1) xs) = flat_split f xs (i + 1) ∙ ap (λ (t : List ℕ). t ++ flat_map f (drop (i + 1) xs)) (flat_more f xs i d l) in
     subst (λ (t : List ℕ). NeedsRoom t room waits (Err x) now other) (sym whole) two
-
--- ---- counts
-pub stay_then : (reads : List ℕ → ℕ) (writes : ℕ) (reads_mid : List ℕ → ℕ) (writes_mid : ℕ) (reads_now : List ℕ → ℕ) (writes_now : ℕ) → CountsStay reads writes reads_mid writes_mid → CountsStay reads_mid writes_mid reads_now writes_now → CountsStay reads writes reads_now writes_now
-stay_then reads writes reads_mid writes_mid reads_now writes_now h k = record { reads = λ q. k.reads q ∙ h.reads q; writes = k.writes ∙ h.writes }
 
 -- ---- a whole text
 -- what is written from an empty page, and then the page

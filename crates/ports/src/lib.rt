@@ -12,7 +12,9 @@
 //!   there.
 //! - **When a call fails.** `Failed` comes only where the count of that call rose (`Rose`).
 //!   Then a prefix of the bytes may have been added, or a file that was to be started may be
-//!   empty; no file of another name has changed.
+//!   empty; no file of another name has changed. A call that does not fail moves no count.
+//! - **When none fails.** A shelf says of which files a read is not to fail (`readable`), and how
+//!   much can be written under a name without a fault (`space`); a sink has a `space`, too.
 //! - **In memory** (`MemoryShelf`, `MemorySink`) all bytes are known, chosen calls fail, and the
 //!   contracts say exactly when a call fails and how much room there is without a refusal.
 //! - **Real files and standard output** (`RealShelf`, `RealSink`) never say what they hold. They

@@ -4,7 +4,8 @@ use Rattle.certificate.specs.declared.notes.Certificate.{Certificate}
 use Rattle.certificate.specs.Appending.{Writes, NeedsRoom}
 use Rattle.certificate.specs.Spelling.{certificate_text, view}
 use Rattle.certificate.proofs.Files.{each_failed, each_more, flat_views, each_done}
-use Rattle.certificate.proofs.Rooms.{needs_more, needs_each_failed, needs_each_done, stay_then}
+use Rattle.ports.proofs.Steps.{stay_then}
+use Rattle.certificate.proofs.Rooms.{needs_more, needs_each_failed, needs_each_done}
 use Rattle.certificate.proofs.writing.put_certificates.Goals as goal
 
 pub returns-in_err-put_certificate-clause-written : goal.returns-in_err-put_certificate-clause-written

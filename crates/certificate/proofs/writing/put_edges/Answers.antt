@@ -4,7 +4,8 @@ use Rattle.std.proofs.lemmas.Result.{err_from_is_err_and}
 use Rattle.std.proofs.lemmas.List.Concat.{flat_map-cons}
 use Rattle.certificate.specs.Spelling.{edge_line, pairs}
 use Rattle.certificate.proofs.Files.{writes_then, writes_failed}
-use Rattle.certificate.proofs.Rooms.{needs_then, needs_failed, stay_then}
+use Rattle.ports.proofs.Steps.{stay_then}
+use Rattle.certificate.proofs.Rooms.{needs_then, needs_failed}
 use Rattle.certificate.proofs.writing.put_edges.Goals as goal
 
 pub returns-in_err-put_edge-clause-written : goal.returns-in_err-put_edge-clause-written

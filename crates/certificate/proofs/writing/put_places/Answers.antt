@@ -2,7 +2,8 @@ use Rattle.std.proofs.Common.{rules}
 use Rattle.std.proofs.lemmas.Result.{err_from_is_err_and}
 use Rattle.certificate.specs.Spelling.{place_line}
 use Rattle.certificate.proofs.Files.{each_failed, each_more}
-use Rattle.certificate.proofs.Rooms.{needs_more, needs_each_failed, stay_then}
+use Rattle.ports.proofs.Steps.{stay_then}
+use Rattle.certificate.proofs.Rooms.{needs_more, needs_each_failed}
 use Rattle.certificate.proofs.writing.put_places.Goals as goal
 
 pub returns-in_err-put_place-clause-written : goal.returns-in_err-put_place-clause-written
