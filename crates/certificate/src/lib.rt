@@ -11,7 +11,7 @@
 //! - **`write`** appends exactly that text to the named file and changes no other. It takes no
 //!   memory: bytes are gathered in a page of 4,096 bytes on the stack, a file system's block, so
 //!   that some two hundred lines go out in one call. After a failure the file has a front of the
-//!   text.
+//!   text. It does not fail where the shelf has space for the text.
 //! - **`read`** gives the one list that the bytes spell, or the first bad line: `Short` where the
 //!   text ends before it, `Number` where it has its form but a number with a leading zero or one
 //!   above 4,294,967,295, `Line` where it has not its form. `specs/Parts.antt` has the forms.

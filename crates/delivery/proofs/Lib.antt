@@ -23,6 +23,7 @@ pub mod PieceSteps
 pub mod LineForms
 pub mod PutLemmas
 pub mod ReportLemmas
+pub mod ServedLemmas
 pub mod Steps
 pub mod StraightAreas
 pub mod StrokeSteps

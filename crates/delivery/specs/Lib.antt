@@ -29,6 +29,7 @@ pub mod Pieces
 pub mod OutcomeViews
 pub mod Reading
 pub mod RefusalViews
+pub mod Served
 pub mod Statuses
 pub mod TrialCounts
 pub mod TrialFiles

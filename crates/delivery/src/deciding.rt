@@ -1,11 +1,12 @@
 // The outcome of the words and the files.
 ghost use Rattle.std.specs.Prelude.{◌≡◌, ◌≤◌, ◌∷◌, ℕ, List, [], length, IfOk};
-ghost use Rattle.ports.specs.Faults.{NoReadFell, ReadRose};
+ghost use Rattle.ports.specs.Faults.{NoReadFell, ReadRose, CountsStay};
+ghost use Rattle.ports.specs.Rooms.{StaysReady};
 ghost use Rattle.table_layout.specs.Valid.{IsValid};
 ghost use Rattle.table_layout.specs.Values.{layout_view};
 ghost use Rattle.delivery.specs.Commands.{check as check_command, verify as verify_command};
-ghost use Rattle.delivery.specs.Commands.{certificate_source};
-ghost use Rattle.delivery.specs.Commands.{IsWithin, from_file, made, model_of};
+ghost use Rattle.delivery.specs.Commands.{certificate_source, further_files, IsWithin, from_file};
+ghost use Rattle.delivery.specs.Commands.{Command as AnyCommand, IsCommand, made, model_of};
 ghost use Rattle.delivery.specs.CommandViews.{names_of, command_of as command_view};
 ghost use Rattle.delivery.specs.Deciding.{Decides};
 ghost use Rattle.delivery.specs.Ending.{Ends, EndsAfter, EndsModel, EndsCommand};
@@ -13,6 +14,7 @@ ghost use Rattle.delivery.specs.Judging.{IsChecked};
 ghost use Rattle.delivery.specs.Outcomes.{trial_target};
 ghost use Rattle.delivery.specs.OutcomeViews.{outcome_of};
 ghost use Rattle.delivery.specs.Pieces.{IsJudged};
+ghost use Rattle.delivery.specs.Served.{IsReadable, AreReadable, HasReadableFiles};
 ghost use Rattle.delivery.specs.TrialFiles.{model_text as the_model};
 ghost use Rattle.delivery.specs.TrialFiles.{transfer_text as the_transfer};
 
@@ -43,6 +45,12 @@ fn decide_check<'a, S: Shelf>(
     ensures held { S.held shelf.new ≡ S.held shelf.old }
     ensures reads { NoReadFell (S.read_faults shelf.old) (S.read_faults shelf.new) }
     ensures writes { S.write_faults shelf.old ≤ S.write_faults shelf.new }
+    ensures ready { StaysReady (S.readable shelf.old) (S.space shelf.old) (S.readable shelf.new)
+        (S.space shelf.new) }
+    ensures stay { AreReadable (S.readable shelf.old) (further_files
+        (check_command (names_of names.now)))
+        → CountsStay (S.read_faults shelf.old) (S.write_faults shelf.old)
+        (S.read_faults shelf.new) (S.write_faults shelf.new) }
 {
     match read_transfer(alloc, shelf, names.transfer, layout)? {
         TransferReading::Judged(judged) => {
@@ -70,6 +78,11 @@ fn decide_filed<'a, S: Shelf>(
     ensures held { S.held shelf.new ≡ S.held shelf.old }
     ensures reads { NoReadFell (S.read_faults shelf.old) (S.read_faults shelf.new) }
     ensures writes { S.write_faults shelf.old ≤ S.write_faults shelf.new }
+    ensures ready { StaysReady (S.readable shelf.old) (S.space shelf.old) (S.readable shelf.new)
+        (S.space shelf.new) }
+    ensures stay { IsReadable (S.readable shelf.old) (certificate_source (names_of names.now))
+        → CountsStay (S.read_faults shelf.old) (S.write_faults shelf.old)
+        (S.read_faults shelf.new) (S.write_faults shelf.new) }
 {
     match read_file(alloc, shelf, File::Certificate, names.certificate) {
         Ok(filed) => verified_by(alloc, layout, judged, &filed),
@@ -91,6 +104,12 @@ fn decide_verify<'a, S: Shelf>(
     ensures held { S.held shelf.new ≡ S.held shelf.old }
     ensures reads { NoReadFell (S.read_faults shelf.old) (S.read_faults shelf.new) }
     ensures writes { S.write_faults shelf.old ≤ S.write_faults shelf.new }
+    ensures ready { StaysReady (S.readable shelf.old) (S.space shelf.old) (S.readable shelf.new)
+        (S.space shelf.new) }
+    ensures stay { AreReadable (S.readable shelf.old) (further_files
+        (verify_command (names_of names.now)))
+        → CountsStay (S.read_faults shelf.old) (S.write_faults shelf.old)
+        (S.read_faults shelf.new) (S.write_faults shelf.new) }
 {
     match read_transfer(alloc, shelf, names.transfer, layout)? {
         TransferReading::Judged(judged) => decide_filed(alloc, names, layout, judged, shelf),
@@ -141,6 +160,11 @@ fn decide_compiled<'a, S: Shelf>(
     ensures held { S.held shelf.new ≡ S.held shelf.old }
     ensures reads { NoReadFell (S.read_faults shelf.old) (S.read_faults shelf.new) }
     ensures writes { S.write_faults shelf.old ≤ S.write_faults shelf.new }
+    ensures ready { StaysReady (S.readable shelf.old) (S.space shelf.old) (S.readable shelf.new)
+        (S.space shelf.new) }
+    ensures stay { AreReadable (S.readable shelf.old) (further_files (command_view command.now))
+        → CountsStay (S.read_faults shelf.old) (S.write_faults shelf.old)
+        (S.read_faults shelf.new) (S.write_faults shelf.new) }
 {
     match command {
         Command::Compile(_) => compiled(alloc, layout),
@@ -165,6 +189,11 @@ fn decide_text<'a, S: Shelf>(
     ensures held { S.held shelf.new ≡ S.held shelf.old }
     ensures reads { NoReadFell (S.read_faults shelf.old) (S.read_faults shelf.new) }
     ensures writes { S.write_faults shelf.old ≤ S.write_faults shelf.new }
+    ensures ready { StaysReady (S.readable shelf.old) (S.space shelf.old) (S.readable shelf.new)
+        (S.space shelf.new) }
+    ensures stay { AreReadable (S.readable shelf.old) (further_files (command_view command.now))
+        → CountsStay (S.read_faults shelf.old) (S.write_faults shelf.old)
+        (S.read_faults shelf.new) (S.write_faults shelf.new) }
 {
     match read_model(alloc, text)? {
         ModelReading::Laid(layout) => decide_compiled(alloc, command, &layout, shelf),
@@ -187,6 +216,11 @@ fn decide_named<'a, S: Shelf>(
     ensures held { S.held shelf.new ≡ S.held shelf.old }
     ensures reads { NoReadFell (S.read_faults shelf.old) (S.read_faults shelf.new) }
     ensures writes { S.write_faults shelf.old ≤ S.write_faults shelf.new }
+    ensures ready { StaysReady (S.readable shelf.old) (S.space shelf.old) (S.readable shelf.new)
+        (S.space shelf.new) }
+    ensures stay { HasReadableFiles (S.readable shelf.old) (command_view command.now)
+        → CountsStay (S.read_faults shelf.old) (S.write_faults shelf.old)
+        (S.read_faults shelf.new) (S.write_faults shelf.new) }
 {
     match read_file(alloc, shelf, File::Model, name) {
         Ok(text) => decide_text(alloc, command, &text, shelf),
@@ -208,6 +242,11 @@ fn decide_made<'a, S: Shelf>(
     ensures held { S.held shelf.new ≡ S.held shelf.old }
     ensures reads { NoReadFell (S.read_faults shelf.old) (S.read_faults shelf.new) }
     ensures writes { S.write_faults shelf.old ≤ S.write_faults shelf.new }
+    ensures ready { StaysReady (S.readable shelf.old) (S.space shelf.old) (S.readable shelf.new)
+        (S.space shelf.new) }
+    ensures stay { HasReadableFiles (S.readable shelf.old) (command_view command.now)
+        → CountsStay (S.read_faults shelf.old) (S.write_faults shelf.old)
+        (S.read_faults shelf.new) (S.write_faults shelf.new) }
 {
     files_are_short();
     let text = model_text(alloc)?;
@@ -227,6 +266,11 @@ fn decide_command<'a, S: Shelf>(
     ensures held { S.held shelf.new ≡ S.held shelf.old }
     ensures reads { NoReadFell (S.read_faults shelf.old) (S.read_faults shelf.new) }
     ensures writes { S.write_faults shelf.old ≤ S.write_faults shelf.new }
+    ensures ready { StaysReady (S.readable shelf.old) (S.space shelf.old) (S.readable shelf.new)
+        (S.space shelf.new) }
+    ensures stay { HasReadableFiles (S.readable shelf.old) (command_view command.now)
+        → CountsStay (S.read_faults shelf.old) (S.write_faults shelf.old)
+        (S.read_faults shelf.new) (S.write_faults shelf.new) }
 {
     match command {
         Command::Compile(model) => decide_named(alloc, command, model, shelf),
@@ -248,6 +292,12 @@ pub fn decide<'a, S: Shelf>(
     ensures held { S.held shelf.new ≡ S.held shelf.old }
     ensures reads { NoReadFell (S.read_faults shelf.old) (S.read_faults shelf.new) }
     ensures writes { S.write_faults shelf.old ≤ S.write_faults shelf.new }
+    ensures ready { StaysReady (S.readable shelf.old) (S.space shelf.old) (S.readable shelf.new)
+        (S.space shelf.new) }
+    ensures stay { ((c : AnyCommand) → IsCommand words.now c
+        → HasReadableFiles (S.readable shelf.old) c)
+        → CountsStay (S.read_faults shelf.old) (S.write_faults shelf.old)
+        (S.read_faults shelf.new) (S.write_faults shelf.new) }
 {
     match command_of(words) {
         Some(command) => decide_command(alloc, &command, shelf),

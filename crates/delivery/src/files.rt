@@ -1,7 +1,8 @@
 // A whole file, read in pieces.
 ghost use Rattle.std.specs.Prelude.{◌≡◌, ◌≤◌, ◌<◌, ◌^◌, length, IfOk, IsErrOf, IsTrue, IsFalse};
 ghost use Rattle.std.specs.Prelude.{OnOk};
-ghost use Rattle.ports.specs.Faults.{Rose, NoReadFell};
+ghost use Rattle.ports.specs.Faults.{Rose, NoReadFell, CountsStay};
+ghost use Rattle.ports.specs.Rooms.{StaysReady};
 ghost use Rattle.delivery.specs.Commands.{limit_of};
 ghost use Rattle.delivery.specs.Reading.{IsWhole, IsLonger, IsFront, IsEnd};
 
@@ -69,6 +70,11 @@ fn read_piece<S: Shelf>(
     ensures cause { IsErrOf result FileRefusal.Failed
         → Rose (S.read_faults shelf.old name.now) (S.read_faults shelf.new name.now) }
     ensures refusal { IsErrOf result FileRefusal.TooLong → ⊥ }
+    ensures ready { StaysReady (S.readable shelf.old) (S.space shelf.old) (S.readable shelf.new)
+        (S.space shelf.new) }
+    ensures stay { S.readable shelf.old name.now
+        → CountsStay (S.read_faults shelf.old) (S.write_faults shelf.old)
+        (S.read_faults shelf.new) (S.write_faults shelf.new) }
 {
     let from = bytes.len() as u64;
     match shelf.read(name, from, piece) {
@@ -96,6 +102,11 @@ fn read_within<S: Shelf>(
     ensures reads { NoReadFell (S.read_faults shelf.old) (S.read_faults shelf.new) }
     ensures cause { IsErrOf result FileRefusal.Failed
         → Rose (S.read_faults shelf.old name.now) (S.read_faults shelf.new name.now) }
+    ensures ready { StaysReady (S.readable shelf.old) (S.space shelf.old) (S.readable shelf.new)
+        (S.space shelf.new) }
+    ensures stay { S.readable shelf.old name.now
+        → CountsStay (S.read_faults shelf.old) (S.write_faults shelf.old)
+        (S.read_faults shelf.new) (S.write_faults shelf.new) }
 {
     let mut piece = match buffer(alloc, 65536) {
         Ok(piece) => piece,
@@ -132,6 +143,11 @@ pub fn read_file<S: Shelf>(
     ensures reads { NoReadFell (S.read_faults shelf.old) (S.read_faults shelf.new) }
     ensures cause { IsErrOf result FileRefusal.Failed
         → Rose (S.read_faults shelf.old name.now) (S.read_faults shelf.new name.now) }
+    ensures ready { StaysReady (S.readable shelf.old) (S.space shelf.old) (S.readable shelf.new)
+        (S.space shelf.new) }
+    ensures stay { S.readable shelf.old name.now
+        → CountsStay (S.read_faults shelf.old) (S.write_faults shelf.old)
+        (S.read_faults shelf.new) (S.write_faults shelf.new) }
 {
     read_within(alloc, shelf, name, file.limit())
 }

@@ -1,12 +1,17 @@
 // Laws of outcomes.
-ghost use Rattle.std.specs.Prelude.{◌≡◌, ℕ, List, Option, Some};
+ghost use Rattle.std.specs.Prelude.{◌≡◌, ℕ, List, [], Option, Some, IsSome};
+ghost use Rattle.std.specs.FinMap as map;
 ghost use Rattle.std.specs.List.{All};
 ghost use Rattle.certificate.specs.Spelling.{Plain, spelling};
 ghost use Rattle.plane.specs.Rule.Partition.{IsPartition};
 ghost use Rattle.plane.specs.Rule.Plans.{Plan};
 ghost use Rattle.table_layout.specs.Layouts.{Layout};
 ghost use Rattle.ports.specs.Faults.{ReadRose};
+ghost use Rattle.ports.specs.Calls.{unless_listed};
 ghost use Rattle.ports.specs.Files.{Files};
+ghost use Rattle.ports.specs.MemoryFiles.{files, room, listed, space, IsReadable};
+ghost use Rattle.ports.specs.MemoryOutput.{Output};
+ghost use Rattle.ports.specs.declared.memory_shelf.MemoryShelf.{MemoryShelf};
 ghost use Rattle.itf_reader.specs.Forms.{Row};
 ghost use Rattle.delivery.specs.Causes.{HasStraightAreas};
 ghost use Rattle.delivery.specs.Answers.{AgreeUnlessUnread, HasCause, Passes};
@@ -15,6 +20,7 @@ ghost use Rattle.delivery.specs.Certified.{AreCertified};
 ghost use Rattle.delivery.specs.Deciding.{Decides};
 ghost use Rattle.delivery.specs.FiledTexts.{IsVerified};
 ghost use Rattle.delivery.specs.Outcomes.{Outcome};
+ghost use Rattle.delivery.specs.Served.{IsServed};
 ghost use Rattle.delivery.specs.declared.status.Status.TheVariants.{Accepted, Undecided};
 ghost use Rattle.delivery.specs.Verifying.{IsVerification, Verification, proved};
 
@@ -80,4 +86,15 @@ pub fn straights_are_decided()
         (words : List (List ℕ))
         → Passes (Some files) (ReadRose before after) words HasStraightAreas
         → HasCause (Some files) (ReadRose from upto) words Undecided → ⊥ }
+{}
+
+/// Files and an output in memory serve a call where none of their calls is listed, the files to be
+/// read are held, and there is room for what is written.
+pub fn memory_serves()
+    ensures { (shelf : MemoryShelf) (out : Output) (words : List (List ℕ))
+        → listed shelf ≡ [] → out.listed ≡ []
+        → IsServed (Some (files shelf)) words (λ name. IsSome (map.get (files shelf) name))
+        (room shelf) (Some out.room)
+        → IsServed (Some (files shelf)) words (IsReadable shelf) (space shelf)
+        (unless_listed out.listed (Some out.room)) }
 {}

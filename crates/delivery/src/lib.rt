@@ -26,6 +26,9 @@
 //!   without an object are decided; two words may name one file, since all reads come before the
 //!   first write. A vertex at the place before it draws nothing, an arc over three places of one
 //!   straight draws straights, and an area may have no line and no point.
+//! - **Without a fault.** Where the files can be read and there is space for what is written, no
+//!   count of faults moves, and the answer is that of an outcome or out of memory. Files and an
+//!   output in memory serve so where they hold the files and have room (`laws::memory_serves`).
 //!
 //! `transfers` reads a transfer in pieces, and `judging` judges them: lines, rows and what is kept
 //! of these. `deciding` fixes the outcome: a status, the lines of the report, and the certificates

@@ -1,9 +1,11 @@
 // What is written once the outcome is fixed. No memory is taken here.
-ghost use Rattle.std.specs.Prelude.{◌≡◌, ◌≢◌, ◌≤◌, ◌⊎◌, OnOk, OnErr};
-ghost use Rattle.ports.specs.Faults.{Rose, NoReadFell};
+ghost use Rattle.std.specs.Prelude.{◌≡◌, ◌≢◌, ◌≤◌, ◌⊎◌, OnOk, OnErr, IsOk, length};
+ghost use Rattle.ports.specs.Faults.{Rose, NoReadFell, CountsStay};
 ghost use Rattle.ports.specs.Output.{Adds, AddsPrefix};
+ghost use Rattle.ports.specs.Rooms.{HasRoom};
 ghost use Rattle.delivery.specs.Effects.{IsBegun, IsFiled};
 ghost use Rattle.delivery.specs.OutcomeViews.{filing_of, outcome_of};
+ghost use Rattle.delivery.specs.Served.{HasFilingSpace};
 ghost use Rattle.std.specs.Prelude.{Some};
 
 use crate::outcome::{Filing, Outcome};
@@ -19,6 +21,9 @@ fn write_certificates<S: Shelf>(filing: &Filing<'_>, shelf: &mut S) -> Result<()
     ensures reads { NoReadFell (S.read_faults shelf.old) (S.read_faults shelf.new) }
     ensures writes { S.write_faults shelf.old ≤ S.write_faults shelf.new }
     ensures cause { OnErr result (Rose (S.write_faults shelf.old) (S.write_faults shelf.new)) }
+    ensures answers { HasFilingSpace (S.space shelf.old) (Some (filing_of filing.now)) → IsOk result }
+    ensures uncounted { OnOk result (CountsStay (S.read_faults shelf.old) (S.write_faults shelf.old)
+        (S.read_faults shelf.new) (S.write_faults shelf.new)) }
 {
     shelf.start(filing.name)?;
     write(&filing.certificates, shelf, filing.name)
@@ -32,6 +37,9 @@ fn write_files<S: Shelf>(outcome: &Outcome<'_>, shelf: &mut S) -> Result<(), Fai
     ensures reads { NoReadFell (S.read_faults shelf.old) (S.read_faults shelf.new) }
     ensures writes { S.write_faults shelf.old ≤ S.write_faults shelf.new }
     ensures cause { OnErr result (Rose (S.write_faults shelf.old) (S.write_faults shelf.new)) }
+    ensures answers { HasFilingSpace (S.space shelf.old) (outcome_of outcome.now).filing → IsOk result }
+    ensures uncounted { OnOk result (CountsStay (S.read_faults shelf.old) (S.write_faults shelf.old)
+        (S.read_faults shelf.new) (S.write_faults shelf.new)) }
 {
     match &outcome.filing {
         Some(filing) => write_certificates(filing, shelf),
@@ -63,6 +71,11 @@ pub fn publish<S: Shelf, K: Sink>(
         → outcome.now.status ≢ Status.WriteFault
         → Rose (S.write_faults shelf.old) (S.write_faults shelf.new)
         ⊎ Rose (K.faults out.old) (K.faults out.new) }
+    ensures stay { HasFilingSpace (S.space shelf.old) (outcome_of outcome.now).filing
+        → HasRoom (length text.now) (K.space out.old)
+        → CountsStay (S.read_faults shelf.old) (S.write_faults shelf.old)
+        (S.read_faults shelf.new) (S.write_faults shelf.new)
+        × (K.faults out.new ≡ K.faults out.old) }
 {
     if write_files(outcome, shelf).is_err() {
         return Status::WriteFault;

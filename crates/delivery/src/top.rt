@@ -1,6 +1,6 @@
 // The top call.
 ghost use Rattle.std.specs.Prelude.{◌≡◌, ◌≢◌, ◌≤◌, ◌⊎◌, Some};
-ghost use Rattle.ports.specs.Faults.{Rose, NoReadFell, ReadRose};
+ghost use Rattle.ports.specs.Faults.{Rose, NoReadFell, ReadRose, CountsStay};
 ghost use Rattle.ports.specs.Files.{Files};
 ghost use Rattle.delivery.specs.Causes.{HasStraightAreas};
 ghost use Rattle.delivery.specs.Answers.{HasCause, Passes, IsAnswer, IsFaultless, IsComplete};
@@ -8,6 +8,7 @@ ghost use Rattle.delivery.specs.Certified.{Certifies};
 ghost use Rattle.delivery.specs.Deciding.{Decides};
 ghost use Rattle.delivery.specs.Effects.{HasEffects};
 ghost use Rattle.delivery.specs.Outcomes.{Outcome as AnyOutcome};
+ghost use Rattle.delivery.specs.Served.{IsServed, AreBelowEnd};
 
 use crate::deciding::decide;
 use crate::laws::{outcomes_are_right, straights_are_decided};
@@ -71,6 +72,16 @@ pub fn run<S: Shelf, K: Sink>(alloc: Global, words: &[Word], shelf: &mut S, out:
         (Rose (S.write_faults shelf.old) (S.write_faults shelf.new))
         (Rose (K.faults out.old) (K.faults out.new))
         → IsComplete (S.held shelf.old) words.now result }
+
+    // Where the files to be read can be read and there is room for what is written, no count of
+    // faults moves, so that the answer is that of an outcome, or out of memory.
+    ensures served { IsServed (S.held shelf.old) words.now (S.readable shelf.old)
+        (S.space shelf.old) (K.space out.old)
+        → AreBelowEnd (S.read_faults shelf.old) (S.write_faults shelf.old) (K.faults out.old)
+        → CountsStay (S.read_faults shelf.old) (S.write_faults shelf.old)
+        (S.read_faults shelf.new) (S.write_faults shelf.new)
+        × (K.faults out.new ≡ K.faults out.old)
+        × IsComplete (S.held shelf.old) words.now result }
 
     // No count falls.
     ensures reads { NoReadFell (S.read_faults shelf.old) (S.read_faults shelf.new) }

@@ -1,7 +1,8 @@
 // A transfer that is read and judged in pieces.
 ghost use Rattle.std.specs.Prelude.{◌≡◌, ◌≤◌, ◌<◌, ◌+◌, ◌++◌, ℕ, List, [], length, take};
 ghost use Rattle.std.specs.Prelude.{IfOk, IfErr, IsErrOf, OnOk};
-ghost use Rattle.ports.specs.Faults.{Rose, NoReadFell};
+ghost use Rattle.ports.specs.Faults.{Rose, NoReadFell, CountsStay};
+ghost use Rattle.ports.specs.Rooms.{StaysReady};
 ghost use Rattle.itf_reader.specs.Layouts.{form_of};
 ghost use Rattle.itf_reader.specs.Names.{form_in};
 ghost use Rattle.table_layout.specs.Valid.{IsValid};
@@ -48,6 +49,11 @@ fn read_piece<S: Shelf>(
     ensures cause { IsErrOf result FileRefusal.Failed
         → Rose (S.read_faults shelf.old name.now) (S.read_faults shelf.new name.now) }
     ensures refusal { IsErrOf result FileRefusal.TooLong → ⊥ }
+    ensures ready { StaysReady (S.readable shelf.old) (S.space shelf.old) (S.readable shelf.new)
+        (S.space shelf.new) }
+    ensures stay { S.readable shelf.old name.now
+        → CountsStay (S.read_faults shelf.old) (S.write_faults shelf.old)
+        (S.read_faults shelf.new) (S.write_faults shelf.new) }
 {
     match shelf.read(name, from, piece) {
         Ok(n) => Ok(n),
@@ -97,6 +103,11 @@ fn read_pieces<S: Shelf>(
     ensures reads { NoReadFell (S.read_faults shelf.old) (S.read_faults shelf.new) }
     ensures cause { IsErrOf result FileRefusal.Failed
         → Rose (S.read_faults shelf.old name.now) (S.read_faults shelf.new name.now) }
+    ensures ready { StaysReady (S.readable shelf.old) (S.space shelf.old) (S.readable shelf.new)
+        (S.space shelf.new) }
+    ensures stay { S.readable shelf.old name.now
+        → CountsStay (S.read_faults shelf.old) (S.write_faults shelf.old)
+        (S.read_faults shelf.new) (S.write_faults shelf.new) }
 {
     let mut piece = match buffer(alloc, PIECE) {
         Ok(piece) => piece,
@@ -134,6 +145,11 @@ fn judge_file<S: Shelf>(
     ensures held { S.held shelf.new ≡ S.held shelf.old }
     ensures writes { S.write_faults shelf.old ≤ S.write_faults shelf.new }
     ensures reads { NoReadFell (S.read_faults shelf.old) (S.read_faults shelf.new) }
+    ensures ready { StaysReady (S.readable shelf.old) (S.space shelf.old) (S.readable shelf.new)
+        (S.space shelf.new) }
+    ensures stay { S.readable shelf.old name.now
+        → CountsStay (S.read_faults shelf.old) (S.write_faults shelf.old)
+        (S.read_faults shelf.new) (S.write_faults shelf.new) }
 {
     let mut judge = Judge::new(alloc, layout)?;
     match read_pieces(alloc, shelf, name, layout, names, &mut judge) {
@@ -161,6 +177,11 @@ pub fn read_transfer<S: Shelf>(
     ensures held { S.held shelf.new ≡ S.held shelf.old }
     ensures writes { S.write_faults shelf.old ≤ S.write_faults shelf.new }
     ensures reads { NoReadFell (S.read_faults shelf.old) (S.read_faults shelf.new) }
+    ensures ready { StaysReady (S.readable shelf.old) (S.space shelf.old) (S.readable shelf.new)
+        (S.space shelf.new) }
+    ensures stay { S.readable shelf.old name.now
+        → CountsStay (S.read_faults shelf.old) (S.write_faults shelf.old)
+        (S.read_faults shelf.new) (S.write_faults shelf.new) }
 {
     let names = Names::new(alloc, layout)?;
     judge_file(alloc, shelf, name, layout, &names)

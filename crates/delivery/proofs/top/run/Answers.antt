@@ -1,15 +1,18 @@
-use Rattle.std.proofs.Common.{ℕ, List, Option, inl, inr, sym, ◌∙◌, subst}
+use Rattle.std.proofs.Common.{ℕ, List, Option, inl, inr, length, sym, ◌∙◌, subst}
 use Rattle.std.specs.Prelude.{◌≢◌}
 use Rattle.delivery.specs.declared.status.Status.TheVariants.{WriteFault}
 use Rattle.delivery.proofs.Certified.{certifies}
 use Rattle.ports.specs.Faults.{ReadRose}
 use Rattle.ports.specs.Files.{Files}
 use Rattle.ports.specs.Output.{Adds, AddsPrefix}
+use Rattle.ports.specs.Rooms.{HasRoom}
+use Rattle.ports.proofs.Steps.{stay_then}
 use Rattle.delivery.specs.Effects.{IsBegun, IsFiled}
 use Rattle.delivery.specs.OutcomeViews.{outcome_of}
 use Rattle.delivery.proofs.Causes.{caused, never_memory, not_write_fault}
 use Rattle.delivery.proofs.Steps.{rose_after, rose_before, decides_on}
 use Rattle.delivery.proofs.Agreement.{exactly}
+use Rattle.delivery.proofs.ServedLemmas.{not_rose, same_space}
 use Rattle.delivery.proofs.StraightAreas.{decided}
 use Rattle.delivery.proofs.top.run.Goals as goal
 
@@ -110,3 +113,25 @@ returns-clause-complete g c = λ f. inr (
     | inr r ↦ f.no_put r
   ]),
 )
+
+pub returns-clause-served : goal.returns-clause-served
+returns-clause-served g c = λ s b.
+    let held = g.S.Shelf.held c.args.shelf.now in
+    let old = g.S.Shelf.read_faults c.args.shelf.now in
+    let mid = g.S.Shelf.read_faults c.decide.new.shelf in
+    let new = g.S.Shelf.read_faults c.publish.new.shelf in
+    let outcome = outcome_of c.in-Ok.outcome in
+    let read = c.in-Ok.ensures.stay s.files in
+    let is_so = decides_on held (ReadRose old mid) (λ name. ⊥) (λ name r. not_rose (old name) (mid name) (b.read name) (read.reads name) r) c.args.words.now outcome c.in-Ok.ensures.outcome in
+    let filing = same_space (g.S.Shelf.space c.args.shelf.now) (g.S.Shelf.space c.decide.new.shelf) c.in-Ok.ensures.ready.space outcome.filing (s.certificates outcome is_so) in
+    let report = subst (λ (text : List ℕ). HasRoom (length text) (g.K.Sink.space c.args.out.now)) (sym (c.deref.ensures.value ∙ c.in-Ok-report.ensures)) (s.report outcome is_so) in
+    let wrote = c.publish.ensures.stay filing report in
+    let all = stay_then old (g.S.Shelf.write_faults c.args.shelf.now) mid (g.S.Shelf.write_faults c.decide.new.shelf) new (g.S.Shelf.write_faults c.publish.new.shelf) read wrote.0 in (
+      all,
+      wrote.1,
+      returns-clause-complete g c (record {
+        no_read = λ name r. not_rose (old name) (new name) (b.read name) (all.reads name) r;
+        no_write = λ r. not_rose (g.S.Shelf.write_faults c.args.shelf.now) (g.S.Shelf.write_faults c.publish.new.shelf) b.write all.writes r;
+        no_put = λ r. not_rose (g.K.Sink.faults c.args.out.now) (g.K.Sink.faults c.publish.new.out) b.put wrote.1 r;
+      }),
+    )

@@ -1,6 +1,7 @@
 use Rattle.std.proofs.Common.{rules, ◌≡◌, ◌++◌, List, ℕ, Option, [], length, take, refl, ap, sym, ◌∙◌, subst, arith}
 use Rattle.std.proofs.lemmas.List.{with_items_is, length-take-le}
 use Rattle.ports.specs.Files.{Files}
+use Rattle.ports.proofs.Steps.{stay_none, stay_then, ready_none, ready_then}
 use Rattle.table_layout.specs.Values.{layout_view}
 use Rattle.delivery.specs.Pieces.{Takes}
 use Rattle.delivery.specs.Reading.{IsFront}
@@ -22,6 +23,8 @@ loop-init g c =
       held = refl;
       writes = omega arith;
       reads = λ q. omega arith;
+      ready = ready_none (g.S.Shelf.readable c.args.shelf.now) (g.S.Shelf.space c.args.shelf.now);
+      stay = λ r. stay_none (g.S.Shelf.read_faults c.args.shelf.now) (g.S.Shelf.write_faults c.args.shelf.now);
     }
 
 pub returns-then-limit-from-clause-long : goal.returns-then-limit-from-clause-long
@@ -69,4 +72,6 @@ loop-preserved g c =
       held = c.read_piece.ensures.held ∙ i.held;
       writes = search rules;
       reads = λ q. (let a = i.reads q in let b = c.read_piece.ensures.reads q in omega (arith, a, b));
+      ready = ready_then (g.S.Shelf.readable c.args.shelf.now) (g.S.Shelf.space c.args.shelf.now) (g.S.Shelf.readable c.loop.shelf) (g.S.Shelf.space c.loop.shelf) (g.S.Shelf.readable c.read_piece.new.shelf) (g.S.Shelf.space c.read_piece.new.shelf) i.ready c.read_piece.ensures.ready;
+      stay = λ r. stay_then (g.S.Shelf.read_faults c.args.shelf.now) (g.S.Shelf.write_faults c.args.shelf.now) (g.S.Shelf.read_faults c.loop.shelf) (g.S.Shelf.write_faults c.loop.shelf) (g.S.Shelf.read_faults c.read_piece.new.shelf) (g.S.Shelf.write_faults c.read_piece.new.shelf) (i.stay r) (c.read_piece.ensures.stay (i.ready.readable name r));
     }

@@ -1,6 +1,8 @@
 use Rattle.std.proofs.Common.{◌≡◌, ◌≤◌, ◌<◌, ℕ, List, [], length}
 use Rattle.table_layout.specs.Values.{layout_view}
 use Rattle.delivery.specs.Pieces.{Takes}
+use Rattle.ports.specs.Faults.{CountsStay}
+use Rattle.ports.specs.Rooms.{StaysReady}
 use Rattle.delivery.specs.Reading.{IsFront}
 use Rattle.delivery.proofs.transfers.read_pieces.Given as goal
 
@@ -15,4 +17,6 @@ invariant-loop g l = record {
   held : g.S.Shelf.held l.shelf ≡ g.S.Shelf.held l.fn.shelf;
   writes : g.S.Shelf.write_faults l.fn.shelf ≤ g.S.Shelf.write_faults l.shelf;
   reads : (q : List ℕ) → g.S.Shelf.read_faults l.fn.shelf q ≤ g.S.Shelf.read_faults l.shelf q;
+  ready : StaysReady (g.S.Shelf.readable l.fn.shelf) (g.S.Shelf.space l.fn.shelf) (g.S.Shelf.readable l.shelf) (g.S.Shelf.space l.shelf);
+  stay : g.S.Shelf.readable l.fn.shelf l.name → CountsStay (g.S.Shelf.read_faults l.fn.shelf) (g.S.Shelf.write_faults l.fn.shelf) (g.S.Shelf.read_faults l.shelf) (g.S.Shelf.write_faults l.shelf);
 }

@@ -1,0 +1,44 @@
+-- Files that can be read, and room for what is written: no read and no write of a call fails.
+use Rattle.std.specs.Prelude.{ℕ, ◌-◌, ◌^◌, ◌<◌, List, [], ◌∷◌, length, Option, Some, None, ⊤}
+use Rattle.ports.specs.Files.{Files}
+use Rattle.ports.specs.Rooms.{HasRoom}
+use Rattle.certificate.specs.Spelling.{spelling}
+use Rattle.delivery.specs.Commands.{Command, IsCommand, Source, from_file, made, model_of}
+use Rattle.delivery.specs.Commands.{further_files}
+use Rattle.delivery.specs.Deciding.{Decides}
+use Rattle.delivery.specs.Outcomes.{Filing, Outcome, report_of}
+
+-- a read of the text is not to fail; one that is made needs no read
+abbrev pub IsReadable : (List ℕ → Type 0) → Source → Type 0
+IsReadable readable (from_file f name) = readable name
+IsReadable readable (made text) = ⊤
+
+abbrev pub AreReadable : (List ℕ → Type 0) → List Source → Type 0
+AreReadable readable [] = ⊤
+AreReadable readable (s ∷ ss) = IsReadable readable s × AreReadable readable ss
+
+-- the files of a command
+abbrev pub HasReadableFiles : (List ℕ → Type 0) → Command → Type 0
+HasReadableFiles readable c =
+    IsReadable readable (model_of c) × AreReadable readable (further_files c)
+
+-- there is space for the certificates, where there are any, under their name
+abbrev pub HasFilingSpace : (List ℕ → Option ℕ) → Option Filing → Type 0
+HasFilingSpace space None = ⊤
+HasFilingSpace space (Some f) = HasRoom (length (spelling f.certificates)) (space f.name)
+
+-- The files to be read can be read, and for every outcome of the words and the files there is space
+-- for its certificates and, in the output, for its report.
+pub record IsServed (held : Option Files) (words : List (List ℕ)) (readable : List ℕ → Type 0)
+    (space : List ℕ → Option ℕ) (output : Option ℕ) : Type 0 where
+  pub files : (c : Command) → IsCommand words c → HasReadableFiles readable c
+  pub certificates : (o : Outcome) → Decides held (λ name. ⊥) words o
+      → HasFilingSpace space o.filing
+  pub report : (o : Outcome) → Decides held (λ name. ⊥) words o
+      → HasRoom (length (report_of o)) output
+
+-- no count of faults is at its last value
+pub record AreBelowEnd (reads : List ℕ → ℕ) (writes faults : ℕ) : Type 0 where
+  pub read : (name : List ℕ) → reads name < 2 ^ 64 - 1
+  pub write : writes < 2 ^ 64 - 1
+  pub put : faults < 2 ^ 64 - 1
