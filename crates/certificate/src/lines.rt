@@ -3,7 +3,8 @@ ghost use Rattle.std.specs.Prelude.{◌≡◌, ◌++◌, ◌∷◌, [], OnOk, ma
 ghost use Rattle.std.specs.Fmt.{decimal};
 ghost use Rattle.std.specs.List.{flat_map};
 ghost use Rattle.certificate.specs.Spelling.{line};
-ghost use Rattle.certificate.specs.Appending.{OnlyWritesFail, NeedsRoom, Writes, word_text, next_word};
+ghost use Rattle.certificate.specs.Appending.{OnlyWritesFail, NeedsRoom, Writes, word_text};
+ghost use Rattle.certificate.specs.Appending.{next_word};
 
 use crate::page::Page;
 use crate::words::Word;
@@ -66,8 +67,8 @@ fn put_number<S: Shelf>(
 fn put_across<S: Shelf>(shelf: &mut S, name: &str, page: &mut Page, half: u64) -> Result<(), Failed>
     ensures written { Writes name.now (codes "C" ++ decimal half) (S.held shelf.old) page.old result
         (S.held shelf.new) page.new }
-    ensures room { NeedsRoom (codes "C" ++ decimal half) (S.space shelf.old name.now) page.old result
-        (S.space shelf.new name.now) page.new }
+    ensures room { NeedsRoom (codes "C" ++ decimal half) (S.space shelf.old name.now) page.old
+        result (S.space shelf.new name.now) page.new }
     ensures faults { OnlyWritesFail (S.read_faults shelf.old) (S.write_faults shelf.old) result
         (S.read_faults shelf.new) (S.write_faults shelf.new) }
 {
@@ -123,8 +124,8 @@ fn put_words<S: Shelf>(
 ) -> Result<(), Failed>
     ensures written { Writes name.now (flat_map next_word words.now) (S.held shelf.old) page.old
         result (S.held shelf.new) page.new }
-    ensures room { NeedsRoom (flat_map next_word words.now) (S.space shelf.old name.now) page.old result
-        (S.space shelf.new name.now) page.new }
+    ensures room { NeedsRoom (flat_map next_word words.now) (S.space shelf.old name.now) page.old
+        result (S.space shelf.new name.now) page.new }
     ensures faults { OnlyWritesFail (S.read_faults shelf.old) (S.write_faults shelf.old) result
         (S.read_faults shelf.new) (S.write_faults shelf.new) }
 {
@@ -144,8 +145,8 @@ pub fn put_line<S: Shelf>(
 ) -> Result<(), Failed>
     ensures written { Writes name.now (line (first.now ∷ map word_text words.now))
         (S.held shelf.old) page.old result (S.held shelf.new) page.new }
-    ensures room { NeedsRoom (line (first.now ∷ map word_text words.now)) (S.space shelf.old name.now) page.old result
-        (S.space shelf.new name.now) page.new }
+    ensures room { NeedsRoom (line (first.now ∷ map word_text words.now))
+        (S.space shelf.old name.now) page.old result (S.space shelf.new name.now) page.new }
     ensures faults { OnlyWritesFail (S.read_faults shelf.old) (S.write_faults shelf.old) result
         (S.read_faults shelf.new) (S.write_faults shelf.new) }
 {

@@ -48,8 +48,8 @@ fn put_edge<S: Shelf>(
 ) -> Result<(), Failed>
     ensures written { Writes name.now (edge_line (below.now, above.now)) (S.held shelf.old) page.old
         result (S.held shelf.new) page.new }
-    ensures room { NeedsRoom (edge_line (below.now, above.now)) (S.space shelf.old name.now) page.old result
-        (S.space shelf.new name.now) page.new }
+    ensures room { NeedsRoom (edge_line (below.now, above.now)) (S.space shelf.old name.now)
+        page.old result (S.space shelf.new name.now) page.new }
     ensures faults { OnlyWritesFail (S.read_faults shelf.old) (S.write_faults shelf.old) result
         (S.read_faults shelf.new) (S.write_faults shelf.new) }
 {
@@ -108,8 +108,8 @@ fn put_title<S: Shelf>(
 ) -> Result<(), Failed>
     ensures written { Writes name.now (title_line (view certificate.now)) (S.held shelf.old)
         page.old result (S.held shelf.new) page.new }
-    ensures room { NeedsRoom (title_line (view certificate.now)) (S.space shelf.old name.now) page.old result
-        (S.space shelf.new name.now) page.new }
+    ensures room { NeedsRoom (title_line (view certificate.now)) (S.space shelf.old name.now)
+        page.old result (S.space shelf.new name.now) page.new }
     ensures faults { OnlyWritesFail (S.read_faults shelf.old) (S.write_faults shelf.old) result
         (S.read_faults shelf.new) (S.write_faults shelf.new) }
 {
@@ -138,8 +138,8 @@ fn put_sizes<S: Shelf>(
 ) -> Result<(), Failed>
     ensures written { Writes name.now (sizes_line (view certificate.now)) (S.held shelf.old)
         page.old result (S.held shelf.new) page.new }
-    ensures room { NeedsRoom (sizes_line (view certificate.now)) (S.space shelf.old name.now) page.old result
-        (S.space shelf.new name.now) page.new }
+    ensures room { NeedsRoom (sizes_line (view certificate.now)) (S.space shelf.old name.now)
+        page.old result (S.space shelf.new name.now) page.new }
     ensures faults { OnlyWritesFail (S.read_faults shelf.old) (S.write_faults shelf.old) result
         (S.read_faults shelf.new) (S.write_faults shelf.new) }
 {
@@ -161,8 +161,8 @@ fn put_events<S: Shelf>(
 ) -> Result<(), Failed>
     ensures written { Writes name.now (flat_map event_line positions.now) (S.held shelf.old)
         page.old result (S.held shelf.new) page.new }
-    ensures room { NeedsRoom (flat_map event_line positions.now) (S.space shelf.old name.now) page.old result
-        (S.space shelf.new name.now) page.new }
+    ensures room { NeedsRoom (flat_map event_line positions.now) (S.space shelf.old name.now)
+        page.old result (S.space shelf.new name.now) page.new }
     ensures faults { OnlyWritesFail (S.read_faults shelf.old) (S.write_faults shelf.old) result
         (S.read_faults shelf.new) (S.write_faults shelf.new) }
 {
@@ -193,8 +193,8 @@ fn put_edges<S: Shelf>(
 ) -> Result<(), Failed>
     ensures written { Writes name.now (flat_map edge_line (pairs notes.now)) (S.held shelf.old)
         page.old result (S.held shelf.new) page.new }
-    ensures room { NeedsRoom (flat_map edge_line (pairs notes.now)) (S.space shelf.old name.now) page.old result
-        (S.space shelf.new name.now) page.new }
+    ensures room { NeedsRoom (flat_map edge_line (pairs notes.now)) (S.space shelf.old name.now)
+        page.old result (S.space shelf.new name.now) page.new }
     ensures faults { OnlyWritesFail (S.read_faults shelf.old) (S.write_faults shelf.old) result
         (S.read_faults shelf.new) (S.write_faults shelf.new) }
 {
@@ -215,8 +215,8 @@ fn put_places<S: Shelf>(
 ) -> Result<(), Failed>
     ensures written { Writes name.now (flat_map place_line places.now) (S.held shelf.old) page.old
         result (S.held shelf.new) page.new }
-    ensures room { NeedsRoom (flat_map place_line places.now) (S.space shelf.old name.now) page.old result
-        (S.space shelf.new name.now) page.new }
+    ensures room { NeedsRoom (flat_map place_line places.now) (S.space shelf.old name.now) page.old
+        result (S.space shelf.new name.now) page.new }
     ensures faults { OnlyWritesFail (S.read_faults shelf.old) (S.write_faults shelf.old) result
         (S.read_faults shelf.new) (S.write_faults shelf.new) }
 {
@@ -235,8 +235,8 @@ fn put_certificate<S: Shelf>(
 ) -> Result<(), Failed>
     ensures written { Writes name.now (certificate_text (view certificate.now)) (S.held shelf.old)
         page.old result (S.held shelf.new) page.new }
-    ensures room { NeedsRoom (certificate_text (view certificate.now)) (S.space shelf.old name.now) page.old result
-        (S.space shelf.new name.now) page.new }
+    ensures room { NeedsRoom (certificate_text (view certificate.now)) (S.space shelf.old name.now)
+        page.old result (S.space shelf.new name.now) page.new }
     ensures faults { OnlyWritesFail (S.read_faults shelf.old) (S.write_faults shelf.old) result
         (S.read_faults shelf.new) (S.write_faults shelf.new) }
 {
@@ -257,8 +257,8 @@ fn put_certificates<S: Shelf>(
 ) -> Result<(), Failed>
     ensures written { Writes name.now (flat_map certificate_text (views all.now)) (S.held shelf.old)
         page.old result (S.held shelf.new) page.new }
-    ensures room { NeedsRoom (flat_map certificate_text (views all.now)) (S.space shelf.old name.now) page.old result
-        (S.space shelf.new name.now) page.new }
+    ensures room { NeedsRoom (flat_map certificate_text (views all.now))
+        (S.space shelf.old name.now) page.old result (S.space shelf.new name.now) page.new }
     ensures faults { OnlyWritesFail (S.read_faults shelf.old) (S.write_faults shelf.old) result
         (S.read_faults shelf.new) (S.write_faults shelf.new) }
 {

@@ -21,7 +21,8 @@ fn write_certificates<S: Shelf>(filing: &Filing<'_>, shelf: &mut S) -> Result<()
     ensures reads { NoReadFell (S.read_faults shelf.old) (S.read_faults shelf.new) }
     ensures writes { S.write_faults shelf.old ≤ S.write_faults shelf.new }
     ensures cause { OnErr result (Rose (S.write_faults shelf.old) (S.write_faults shelf.new)) }
-    ensures answers { HasFilingSpace (S.space shelf.old) (Some (filing_of filing.now)) → IsOk result }
+    ensures answers { HasFilingSpace (S.space shelf.old) (Some (filing_of filing.now))
+        → IsOk result }
     ensures uncounted { OnOk result (CountsStay (S.read_faults shelf.old) (S.write_faults shelf.old)
         (S.read_faults shelf.new) (S.write_faults shelf.new)) }
 {
@@ -37,7 +38,8 @@ fn write_files<S: Shelf>(outcome: &Outcome<'_>, shelf: &mut S) -> Result<(), Fai
     ensures reads { NoReadFell (S.read_faults shelf.old) (S.read_faults shelf.new) }
     ensures writes { S.write_faults shelf.old ≤ S.write_faults shelf.new }
     ensures cause { OnErr result (Rose (S.write_faults shelf.old) (S.write_faults shelf.new)) }
-    ensures answers { HasFilingSpace (S.space shelf.old) (outcome_of outcome.now).filing → IsOk result }
+    ensures answers { HasFilingSpace (S.space shelf.old) (outcome_of outcome.now).filing
+        → IsOk result }
     ensures uncounted { OnOk result (CountsStay (S.read_faults shelf.old) (S.write_faults shelf.old)
         (S.read_faults shelf.new) (S.write_faults shelf.new)) }
 {
