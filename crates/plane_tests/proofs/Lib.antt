@@ -1,2 +1,1 @@
 pub mod SquareMesh
-pub mod TestMeshes

@@ -1,8 +1,7 @@
 // Certificates that are written and read, and texts that are none. What is filed for whole areas
 // are rows of `worked_rows`.
-use super::changed_numbers::blank;
 use certificate::{CertFault, Certificate, read, write};
-use ports::{Memory, MemoryShelf, Shelf};
+use ports::{Memory, MemoryShelf, Name, Shelf};
 use std::alloc::Global;
 use std::test::Fail;
 
@@ -96,11 +95,19 @@ fn the_first_bad_line_is_named(rt: HostRuntime) -> Result<(), Fail> {
 
 // A certificate whose text takes several pages.
 fn long(alloc: Global) -> Result<Certificate, Memory> {
-    let mut certificate = blank(alloc)?;
-    for i in 0..4000u32 {
-        certificate.positions.push(i)?;
-    }
-    Ok(certificate)
+    let topic = Name::new(alloc, b"Cover")?;
+    let table = Name::new(alloc, b"Parcel")?;
+    let attribute = Name::new(alloc, b"Form")?;
+    let positions: Vec<u32> = (0..4000u32).collect(alloc)?;
+    Ok(Certificate {
+        topic,
+        table,
+        attribute,
+        level: 0,
+        positions,
+        notes: Vec::new(alloc),
+        places: Vec::new(alloc),
+    })
 }
 
 // The bytes of the file, none where there is none.

@@ -1,7 +1,7 @@
 //! Tests of the crates of the plane, by their public items alone: predicates, circles, drawings,
-//! boxes, bad pairs of curves, pairs that break a level, meshes, the sweep, places of points,
-//! faces, certificates and their checker. Whole areas, and certificates that are changed in a line,
-//! are rows of `worked_rows`.
+//! boxes, bad pairs of curves, pairs that break a level, meshes, the sweep, places of points and
+//! the texts of certificates. Whole areas with their faces and links, and certificates that are
+//! changed in a line, are rows of `worked_rows`.
 //!
 //! They stand in a crate of their own since a library with tests is proved once more with them.
 #![tactic(auto)]
@@ -12,8 +12,6 @@ mod bad_pairs;
 mod broken_levels;
 #[cfg(test)]
 mod certificates;
-#[cfg(test)]
-mod changed_numbers;
 #[cfg(test)]
 mod circles;
 #[cfg(test)]
@@ -29,8 +27,6 @@ mod foreign_corners;
 #[cfg(test)]
 mod half_arc_tubes;
 #[cfg(test)]
-mod labels;
-#[cfg(test)]
 mod long_rows;
 #[cfg(test)]
 mod meetings_of_edges;
@@ -42,7 +38,5 @@ mod near_boxes;
 mod point_places;
 #[cfg(test)]
 mod small_edges;
-#[cfg(test)]
-mod stars;
 #[cfg(test)]
 mod sweeps;
