@@ -18,17 +18,18 @@
 //!   level above 0 are listed (`missing_tubes`). Of two bad edges the two curves are tested
 //!   (`bad_edges`): where they are bad, they are the answer; else each next level that these two
 //!   break is passed over without its edges (`finding`). Where no level is shown to settle, or a
-//!   sweep shows nothing of one, bad pairs are looked for among all curves, then points on curves
-//!   (`on_curves`), then the least level that settles: by a sweep of its edges, and by pairs of
-//!   curves only where that shows nothing (`levels`). Of a drawing that a level settles, with a
-//!   complete run of its edges at that level (`finishing`): one replay of the run for the places
-//!   of the points, which say for each whether it lies on a curve, in the tube of a half arc or in
-//!   a cell (`spots`), after which the edges are freed but for what they stand for; one for the
-//!   mesh of its half-edges, after which the events of the run are freed but for their positions;
-//!   the faces of the mesh by what its cells join, and those beside each curve (`case_sides`); and
-//!   links from each half-edge to the border, a tube or a point. What the certificate says is what
-//!   the run, the places, the faces and the links are; `certificate_checker` judges it without any
-//!   of them.
+//!   sweep shows nothing of one, or two curves are bad of a drawing of at most 2,048 curves, bad
+//!   pairs are looked for among all curves, two straights first and then the least pair with a half
+//!   arc, then points on curves (`on_curves`), then the least level that settles: by a sweep of its
+//!   edges, and by pairs of curves only where that shows nothing (`levels`). Of a drawing that a
+//!   level settles, with a complete run of its edges at that level (`finishing`): one replay of the
+//!   run for the places of the points, which say for each whether it lies on a curve, in the tube
+//!   of a half arc or in a cell (`spots`), after which the edges are freed but for what they stand
+//!   for; one for the mesh of its half-edges, after which the events of the run are freed but for
+//!   their positions; the faces of the mesh by what its cells join, and those beside each curve
+//!   (`case_sides`); and links from each half-edge to the border, a tube or a point. What the
+//!   certificate says is what the run, the places, the faces and the links are;
+//!   `certificate_checker` judges it without any of them.
 //! - **Degenerate cases.** No line, no point, several rings, holes, lines that end inside a region,
 //!   rings that touch in a vertex, equal points and points at vertices are all taken.
 //! - **Not here:** names of areas, lines of the transfer, and the text of a certificate.

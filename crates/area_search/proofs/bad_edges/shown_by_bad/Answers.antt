@@ -1,0 +1,5 @@
+use Rattle.area_search.specs.Answers.{meeting}
+use Rattle.area_search.proofs.bad_edges.shown_by_bad.Goals as goal
+
+pub returns : goal.returns
+returns c = λ level. meeting c.args.pair.first c.args.pair.second c.requires
