@@ -8,7 +8,7 @@ itfcheck=$(built_program "$@")
 cd "$work"
 PYTHONPATH="$top/bench" python3 - "$itfcheck" <<'PY'
 import sys
-from runs import once
+from runs import held, once, within
 
 program = sys.argv[1]
 SMALL, FULL = 32 << 20, 256 << 20
@@ -32,9 +32,12 @@ bad = [
 ]
 
 
+WORDS = [program, "check", "model", "transfer", "certificates"]
+
+
 def check():
-    """The last line of the report, the CPU seconds and the peak memory in bytes."""
-    status, cpu, peak = once([program, "check", "model", "transfer", "certificates"], "report")
+    """The first line of the report, the status, the CPU seconds and the peak memory in bytes."""
+    status, cpu, peak = once(WORDS, "report")
     with open("report") as file:
         first = file.readline().strip()
     return first, status, cpu, peak
@@ -52,7 +55,8 @@ for name, head, first, part in bad:
         line, status, cpu, peak = check()
         costs.append((cpu, peak))
     (small, _), (cpu, peak) = costs
-    told = "" if cpu / small < 1.5 * FULL / SMALL else ", MORE THAN IN PROPORTION"
-    print(f"{name}, 256 MiB: {line}, status {status}; {cpu / small:.1f} times the time of 32 MiB{told}; "
-          f"peak memory {peak / FULL:.2f} times the text", flush=True)
+    slow = "" if cpu / small < 1.5 * FULL / SMALL else ", MORE THAN IN PROPORTION"
+    limited = within(8, WORDS, status, held("report"))
+    print(f"{name}, 256 MiB: {line}, status {status}; {cpu / small:.1f} times the time of 32 MiB{slow}; "
+          f"peak memory {peak / FULL:.2f} times the text, {limited}", flush=True)
 PY

@@ -47,3 +47,17 @@ for _ in range(5):
 print(*(word for i in range(len(commands)) for word in (round(best[i] * 1000), peak[i] // 1024)))
 PY
 }
+
+# What comes of a command of the program with 8 bytes of address space for each byte of the files
+# that it reads: it has to end with the status that is given and the report of a run without a
+# limit, or with status 8 and nothing put or changed
+within_eight_times() {
+    PYTHONPATH="$top/bench" python3 - "$@" <<'PY'
+import sys
+from runs import held, once, within
+status, words = int(sys.argv[1]), sys.argv[2:]
+if once(words, "report.whole")[0] != status:
+    sys.exit("%s did not end with %d" % (" ".join(words), status))
+print(within(8, words, status, held("report.whole")))
+PY
+}

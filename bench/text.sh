@@ -3,7 +3,9 @@
 # once, and the places of its area kept. The last object has a value out of its bounds, so that the
 # area is not searched. Beside it a plain C program reads the same file and parses its fields and
 # numbers. Then come the worst inputs that are legal, and identifications in four orders. The
-# programs run in turn, the best of five counts. Prints ratios within one run.
+# programs run in turn, the best of five counts. Prints ratios within one run, and what comes of a
+# run with 8 bytes of address space for each byte that is read: the same answer, or status 8 with
+# nothing put or changed.
 #
 # usage: bench/text.sh [ITFCHECK]      (crates/itfcheck/out/itfcheck where none is given)
 . "$(dirname "${BASH_SOURCE[0]}")/begin.sh"
@@ -58,8 +60,9 @@ chmod +x ended
 compare() {
     read -r check check_peak parse parse_peak <<< "$(measure_in_turn \
         "./ended $2 $itfcheck check $3 $4 certificate" "./parse $4")"
-    awk -v d="$1" -v c="$check" -v p="$parse" -v m="$check_peak" -v t="$(stat -c %s "$4")" 'BEGIN {
-        printf "%-36s %4.0f MB: CPU %5.2f times the parse, peak %5.2f times the transfer\n", d, t / 1e6, c / p, m * 1024 / t }'
+    within=$(within_eight_times "$2" "$itfcheck" check "$3" "$4" certificate)
+    awk -v d="$1" -v c="$check" -v p="$parse" -v m="$check_peak" -v t="$(stat -c %s "$4")" -v w="$within" 'BEGIN {
+        printf "%-36s %4.0f MB: CPU %5.2f times the parse, peak %5.2f times the transfer, %s\n", d, t / 1e6, c / p, m * 1024 / t, w }'
 }
 
 for drawing in 'grid 500' 'parcels 100000'; do

@@ -2,7 +2,8 @@
 # Runs `check` and `verify` of the built program on drawings that are made to be hard: straights
 # that are all live at once, one vertex for all, upright straights alone, a comb. Each stands beside
 # parcels with about as many straights. One run each; prints CPU time and peak memory, and the time
-# beside that of the parcels.
+# beside that of the parcels. One run more has 8 bytes of address space for each byte that is read:
+# it has to give the same answer, or status 8 with nothing put or changed.
 #
 # usage: bench/worst.sh [ITFCHECK]      (crates/itfcheck/out/itfcheck where none is given)
 . "$(dirname "${BASH_SOURCE[0]}")/begin.sh"
@@ -16,7 +17,10 @@ both() {
     read -r check check_peak check_status <<< "$(once "$itfcheck" check model transfer certificate)"
     read -r verify verify_peak verify_status <<< "$(once "$itfcheck" verify model transfer certificate)"
     size=$(stat -c %s transfer)
+    read_size=$(( size + $(stat -c %s certificate) ))
     straights=$(( $(stat -c %s straights) / 16 ))
+    check_within=$(within_eight_times "$check_status" "$itfcheck" check model transfer certificate)
+    verify_within=$(within_eight_times "$verify_status" "$itfcheck" verify model transfer certificate)
 }
 
 # so many parcels have about 9 straights each
@@ -28,10 +32,11 @@ for count in 100000 200000 1000000; do
     for kind in strokes fan uprights comb; do
         both $kind $count
         awk -v k="$kind" -v n="$straights" -v s="$size" -v c="$check" -v v="$verify" -v cm="$check_peak" -v vm="$verify_peak" \
-            -v cs="$check_status" -v vs="$verify_status" -v pc="$plain_check" -v pv="$plain_verify" -v ps="$plain_size" 'BEGIN {
+            -v cs="$check_status" -v vs="$verify_status" -v pc="$plain_check" -v pv="$plain_verify" -v ps="$plain_size" \
+            -v rs="$read_size" -v cw="$check_within" -v vw="$verify_within" 'BEGIN {
             scale = s / ps
-            printf "%s: %d straights, transfer %.0f MB: check %.1f s, %.1f times that of parcels of this size, peak %.1f times the transfer, status %d; verify %.1f s, %.1f times, peak %.1f times, status %d\n", \
-                k, n, s / 1e6, c / 1e3, c / (pc * scale), cm * 1024 / s, cs, v / 1e3, v / (pv * scale), vm * 1024 / s, vs
+            printf "%s: %d straights, transfer %.0f MB: check %.1f s, %.1f times that of parcels of this size, peak %.1f times what it reads, status %d, %s; verify %.1f s, %.1f times, peak %.1f times what it reads, status %d, %s\n", \
+                k, n, s / 1e6, c / 1e3, c / (pc * scale), cm * 1024 / s, cs, cw, v / 1e3, v / (pv * scale), vm * 1024 / rs, vs, vw
         }'
     done
 done

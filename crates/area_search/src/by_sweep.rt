@@ -31,7 +31,7 @@ pub(crate) enum Shown {
     Answer(AreaAnswer),
     /// The level does not settle the drawing. Where two bad edges show it, their two curves.
     Unsettled(Option<CurvePair>),
-    /// Neither.
+    /// Neither, or that two curves are bad of a drawing whose least bad pair is looked for.
     Nothing,
 }
 

@@ -8,10 +8,10 @@ use Rattle.itf_reader.specs.Findings.{Finding}
 use Rattle.ident_refs.specs.KeptRows.{cell_key, first_line, repeat, repeats, zip_keys}
 
 -- ---- a row at its place
-abbrev this : ℕ → List ℕ → List (Option (List ℕ)) → ℕ × Option (List ℕ)
+abbrev pub this : ℕ → List ℕ → List (Option (List ℕ)) → ℕ × Option (List ℕ)
 this i lines keys = (get_or lines i 0, get_or keys i None)
 
-split_suc : (i : ℕ) (lines : List ℕ) (keys : List (Option (List ℕ))) → i < length lines
+pub split_suc : (i : ℕ) (lines : List ℕ) (keys : List (Option (List ℕ))) → i < length lines
     → (drop i (zip_keys lines keys) ≡ this i lines keys ∷ drop (suc i) (zip_keys lines keys)) × (take (suc i) (zip_keys lines keys) ≡ take i (zip_keys lines keys) ++ this i lines keys ∷ [])
 split_suc i [] keys lt = absurd (omega (arith, lt))
 split_suc zero (l ∷ lines) [] lt = (refl, refl)
@@ -36,7 +36,7 @@ repeats_step code column i lines keys first found new start lt f n inv =
     ∙ ap (λ (xs : List (ℕ × Option (List ℕ))). found ++ repeats code column (take i all) xs) (sym s.0) ∙ inv
 
 -- no row is left
-dropped : (i : ℕ) (lines : List ℕ) (keys : List (Option (List ℕ))) → length lines ≤ i → drop i (zip_keys lines keys) ≡ []
+pub dropped : (i : ℕ) (lines : List ℕ) (keys : List (Option (List ℕ))) → length lines ≤ i → drop i (zip_keys lines keys) ≡ []
 dropped zero [] keys le = refl
 dropped (suc i) [] keys le = refl
 dropped zero (l ∷ lines) keys le = absurd (omega (arith, le))

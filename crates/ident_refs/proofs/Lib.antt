@@ -19,3 +19,4 @@ pub mod FlatSteps
 pub mod AllMapped
 pub mod Collecting
 pub mod NoRows
+pub mod NeighbouringKeys

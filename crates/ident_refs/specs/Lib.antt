@@ -7,3 +7,4 @@ pub mod KeptRows
 pub mod KeptViews
 pub mod FedRows
 pub mod Spans
+pub mod DistinctKeys

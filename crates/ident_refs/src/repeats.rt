@@ -1,14 +1,15 @@
 // Rows that repeat a key of their table.
-ghost use Rattle.std.specs.Prelude.{◌≡◌, ◌≤◌, [], None, IfOk, OnOk, get_or, length};
-ghost use Rattle.std.specs.Prelude.{map, take};
+ghost use Rattle.std.specs.Prelude.{◌≡◌, ◌≤◌, [], None, IfOk, IsTrue, OnOk, false, get_or};
+ghost use Rattle.std.specs.Prelude.{length, map, take};
 ghost use Rattle.std.specs.List.{list_any};
-ghost use Rattle.ports.specs.SortedKeys.{IsSortedKeys, is_key};
+ghost use Rattle.ports.specs.SortedKeys.{IsSortedKeys, is_key, key_at};
 ghost use Rattle.itf_reader.specs.Findings.{AddsFindings};
+ghost use Rattle.ident_refs.specs.DistinctKeys.{AreDistinct, HaveOneKey};
 ghost use Rattle.ident_refs.specs.KeptRows.{cell_key, first_line, repeat, repeats, zip_keys};
 
 use super::key_cell::KeyCell;
 use itf_reader::{Code, Fault, Finding};
-use ports::{Keyed, Memory, SortedKeys};
+use ports::{Keyed, Memory, Ranked, SortedKeys};
 use std::alloc::Global;
 
 /// The lines of the rows of a table, a key of each, and these keys in order.
@@ -18,6 +19,36 @@ pub struct KeyColumn<'a> {
     pub keys: &'a [KeyCell],
     pub sorted: SortedKeys,
     ghost keys_sorted: { IsSortedKeys (map cell_key keys.now) sorted },
+}
+
+// The key of a row, no bytes where it has none.
+fn key_at(keys: &[KeyCell], place: usize) -> &[u8]
+    ensures { result.now ≡ key_at keys.now place }
+{
+    match keys.get(place) {
+        Some(cell) => cell.key().unwrap_or(&[]),
+        None => &[],
+    }
+}
+
+// Whether two rows have one key. Keys of different ranks differ.
+fn have_one_key(keys: &[KeyCell], a: &Ranked, b: &Ranked) -> bool
+    ensures { result ≡ false → HaveOneKey keys.now a.now b.now → ⊥ }
+{
+    a.rank == b.rank && key_at(keys, a.place) == key_at(keys, b.place)
+}
+
+// Whether no two rows have one key: of the keys in order, no two neighbours.
+fn are_distinct(keys: &[KeyCell], sorted: &SortedKeys) -> bool
+    requires { IsSortedKeys (map cell_key keys.now) sorted.now }
+    ensures { IsTrue result → AreDistinct keys.now }
+{
+    for place in 1..sorted.ranked.len() {
+        if have_one_key(keys, &sorted.ranked[place - 1], &sorted.ranked[place]) {
+            return false;
+        }
+    }
+    true
 }
 
 // Adds a finding for a row whose key a row before it has.
@@ -82,7 +113,8 @@ impl<'a> KeyColumn<'a> {
     }
 
     /// Adds a finding for each row whose key a row before it has, with the line of the first of
-    /// these.
+    /// these. Where no two rows have one key it takes a walk over the keys, else a search for each
+    /// row.
     pub fn add_repeats(
         &self,
         code: Code,
@@ -92,6 +124,9 @@ impl<'a> KeyColumn<'a> {
         ensures { OnOk result (AddsFindings findings.old.items findings.new.items
             (repeats code column [] (zip_keys self.now.lines.now self.now.keys.now))) }
     {
+        if are_distinct(self.keys, &self.sorted) {
+            return Ok(());
+        }
         for (place, line) in self.lines.iter().enumerate() {
             add_repeat(findings, code, column, *line, self.first_before(place))?;
         }
