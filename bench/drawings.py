@@ -28,7 +28,7 @@ import random
 import struct
 import sys
 
-MODEL = """TRANSFER Bench; DOMAIN Koord = COORD2 0.000 0.000 100000.000 100000.000;
+MODEL = """TRANSFER Bench; DOMAIN Koord = COORD2 0.000 0.000 900000.000 900000.000;
 MODEL Bench TOPIC Land = TABLE Parcel =
 Form: AREA WITH (STRAIGHTS, ARCS) VERTEX Koord; NO IDENT END Parcel; END Land. END Bench.
 FORMAT FREE; CODE BLANK = DEFAULT, UNDEFINED = DEFAULT, CONTINUE = DEFAULT; TID = ANY; END.
@@ -108,12 +108,13 @@ def parcels(count, share=0.0):
 
 
 def strokes(count):
-    """Level straights with a pace of 50 mm, each from the left half of the window into the right."""
+    """Level straights with a pace of 50 mm, each from the left half of the drawing into the right."""
     chance = random.Random(1)
     starts, ends = list(range(count)), list(range(count))
     chance.shuffle(starts)
     chance.shuffle(ends)
-    lines = [[(50 * starts[i], 50 * i), (50_000_000 + 50 * ends[i], 50 * i)] for i in range(count)]
+    middle = 50 * max(count, 1_000_000)
+    lines = [[(50 * starts[i], 50 * i), (middle + 50 * ends[i], 50 * i)] for i in range(count)]
     return lines, []
 
 
@@ -132,7 +133,7 @@ def with_undecided(lines):
 
 
 def fan(count):
-    """Straights from the middle of the window to places on a square about it."""
+    """Straights from one vertex to places on a square about it."""
     middle, half = 50_000_000, 40_000_000
     step = 8 * half // count
 

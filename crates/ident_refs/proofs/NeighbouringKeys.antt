@@ -52,6 +52,10 @@ same_bytes a b h =
     let s : slice_cmp nat_cmp a.1 b.1 ≡ Equal = then_second (nat_cmp a.0 b.0) (slice_cmp nat_cmp a.1 b.1) h in
     (bytes_eq-Decides a.1 b.1).0 (sym (is_eq-slice_cmp a.1 b.1) ∙ ap is_eq s)
 
+-- no two neighbours before a place have one key
+abbrev pub AreApartTo : List (Option (List ℕ)) → List Ranked → ℕ → Type 0
+AreApartTo keys xs n = (i : ℕ) (d : Ranked) → i + 1 < n → i + 1 < length xs → HaveOneKey keys (get_or xs i d) (get_or xs (i + 1) d) → ⊥
+
 module _ (keys : List (Option (List ℕ))) (skip : ℕ) (xs : List Ranked) (up : IsSortedBy (is_before keys) xs) (h : IsListed keys skip xs) where
   abbrev here : List ℕ → ℕ → Ranked
   here word place = record { rank = rank skip word; place = place }
@@ -72,14 +76,10 @@ module _ (keys : List (Option (List ℕ))) (skip : ℕ) (xs : List Ranked) (up :
       let told = h.told j d (omega (arith, m, n)) in
       (told.0 ∙ ap (rank skip) bytes, bytes)
 
-  -- no two neighbours before a place have one key
-  abbrev pub AreApartTo : ℕ → Type 0
-  AreApartTo n = (i : ℕ) (d : Ranked) → i + 1 < n → i + 1 < length xs → HaveOneKey keys (get_or xs i d) (get_or xs (i + 1) d) → ⊥
-
   one_word : (a b : Ranked) (word : List ℕ) → a.rank ≡ rank skip word → key_at keys a.place ≡ word → b.rank ≡ rank skip word → key_at keys b.place ≡ word → HaveOneKey keys a b
   one_word a b word r k s l = (r ∙ sym s, k ∙ sym l)
 
-  apart_places : (i k : ℕ) (word : List ℕ) (p q : ℕ) (d : Ranked) → AreApartTo (length xs) → i < k → k < length xs → get_or xs i d ≡ here word p → get_or xs k d ≡ here word q
+  apart_places : (i k : ℕ) (word : List ℕ) (p q : ℕ) (d : Ranked) → AreApartTo keys xs (length xs) → i < k → k < length xs → get_or xs i d ≡ here word p → get_or xs k d ≡ here word q
       → key_at keys p ≡ word → key_at keys q ≡ word → ⊥
   apart_places i k word p q d apart l n e f a b =
       let first = between i i k word p q d (omega arith) (omega (arith, l)) n e f a b in
@@ -91,7 +91,7 @@ module _ (keys : List (Option (List ℕ))) (skip : ℕ) (xs : List Ranked) (up :
   one_default (y ∷ ys) zero d e l = refl
   one_default (y ∷ ys) (suc i) d e l = one_default ys i d e (omega (arith, l))
 
-  pub distinct : AreApartTo (length xs) → AreDistinct keys
+  pub distinct : AreApartTo keys xs (length xs) → AreDistinct keys
   distinct apart p q word l e f =
       let a = h.whole p word e in
       let b = h.whole q word f in
