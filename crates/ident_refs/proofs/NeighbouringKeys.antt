@@ -1,5 +1,5 @@
 -- Where no two neighbours of a sorted column have one key, no two rows have.
-use Rattle.std.proofs.Common.{◌≡◌, ◌<◌, ◌≤◌, ◌+◌, ◌×◌, ◌⊎◌, inl, inr, ℕ, zero, suc, Bool, true, false, nat_eq, List, [], ◌∷◌, ◌++◌, length, get_or, map, take, drop, Option, Some, None, refl, sym, ap, subst, ◌∙◌, arith}
+use Rattle.std.proofs.Common.{◌≡◌, ◌<◌, ◌≤◌, ◌+◌, ◌⊎◌, inl, inr, ℕ, zero, suc, Bool, true, false, nat_eq, List, [], ◌∷◌, ◌++◌, length, get_or, map, take, drop, Option, Some, None, refl, sym, ap, subst, ◌∙◌, arith, append-nil}
 use Rattle.std.specs.Cmp.{IsTotalOrder, then_total, on_total, nat_cmp_total}
 use Rattle.std.specs.Cmp.Lexicographic.{pointwise, slice_cmp}
 use Rattle.std.specs.List.{Contains}
@@ -12,13 +12,18 @@ use Rattle.std.proofs.lemmas.Cmp.{nat_list_cmp_total}
 use Rattle.std.proofs.lemmas.List.Sorted.{sorted_far}
 use Rattle.std.proofs.lemmas.Map.Text.{is_eq-slice_cmp}
 use Rattle.std.proofs.lemmas.Slice.Eq.{bytes_eq-Decides}
-use Rattle.ports.specs.SortedKeys.{rank, is_key, bytes_of, key_at, key_cmp, key_of, is_before, IsListed}
+use Rattle.ports.specs.SortedKeys.{rank, is_key, bytes_of, key_at, key_cmp, key_of, is_before, AreSorted, IsListed, IsSortedKeys}
+use Rattle.ports.specs.declared.sorted_keys.SortedKeys.{SortedKeys}
+use Rattle.std.proofs.Props.{props}
+use mathlib.Core.Logic.{∥∥₁_elim}
 use Rattle.ports.specs.declared.sorted_keys.Ranked.{Ranked}
 use Rattle.ports.proofs.FirstPlaces.{is_before_ranks}
 use Rattle.ident_refs.specs.DistinctKeys.{AreDistinct, HaveOneKey}
 use Rattle.itf_reader.specs.declared.findings.Code.{Code}
-use Rattle.ident_refs.specs.KeptRows.{first_line, repeat, repeats, zip_keys}
-use Rattle.ident_refs.proofs.KeyPlaces.{dropped, split_suc, this}
+use Rattle.itf_reader.specs.declared.findings.Finding.{Finding as CodeFinding}
+use Rattle.itf_reader.specs.Findings.{AddsFindings, Finding, findings_of}
+use Rattle.ident_refs.specs.KeptRows.{cell_key, first_line, repeat, repeats, zip_keys}
+use Rattle.ident_refs.proofs.KeyPlaces.{dropped, self_keys, split_suc, this}
 
 abbrev Key : Type 0
 Key = ℕ × List ℕ
@@ -110,6 +115,12 @@ module _ (keys : List (Option (List ℕ))) (skip : ℕ) (xs : List Ranked) (up :
           ]
       ]
 
+-- the same of keys that a program has sorted
+pub all_distinct : (keys : List (Option (List ℕ))) (sorted : SortedKeys) (n : ℕ) → length sorted.ranked.items ≤ n → IsSortedKeys (map cell_key keys) sorted → AreApartTo keys sorted.ranked.items n → AreDistinct keys
+all_distinct keys sorted n l s a = ∥∥₁_elim s (hlevel props) (λ r.
+    let own = subst (λ (ks : List (Option (List ℕ))). AreSorted ks sorted) (self_keys keys) r in
+    distinct keys sorted.skip sorted.ranked.items own.ascending own.listed (λ i d m k. a i d (omega (arith, l, k)) k))
+
 -- ---- what that means for the rows
 by_test : {P : Type 0} (b : Bool) → (b ≡ true → P) → (b ≡ false → P) → P
 by_test true f g = f refl
@@ -148,3 +159,7 @@ repeats_from code column (suc n) i lines keys d l = elim (cases_lt i (length lin
 
 pub none_repeated : (code : Code) (column : ℕ) (lines : List ℕ) (keys : List (Option (List ℕ))) → AreDistinct keys → repeats code column [] (zip_keys lines keys) ≡ []
 none_repeated code column lines keys d = repeats_from code column (length lines) 0 lines keys d (omega arith)
+
+pub nothing_added : (code : Code) (column : ℕ) (lines : List ℕ) (keys : List (Option (List ℕ))) (findings : List CodeFinding) → AreDistinct keys
+    → AddsFindings findings findings (repeats code column [] (zip_keys lines keys))
+nothing_added code column lines keys findings d = sym (append-nil (findings_of findings)) ∙ ap (λ (xs : List Finding). findings_of findings ++ xs) (sym (none_repeated code column lines keys d))

@@ -1,5 +1,9 @@
 use Rattle.ident_refs.proofs.KeyPlaces.{repeats_step, repeats_end}
+use Rattle.ident_refs.proofs.NeighbouringKeys.{nothing_added}
 use Rattle.ident_refs.proofs.repeats.KeyColumn.add_repeats.Goals as goal
+
+pub returns-then-are_distinct : goal.returns-then-are_distinct
+returns-then-are_distinct c = nothing_added c.args.code c.args.column c.args.self.now.lines.now c.args.self.now.keys.now c.args.findings.now.items (c.are_distinct.ensures c.if-are_distinct.true)
 
 pub loop-place-preserved : goal.loop-place-preserved
 loop-place-preserved c =
