@@ -110,7 +110,7 @@ numbers face = record { below = λ e. face (under e); above = λ e. face (over e
 abbrev pub face_of : Replay → (Half → ℕ) → Sector → ℕ
 face_of r face c = label_of (numbers face) r c
 
--- ---- labels that tell apart whatever face numbers tell apart
+-- ---- labels that differ wherever face numbers differ
 pub record AreFine (r : Replay) (lab : Labels) (face : Half → ℕ) : Type 0 where
   pub faces : IsFaces r face
   pub finer : (g h : Half) → edge_of g < r.edges → edge_of h < r.edges → mark lab g ≡ mark lab h
