@@ -40,9 +40,9 @@ use Rattle.area_search.specs.Writing.{positions_of}
 use Rattle.area_search.proofs.CaseNames.{Labelling, inside, named_faces, numbers_are, outside, r}
 use Rattle.area_search.proofs.CasePlaces.{placed, told as told_place}
 use Rattle.area_search.proofs.CaseRootLists.{Root, Rooting, listed_root}
+use Rattle.area_search.proofs.CertifiedMoves.{RootAt, CertifiesRun, certifies_claims, rank_in}
 use Rattle.area_search.proofs.PlaneLaws.{half_number, number_half}
 use Rattle.area_search.proofs.RunFaces.{either_across, number_within, to_next, within as half_within_mesh}
-use Rattle.area_search.proofs.ToldRuns.{RootAt, TellsRun, certifies_claims, rank_in}
 use Rattle.area_search.proofs.TubedLaws.{certified}
 use Rattle.area_search.proofs.TubeSides.{tag_is}
 
@@ -188,7 +188,7 @@ module _ (d : Plan) (level : ℕ) (edges : List Edge) (edge_owners : List Owner)
       let i : slice_index told.ranks (number h) ≡ 0 = subst (IsLink mesh (closed_gaps vs) told.ranks (number h)) q (told.link_is (number h) (in_mesh h l)) in
       (root_at h l i).1
 
-  pub certifies_by : TellsRun d level vs ns places (inside s) (outside s) lead
+  pub certifies_by : CertifiesRun d level vs ns places (inside s) (outside s) lead
   certifies_by = record {
     run = case.settled.run;
     fit = case.fit;
@@ -215,4 +215,4 @@ module _ (d : Plan) (level : ℕ) (edges : List Edge) (edge_owners : List Owner)
     table_is = subst (λ (es : List Edge). IsTimetable (length es) (edge_in es) t.table) case.edges_are t.is_table
 
     pub certifies : Certifies d claimed
-    certifies = certifies_claims d claimed t.table table_is counted (inside s) (outside s) lead (subst (λ (ws : List Move). TellsRun d level ws ns places (inside s) (outside s) lead) t.is certifies_by)
+    certifies = certifies_claims d claimed t.table table_is counted (inside s) (outside s) lead (subst (λ (ws : List Move). CertifiesRun d level ws ns places (inside s) (outside s) lead) t.is certifies_by)

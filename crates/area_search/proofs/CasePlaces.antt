@@ -22,9 +22,9 @@ use Rattle.area_search.specs.declared.case.Spot.TheVariants as spot
 use Rattle.area_search.specs.CaseNotes.{spot_place}
 use Rattle.area_search.specs.Cases.{IsClearOver, IsOffCurves, IsSpot, face_over, spot_at, spot_face}
 use Rattle.area_search.proofs.CaseNames.{E, F, Labelling, bays, beside_name, clear_name, d, fs, fs_size, inside, known, level, m, mesh, name, named_faces, nth_face, outside, own_name, owner, points, r, spots, steps, twin_fits, vs, within}
+use Rattle.area_search.proofs.CertifiedMoves.{CellAt, TubeAt, place_in}
 use Rattle.area_search.proofs.ListPlaces.{at_has, at_is, before_has, before_is, less_equal_or, some_edge}
 use Rattle.area_search.proofs.PlaneLaws.{list_is, run_known}
-use Rattle.area_search.proofs.ToldRuns.{CellAt, TubeAt, place_in}
 use Rattle.area_search.proofs.TubedLaws.{below_m}
 
 pub nth_place : (spots : List Spot) (j : ℕ) → j < length spots → place_in (map spot_place spots) j ≡ spot_place (spot_at spots j)
@@ -161,9 +161,9 @@ module _ (s : Labelling) where
         where
           by_spot : (x : Spot) → spot_at (spots s) j ≡ x → IsSpot (d s) (level s) (vs s) v x → IsOffCurves x → CellAt (d s) (r s) (numbers (name s)) places j ⊎ TubeAt (d s) (level s) (inside s) (outside s) places j
           by_spot (spot.On c) e h o = absurd o
-          by_spot (spot.Cell i lo up) e h o = inl (record { cell = in_cell i lo up e h.0 h.1; tells = place_is (spot.Cell i lo up) e })
-          by_spot (spot.InTube c true) e h o = inr (record { tube = in_inner c h.0 h.1 e; is_inside = true; side = h.1; tells = place_is (spot.InTube c true) e })
-          by_spot (spot.InTube c false) e h o = inr (record { tube = in_outer c h.0 h.1 e; is_inside = false; side = h.1; tells = place_is (spot.InTube c false) e })
+          by_spot (spot.Cell i lo up) e h o = inl (record { cell = in_cell i lo up e h.0 h.1; names_place = place_is (spot.Cell i lo up) e })
+          by_spot (spot.InTube c true) e h o = inr (record { tube = in_inner c h.0 h.1 e; is_inside = true; side = h.1; names_place = place_is (spot.InTube c true) e })
+          by_spot (spot.InTube c false) e h o = inr (record { tube = in_outer c h.0 h.1 e; is_inside = false; side = h.1; names_place = place_is (spot.InTube c false) e })
 
   pub placed : (places : List PointPlace) → places ≡ map spot_place (spots s) → ArePlaced (d s) (bays s) (r s) (numbers (name s)) (inside s) (outside s)
   placed places written j l = elim (told j l places written) [ inl c ↦ inl c.cell | inr t ↦ inr t.tube ]

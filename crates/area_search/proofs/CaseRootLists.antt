@@ -31,10 +31,10 @@ use Rattle.area_search.specs.Cases.{IsClearOver, IsOffCurves, IsRunMesh, IsSpot,
 use Rattle.area_search.specs.Writing.{border_roots, cell_roots, over_some, under_some}
 use Rattle.area_search.proofs.CaseNames.{E, Labelling, bays, clear_least, d, inside, labels_are, level, m, mesh, name, named_faces, outside, points, r, spots, steps, touches_fits, twin_fits, vs, within}
 use Rattle.area_search.proofs.CasePlaces.{at_up, before_low, in_cell, in_inner, in_outer, inner_label, is_placed, low_fits, low_name, lower_some, now, outer_label, place_is, up_fits, up_name, upper_some}
+use Rattle.area_search.proofs.CertifiedMoves.{RootAt}
 use Rattle.area_search.proofs.PlaneLaws.{has_append, has_at, has_back, has_front, half_number, number_half, number_one}
 use Rattle.area_search.proofs.ListPlaces.{flat_has, has_flat}
 use Rattle.area_search.proofs.RunFaces.{from_touches, joined, number_within, to_touches, within as half_within_mesh}
-use Rattle.area_search.proofs.ToldRuns.{RootAt}
 use Rattle.area_search.proofs.TubedLaws.{edge_twin, edge_within, number_is, owner_is as owned_is, some_inner, some_outer}
 use Rattle.area_search.proofs.TubeSides.{has_border, has_to, listed_side, roots_are, tag_is, tag_listed, to_has, twin_listed}
 
@@ -304,7 +304,7 @@ module _ (s : Labelling) (g : Rooting s) where
           strip = cell.events;
           index = i;
           placed = is_placed s j l i lo up is cell clear;
-          tells = place_is s j l g.places g.places_are (spot.Cell i lo up) is;
+          names_place = place_is s j l g.places g.places_are (spot.Cell i lo up) is;
           beside = b;
         }),
       )),

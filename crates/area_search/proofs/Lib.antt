@@ -15,7 +15,7 @@ pub mod CaseMesh
 pub mod CaseMaking
 pub mod ListPlaces
 pub mod TubedLaws
-pub mod ToldRuns
+pub mod CertifiedMoves
 pub mod CaseNames
 pub mod CasePlaces
 pub mod TubeSides

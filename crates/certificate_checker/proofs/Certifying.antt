@@ -140,9 +140,9 @@ module _ (d : Plan) (c : Claims) (table : List Timed) (t : IsTableOf d c.level t
 
   in_cell : (j : ℕ) → PlacesInCell s j → IsInOwnCell s j
   in_cell j a =
-      let index : index_of s j ≡ a.cell.index = ap under_place a.tells in
+      let index : index_of s j ≡ a.cell.index = ap under_place a.names_place in
       record {
-        cell = a.tells ∙ ap place.Cell (sym index);
+        cell = a.names_place ∙ ap place.Cell (sym index);
         between = subst (λ (k : ℕ). IsPlaced (replay_of s) (point_at s j) k (index_of s j)) (sym (strip_is j a.cell.strip a.cell.index a.cell.placed))
             (subst (λ (i : ℕ). IsPlaced (replay_of s) (point_at s j) a.cell.strip i) (sym index) a.cell.placed);
         lower = a.cell.lower_label;
@@ -153,7 +153,7 @@ module _ (d : Plan) (c : Claims) (table : List Timed) (t : IsTableOf d c.level t
   in_tube j b = record {
     curve = b.tube.number;
     inside = b.is_inside;
-    tube = b.tells;
+    tube = b.names_place;
     held = record { half_arc = arc_of; holds = b.tube.holds; side = b.side };
     label = side_is b.is_inside b.tube.number arc_of ∙ label_of b.is_inside b.side b.tube.side;
   }
@@ -176,9 +176,9 @@ module _ (d : Plan) (c : Claims) (table : List Timed) (t : IsTableOf d c.level t
   -- ---- links
   bounds_cell : (h : Half) (j : ℕ) → BoundsNamedCell s h j → BoundsCell s h j
   bounds_cell h j b =
-      let index : index_of s j ≡ b.index = ap under_place b.tells in
+      let index : index_of s j ≡ b.index = ap under_place b.names_place in
       let strip = strip_is j b.strip b.index b.placed in
-      record { cell = b.tells ∙ ap place.Cell (sym index); beside = rw (strip, index) b.beside }
+      record { cell = b.names_place ∙ ap place.Cell (sym index); beside = rw (strip, index) b.beside }
 
   to_root : (h : Half) → IsRootByRule s h → IsRootOf s h
   to_root h (inl f) = inl f

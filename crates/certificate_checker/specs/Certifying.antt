@@ -30,7 +30,7 @@ pub data Says (n : HalfNote) : Lead → Type 0 where
 -- The point lies in a cell with the label of its number, and the place says so.
 pub record PlacesInCell (s : Subject) (j : ℕ) : Type 0 where
   pub cell : IsInCell (replay_of s) (labels s) (point_at s j) (suc j)
-  pub tells : place_at s j ≡ place.Cell cell.index
+  pub names_place : place_at s j ≡ place.Cell cell.index
 
 -- The point lies in a tube, with the label of its number outside the chain on its side of the
 -- circle, and the place says so.
@@ -38,14 +38,14 @@ pub record PlacesInTube (s : Subject) (inside outside : ℕ → ℕ) (j : ℕ) :
   pub tube : IsInTube s.drawing (bays_of s) inside outside (point_at s j) (suc j)
   pub is_inside : Bool
   pub side : IsOnSide is_inside (power (arc (curve s.drawing tube.number)) (point (point_at s j)))
-  pub tells : place_at s j ≡ place.Tube tube.number is_inside
+  pub names_place : place_at s j ≡ place.Tube tube.number is_inside
 
 -- The place gives a cell in which the point lies, and the half-edge bounds it.
 pub record BoundsNamedCell (s : Subject) (h : Half) (j : ℕ) : Type 0 where
   pub strip : ℕ
   pub index : ℕ
   pub placed : IsPlaced (replay_of s) (point_at s j) strip index
-  pub tells : place_at s j ≡ place.Cell index
+  pub names_place : place_at s j ≡ place.Cell index
   pub beside : Beside (replay_of s) h (record { strip = strip; index = index })
 
 -- The half-edge faces a tube from within, or has label 0 and was a neighbour of a border, or bounds

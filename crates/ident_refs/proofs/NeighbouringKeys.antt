@@ -1,8 +1,7 @@
 -- Where no two neighbours of a sorted column have one key, no two rows have.
-use Rattle.std.proofs.Common.{◌≡◌, ◌<◌, ◌≤◌, ◌+◌, ◌⊎◌, inl, inr, ℕ, zero, suc, Bool, true, false, nat_eq, List, [], ◌∷◌, ◌++◌, length, get_or, map, take, drop, Option, Some, None, refl, sym, ap, subst, ◌∙◌, arith, append-nil}
+use Rattle.std.proofs.Common.{◌≡◌, ◌<◌, ◌≤◌, ◌+◌, inl, inr, ℕ, zero, suc, Bool, true, false, List, [], ◌∷◌, ◌++◌, length, get_or, map, take, drop, Option, Some, None, refl, sym, ap, subst, ◌∙◌, arith, append-nil}
 use Rattle.std.specs.Cmp.{IsTotalOrder, then_total, on_total, nat_cmp_total}
-use Rattle.std.specs.Cmp.Lexicographic.{pointwise, slice_cmp}
-use Rattle.std.specs.List.{Contains}
+use Rattle.std.specs.Cmp.Lexicographic.{slice_cmp}
 use Rattle.std.specs.List.Sorted.{IsSortedBy}
 use Rattle.std.specs.Ordering.{nat_cmp, is_lt, is_eq, ordering_then, ordering_reverse}
 use Rattle.std.specs.declared.cmp.Ordering.{Ordering}
@@ -106,13 +105,13 @@ module _ (keys : List (Option (List ℕ))) (skip : ℕ) (xs : List Ranked) (up :
       elim (cases_lt a.0 b.0) as (λ s. ⊥) [
         | inl m ↦ apart_places a.0 b.0 word p q (here word p) apart m b.1 a.2 q_is at_p at_q
         | inr m ↦ elim (cases_lt b.0 a.0) as (λ s. ⊥) [
-            | inl n ↦ apart_places b.0 a.0 word q p (here word p) apart n a.1 q_is a.2 at_q at_p
-            | inr n ↦
-                let same : a.0 ≡ b.0 = omega (arith, m, n) in
-                let one : here word p ≡ here word q = sym a.2 ∙ ap (λ (i : ℕ). get_or xs i (here word p)) same ∙ q_is in
-                let place : p ≡ q = ap (λ (r : Ranked). r.place) one in
-                omega (arith, place, l)
-          ]
+          | inl n ↦ apart_places b.0 a.0 word q p (here word p) apart n a.1 q_is a.2 at_q at_p
+          | inr n ↦
+              let same : a.0 ≡ b.0 = omega (arith, m, n) in
+              let one : here word p ≡ here word q = sym a.2 ∙ ap (λ (i : ℕ). get_or xs i (here word p)) same ∙ q_is in
+              let place : p ≡ q = ap (λ (r : Ranked). r.place) one in
+              omega (arith, place, l)
+        ]
       ]
 
 -- the same of keys that a program has sorted

@@ -18,8 +18,8 @@ abbrev pub gaps_held : Slab Cell → List ℕ → List Gap
 gaps_held slab keys = map (λ (k : ℕ). gap_in (get slab k)) keys
 
 -- Each key has a cell, no key stands twice, and the cells have these gaps.
-pub record IsHeld (slab : Slab Cell) (keys : List ℕ) (told : List Gap) : Type 0 where
-  pub gaps : gaps_held slab keys ≡ told
+pub record IsHeld (slab : Slab Cell) (keys : List ℕ) (listed : List Gap) : Type 0 where
+  pub gaps : gaps_held slab keys ≡ listed
   pub once : Once keys
   pub all : (k : ℕ) → Has k keys → ContainsKey slab k
 
@@ -29,8 +29,8 @@ pub record AreClosed (old new : Slab Cell) (keys : List ℕ) (before after : Lis
   pub others : (k : ℕ) → (Has k keys → ⊥) → get new k ≡ get old k
 
 -- Cells were put under new keys.
-pub record ArePut (old new : Slab Cell) (told : List Gap) (keys : List ℕ) : Type 0 where
-  pub gaps : gaps_held new keys ≡ told
+pub record ArePut (old new : Slab Cell) (listed : List Gap) (keys : List ℕ) : Type 0 where
+  pub gaps : gaps_held new keys ≡ listed
   pub once : Once keys
   pub fresh : (k : ℕ) → Has k keys → get old k ≡ None
   pub all : (k : ℕ) → Has k keys → ContainsKey new k

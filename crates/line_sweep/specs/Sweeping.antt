@@ -20,14 +20,14 @@ points_of table = map (λ (t : Timed). t.at) table
 -- The first k events are done: the sweep is under way, the live list and the open cells are those
 -- that the moves leave, and the closed cells those that they closed.
 pub record IsSweptTo (edges : List Edge) (table : List Timed) (k : ℕ) (live keys : List ℕ)
-    (slab : Slab Cell) (moves : List Move) (told : List Gap) : Type 0 where
+    (slab : Slab Cell) (moves : List Move) (written : List Gap) : Type 0 where
   pub size : length moves ≡ k
   pub way : IsUnderWay (length edges) (edge_of edges) (points_of table) (made [] moves)
       (drop k (points_of table))
   pub fit : Fit [] moves
   pub lives : live ≡ live_from [] moves
   pub held : IsHeld slab keys (open_gaps moves)
-  pub closed : told ≡ closed_gaps moves
+  pub closed : written ≡ closed_gaps moves
 
 -- The same of what the program keeps.
 abbrev pub HasSwept : List Edge → List Timed → ℕ → State → Type 0

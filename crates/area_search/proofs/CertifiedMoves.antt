@@ -39,14 +39,14 @@ within_at d level e = half_within d (drawn_bays d level) (edge_at d level) e
 -- The point lies in a cell with the label of its number, and the place says so.
 pub record CellAt (d : Plan) (r : Replay) (lab : Labels) (places : List PointPlace) (j : ℕ) : Type 0 where
   pub cell : IsInCell r lab (object d j) (suc j)
-  pub tells : place_in places j ≡ place.Cell cell.index
+  pub names_place : place_in places j ≡ place.Cell cell.index
 
 -- The point lies in a tube, with the label of its number outside the chain on its side of the circle, and the place says so.
 pub record TubeAt (d : Plan) (level : ℕ) (inside outside : ℕ → ℕ) (places : List PointPlace) (j : ℕ) : Type 0 where
   pub tube : IsInTube d (drawn_bays d level) inside outside (object d j) (suc j)
   pub is_inside : Bool
   pub side : IsOnSide is_inside (power (arc (curve d tube.number)) (point (object d j)))
-  pub tells : place_in places j ≡ place.Tube tube.number is_inside
+  pub names_place : place_in places j ≡ place.Tube tube.number is_inside
 
 -- The half-edge faces the tube of its edge's curve from within.
 pub record FacesTubeAt (d : Plan) (level : ℕ) (h : Half) : Type 0 where
@@ -58,7 +58,7 @@ pub record BoundsCellAt (d : Plan) (r : Replay) (places : List PointPlace) (h : 
   pub strip : ℕ
   pub index : ℕ
   pub placed : IsPlaced r (object d j) strip index
-  pub tells : place_in places j ≡ place.Cell index
+  pub names_place : place_in places j ≡ place.Cell index
   pub beside : Beside r h (record { strip = strip; index = index })
 
 -- The place is in a tube, and the half-edge lies outside an edge of the chain on its side.
@@ -80,7 +80,7 @@ rank_in notes h = (note_in notes h).rank
 
 -- The moves are a complete run over the edges of the drawing at the level, and the notes and places give labels, links and places that
 -- certify it.
-pub record TellsRun (d : Plan) (level : ℕ) (vs : List Move) (notes : List HalfNote) (written : List PointPlace) (inside outside : ℕ → ℕ) (lead : Half → Lead) : Type 0 where
+pub record CertifiesRun (d : Plan) (level : ℕ) (vs : List Move) (notes : List HalfNote) (written : List PointPlace) (inside outside : ℕ → ℕ) (lead : Half → Lead) : Type 0 where
   pub run : IsTubedRun d (drawn_bays d level) (length (edges_at d level)) (edge_at d level) (steps_from [] vs)
   pub fit : Fit [] vs
   pub certified : CertifiedCurves d (drawn_bays d level) (run_at d level vs) (labels_in notes) (within_at d level) inside outside (rank_in notes) lead
@@ -90,20 +90,20 @@ pub record TellsRun (d : Plan) (level : ℕ) (vs : List Move) (notes : List Half
 
 -- ---- of claims
 module _ (d : Plan) (c : Claims) (table : List Timed) (is_table : IsTableOf d c.level table) (counts : HasCounts (subject_of d c table)) (inside outside : ℕ → ℕ) (lead : Half → Lead)
-    (x : TellsRun d c.level (moves_at table c.positions) c.notes c.places inside outside lead) where
+    (x : CertifiesRun d c.level (moves_at table c.positions) c.notes c.places inside outside lead) where
   abbrev s : Subject
   s = subject_of d c table
 
   told_place : (j : ℕ) → j < length s.points → certifying.PlacesInCell s j ⊎ certifying.PlacesInTube s inside outside j
   told_place j l = elim (x.places j l) [
-    | inl t ↦ inl (record { cell = t.cell; tells = t.tells })
-    | inr t ↦ inr (record { tube = t.tube; is_inside = t.is_inside; side = t.side; tells = t.tells })
+    | inl t ↦ inl (record { cell = t.cell; names_place = t.names_place })
+    | inr t ↦ inr (record { tube = t.tube; is_inside = t.is_inside; side = t.side; names_place = t.names_place })
   ]
 
   root_is : (h : Half) → RootAt d c.level (run_at d c.level (moves_at table c.positions)) (labels_in c.notes) c.places h → certifying.IsRootByRule s h
   root_is h (inl t) = inl (record { of_tube = t.of_tube; is = t.is })
   root_is h (inr (inl t)) = inr (inl t)
-  root_is h (inr (inr (j, l, e, inl t))) = inr (inr (j, l, e, inl (record { strip = t.strip; index = t.index; placed = t.placed; tells = t.tells; beside = t.beside })))
+  root_is h (inr (inr (j, l, e, inl t))) = inr (inr (j, l, e, inl (record { strip = t.strip; index = t.index; placed = t.placed; names_place = t.names_place; beside = t.beside })))
   root_is h (inr (inr (j, l, e, inr t))) = inr (inr (j, l, e, inr (record { curve = _; inside = t.inside; tube = t.tube; outside = record { of_curve = refl; part = t.part; is = t.is } })))
 
   pub certifies_claims : Certifies d c
