@@ -35,6 +35,7 @@ use Rattle.area_search.specs.Answers.{AreClear, IsAnswer, on}
 use Rattle.area_search.specs.CaseSides.{IsSpotOf}
 use Rattle.area_search.specs.CaseRoots.{no_owner, owner_at}
 use Rattle.area_search.specs.Cases.{AreOffCurves, ArePlacedOff, AreSpots, IsCase, IsClearOver, IsOffCurves, IsSpot, no_spot, spot_at}
+use Rattle.area_search.specs.CurvePoints.{IsFirstOnCurve}
 use Rattle.area_search.specs.Faults.{LiesOn}
 use Rattle.area_search.specs.PointFaces.{IsOver}
 use Rattle.area_search.specs.Spots.{IsFirstSpotOn, IsTubeOver}
@@ -139,15 +140,18 @@ module _ (d : Plan) (level : ℕ) (edges : List Edge) (owners : List Owner) (fac
     none_on : (k : ℕ) → AreOffCurves spots k → (j : ℕ) → j < k → (i : ℕ) → LiesOn d j i → ⊥
     none_on k off j l i h = off_spot (object d j) (spot_at spots j) (are.each j h.point_there) (off j l) i h.curve_there h.on
 
-    pub on_answer : (p : OnCurve) → IsFirstSpotOn spots (Some p) → IsAnswer d (Fault (On p.point p.curve))
-    on_answer p (off, l, e) =
+    pub first_on : (found : Option OnCurve) → IsFirstSpotOn spots found → IsFirstOnCurve d found
+    first_on None off = λ j i h. none_on (length spots) off j (let a = are.size in let b = h.point_there in omega (arith, a, b)) i h
+    first_on (Some p) (off, l, e) =
         let k : p.point < length d.points = (let a = are.size in omega (arith, l, a)) in
-        let s : IsFirstOn d p.curve (point (object d p.point)) = subst (IsSpot d level vs (object d p.point)) e (are.each p.point k) in
-        on p.point p.curve (no_bad_pair d level edges owners facings vs is) (record {
+        let s : IsFirstOn d p.curve (point (object d p.point)) = subst (IsSpot d level vs (object d p.point)) e (are.each p.point k) in record {
           on = record { point_there = k; curve_there = s.there; on = s.on; has_side = λ b. on_arc_side (object d p.point) p.curve (record { there = s.there; kind = b }) s.on };
           no_point = λ j i o h. none_on p.point off j o i h;
           no_curve = λ i o h. s.least i o h.on;
-        })
+        }
+
+    pub on_answer : (p : OnCurve) → IsFirstSpotOn spots (Some p) → IsAnswer d (Fault (On p.point p.curve))
+    on_answer p f = on p.point p.curve (no_bad_pair d level edges owners facings vs is) (first_on (Some p) f)
 
     pub clear_spots : AreOffCurves spots (length spots) → AreClear d
     clear_spots off = record {

@@ -1,5 +1,5 @@
 -- The two sides of each cell, and the run of a level's edges whose cells pair.
-use Rattle.std.proofs.Common.{◌≡◌, ◌↔◌, ◌⊎◌, inl, inr, Bool, true, false, IsTrue, ℕ, zero, suc, ◌*◌, ◌^◌, ◌<◌, ◌≤◌, Some, List, [], ◌∷◌, length, map, get_or, refl, sym, ap, subst, ◌∙◌, arith, pos}
+use Rattle.std.proofs.Common.{◌≡◌, ◌↔◌, ◌⊎◌, inl, inr, Bool, true, false, IsTrue, ℕ, zero, suc, ◌*◌, ◌^◌, ◌<◌, ◌≤◌, Option, None, Some, List, [], ◌∷◌, length, map, get_or, refl, sym, ap, subst, ◌∙◌, arith, pos}
 use Rattle.line_sweep.specs.Kinds.{gap_of, gaps_of}
 use Rattle.line_sweep.specs.declared.kinds.Cell.{Cell}
 use Rattle.plane.specs.CurveRuns.FacedTubes.{AreCellsPaired, faced}
@@ -19,12 +19,11 @@ use Rattle.tubes.specs.TubedEdges.{IsTubedList, drawn_bays, owner_as}
 use Rattle.tubes.specs.declared.kinds.EdgeList.{EdgeList}
 use Rattle.tubes.specs.declared.kinds.Facing.{Facing}
 use Rattle.tubes.specs.declared.kinds.Owner.{Owner}
-use Rattle.area_search.specs.Answers.{IsLeastLevel}
 use Rattle.area_search.specs.CaseNotes.{tag_at}
 use Rattle.area_search.specs.CaseRoots.{owner_at}
 use Rattle.area_search.specs.Cases.{IsCase}
 use Rattle.area_search.specs.CellSides.{ArePaired, IsPaired, tag_over, tag_under}
-use Rattle.area_search.proofs.PlaneLaws.{across_gap, closed_edges, paired_settle, run_known, run_leaves_none, touches_border}
+use Rattle.area_search.proofs.PlaneLaws.{across_gap, border_touches, closed_edges, gap_across, paired_settle, run_known, run_leaves_none, touches_border}
 use Rattle.area_search.proofs.TubeSides.{owner_count, owner_is, tag_is}
 
 -- ---- cells by number
@@ -41,7 +40,7 @@ module _ (facings : List Facing) (owners : List Owner) where
 
 -- ---- the run of a level's edges
 module _ (d : Plan) (level : ℕ) (facings : List Facing) (told : AreFacings d level facings) (owners : List Owner) (are : owners ≡ map owner_as (runs.edge_list (drawn_bays d level) 0 d.curves))
-    (vs : List Move) (fit : Fit [] vs) (run : Run (length (edges_at d level)) (edge_at d level) (steps_from [] vs)) (paired : ArePaired facings owners (closed_gaps vs)) where
+    (vs : List Move) (fit : Fit [] vs) (run : Run (length (edges_at d level)) (edge_at d level) (steps_from [] vs)) where
   abbrev m : ℕ
   m = length (edges_at d level)
 
@@ -57,36 +56,55 @@ module _ (d : Plan) (level : ℕ) (facings : List Facing) (told : AreFacings d l
   tagged : (h : Half) → half_edge h < m → tag_at facings owners h ≡ face h
   tagged = tag_is d level facings told owners are
 
-  between : (g h : Half) → GapBetween vs g h → face g ≡ face h
-  between (over a) (under b) (c, has, low, up) =
-      sym (tagged (over a) (within c a has (inl low)))
-      ∙ sym (ap (tag_over facings owners) low) ∙ paired c has ∙ ap (tag_under facings owners) up
-      ∙ tagged (under b) (within c b has (inr up))
-  between (over a) (over b) x = absurd x
-  between (under a) h x = absurd x
+  -- where both sides of each cell face one tube or none
+  module _ (paired : ArePaired facings owners (closed_gaps vs)) where
+    between : (g h : Half) → GapBetween vs g h → face g ≡ face h
+    between (over a) (under b) (c, has, low, up) =
+        sym (tagged (over a) (within c a has (inl low)))
+        ∙ sym (ap (tag_over facings owners) low) ∙ paired c has ∙ ap (tag_under facings owners) up
+        ∙ tagged (under b) (within c b has (inr up))
+    between (over a) (over b) x = absurd x
+    between (under a) h x = absurd x
 
-  at_border : (h : Half) → AtBorder vs h → face h ≡ 0
-  at_border (under e) (c, has, low, up) =
-      sym (tagged (under e) (within c e has (inr up))) ∙ sym (ap (tag_under facings owners) up) ∙ sym (paired c has) ∙ ap (tag_over facings owners) low
-  at_border (over e) (c, has, low, up) =
-      sym (tagged (over e) (within c e has (inl low))) ∙ sym (ap (tag_over facings owners) low) ∙ paired c has ∙ ap (tag_under facings owners) up
+    at_border : (h : Half) → AtBorder vs h → face h ≡ 0
+    at_border (under e) (c, has, low, up) =
+        sym (tagged (under e) (within c e has (inr up))) ∙ sym (ap (tag_under facings owners) up) ∙ sym (paired c has) ∙ ap (tag_over facings owners) low
+    at_border (over e) (c, has, low, up) =
+        sym (tagged (over e) (within c e has (inl low))) ∙ sym (ap (tag_over facings owners) low) ∙ paired c has ∙ ap (tag_under facings owners) up
 
-  pub cells_paired : AreCellsPaired d (drawn_bays d level) (replay (pos 0) m E (steps_from [] vs))
-  cells_paired = record {
-    across = λ g h x. by_gap g h (across_gap vs fit (run_leaves_none m E vs run) (pos 0) m E g h x);
-    border = λ h x. at_border h (touches_border vs fit (run_leaves_none m E vs run) (pos 0) m E h x);
-  }
-    where
-      by_gap : (g h : Half) → (g ≡ h) ⊎ (GapBetween vs g h ⊎ GapBetween vs h g) → face g ≡ face h
-      by_gap g h (inl e) = ap face e
-      by_gap g h (inr (inl b)) = between g h b
-      by_gap g h (inr (inr b)) = sym (between h g b)
+    pub cells_paired : AreCellsPaired d (drawn_bays d level) (replay (pos 0) m E (steps_from [] vs))
+    cells_paired = record {
+      across = λ g h x. by_gap g h (across_gap vs fit (run_leaves_none m E vs run) (pos 0) m E g h x);
+      border = λ h x. at_border h (touches_border vs fit (run_leaves_none m E vs run) (pos 0) m E h x);
+    }
+      where
+        by_gap : (g h : Half) → (g ≡ h) ⊎ (GapBetween vs g h ⊎ GapBetween vs h g) → face g ≡ face h
+        by_gap g h (inl e) = ap face e
+        by_gap g h (inr (inl b)) = between g h b
+        by_gap g h (inr (inr b)) = sym (between h g b)
+
+  -- and they do, where the cells of the replay pair
+  module _ (pairs : AreCellsPaired d (drawn_bays d level) (replay (pos 0) m E (steps_from [] vs))) where
+    no_tube : (h : Half) → AtBorder vs h → face h ≡ 0
+    no_tube h c = pairs.border h (border_touches vs fit (run_leaves_none m E vs run) (pos 0) m E h c)
+
+    one_tube : (g h : Half) → GapBetween vs g h → face g ≡ face h
+    one_tube g h c = pairs.across g h (gap_across vs fit (run_leaves_none m E vs run) (pos 0) m E g h c)
+
+    by_sides : (g : Gap) (l u : Option ℕ) → Has g (closed_gaps vs) → g.lower ≡ l → g.upper ≡ u → tag_over facings owners l ≡ tag_under facings owners u
+    by_sides g None None has low up = refl
+    by_sides g None (Some e) has low up = sym (tagged (under e) (within g e has (inr up)) ∙ no_tube (under e) (g, has, low, up))
+    by_sides g (Some e) None has low up = tagged (over e) (within g e has (inl low)) ∙ no_tube (over e) (g, has, low, up)
+    by_sides g (Some a) (Some b) has low up = tagged (over a) (within g a has (inl low)) ∙ one_tube (over a) (under b) (g, has, low, up) ∙ sym (tagged (under b) (within g b has (inr up)))
+
+    pub gaps_paired : ArePaired facings owners (closed_gaps vs)
+    gaps_paired g has = by_sides g g.lower g.upper has refl refl
 
 -- ---- one level
 -- The tubes are wide, the run is one with tubes, and a settled run settles the level: as the law of settled levels says.
 module _ (d : Plan) (level : ℕ) (list : EdgeList) (t : IsTubedList d level list) (facings : List Facing) (told : AreFacings d level facings) (vs : List Move) (fit : Fit [] vs)
     (wide : AreWide d (drawn_bays d level)) (tubed : runs.IsTubedRun d (drawn_bays d level) (length list.edges.items) (edge_of list.edges.items) (steps_from [] vs))
-    (level_settled : IsSettledDrawing d (drawn_bays d level) (length (edges_at d level)) (edge_at d level) (steps_from [] vs) → IsSettledAt d level) (paired : ArePaired facings list.owners.items (closed_gaps vs)) (low : level ≤ 5) (none : (l : ℕ) → l < level → IsSettledAt d l → ⊥) where
+    (level_settled : IsSettledDrawing d (drawn_bays d level) (length (edges_at d level)) (edge_at d level) (steps_from [] vs) → IsSettledAt d level) (paired : ArePaired facings list.owners.items (closed_gaps vs)) (low : level ≤ 5) where
   own_tubes : runs.IsTubedRun d (drawn_bays d level) (length (edges_at d level)) (edge_at d level) (steps_from [] vs)
   own_tubes = subst (λ (es : List Edge). runs.IsTubedRun d (drawn_bays d level) (length es) (edge_of es) (steps_from [] vs)) t.edges tubed
 
@@ -109,12 +127,16 @@ module _ (d : Plan) (level : ℕ) (list : EdgeList) (t : IsTubedList d level lis
     fit = fit;
   }
 
-  pub is_least : IsLeastLevel d level
-  is_least = record {
-    low = low;
-    settled = level_settled settled;
-    least = none;
-  }
+  pub is_settled : IsSettledAt d level
+  is_settled = level_settled settled
+
+-- A level that settles the drawing pairs the cells of its run.
+pub settled_pairs : (d : Plan) (level : ℕ) (list : EdgeList) → IsTubedList d level list → (facings : List Facing) → AreFacings d level facings → (vs : List Move) → Fit [] vs
+    → IsSettledDrawing d (drawn_bays d level) (length list.edges.items) (edge_of list.edges.items) (steps_from [] vs)
+    → ((m : ℕ) (E : ℕ → Edge) → IsSettledDrawing d (drawn_bays d level) m E (steps_from [] vs) → AreCellsPaired d (drawn_bays d level) (replay (pos 0) m E (steps_from [] vs))) → ArePaired facings list.owners.items (closed_gaps vs)
+settled_pairs d level list t facings told vs fit settled law =
+    let s : IsSettledDrawing d (drawn_bays d level) (length (edges_at d level)) (edge_at d level) (steps_from [] vs) = subst (λ (es : List Edge). IsSettledDrawing d (drawn_bays d level) (length es) (edge_of es) (steps_from [] vs)) t.edges settled in
+    gaps_paired d level facings told list.owners.items t.owners vs fit s.run.run (law (length (edges_at d level)) (edge_at d level) s)
 
 -- ---- the owners of edges have curves of the drawing
 pub curves_below : (d : Plan) (level : ℕ) (list : EdgeList) (facings : List Facing) → AreFacings d level facings → IsTubedList d level list → length d.curves < 2 ^ 30
@@ -151,3 +173,10 @@ paired_level facings other owners named cells told vs f o c g h =
     subst (λ (fs : List Facing). ArePaired fs named (closed_gaps vs)) f
     (subst (λ (os : List Owner). ArePaired facings os (closed_gaps vs)) o
     (subst (ArePaired facings owners) (ap gaps_of c ∙ g) h))
+
+pub paired_lent : (facings other : List Facing) (owners named : List Owner) (cells told : List Cell) (vs : List Move)
+    → facings ≡ other → owners ≡ named → cells ≡ told → gaps_of told ≡ closed_gaps vs → ArePaired other named (closed_gaps vs) → ArePaired facings owners (gaps_of cells)
+paired_lent facings other owners named cells told vs f o c g h =
+    subst (λ (fs : List Facing). ArePaired fs owners (gaps_of cells)) (sym f)
+    (subst (λ (os : List Owner). ArePaired other os (gaps_of cells)) (sym o)
+    (subst (ArePaired other named) (sym (ap gaps_of c ∙ g)) h))

@@ -1,4 +1,4 @@
--- The least level that settles a drawing, and its edges there as a case.
+-- Levels that settle a drawing, and the curves of their edges.
 use Rattle.std.proofs.Common.{◌≡◌, ◌⊎◌, inl, inr, ℕ, ◌*◌, ◌<◌, ◌≤◌, ◌^◌, Some, List, length, arith, refl, ap, ◌∙◌, subst}
 use Rattle.plane.specs.Forms.Meets.{Bad, Disjoint, Touch}
 use Rattle.plane.specs.Rule.BadPairs.{IsBadPair}
@@ -9,17 +9,15 @@ use Rattle.plane.specs.declared.kinds.CurveKind.TheVariants as kind
 use Rattle.plane.specs.declared.kinds.Edge.{Edge}
 use Rattle.meetings.specs.CurvePairs.{AreBothStraight, IsArcPair}
 use Rattle.line_sweep.specs.Kinds.{AreBad}
-use Rattle.level_breaks.specs.declared.pairs.LevelBreak.{LevelBreak}
-use Rattle.tubes.specs.Settled.{Breaks, IsFirstBreak, IsSettledAt, edge_at, edges_at, owned_at}
+use Rattle.level_breaks.specs.LevelLists.{HasNoBadStraights}
+use Rattle.tubes.specs.Settled.{IsSettledAt, edge_at, edges_at, owned_at}
 use Rattle.tubes.specs.TubedEdges.{owner_as}
 use Rattle.tubes.specs.declared.kinds.EdgeList.{EdgeList}
 use Rattle.tubes.specs.declared.kinds.Owner.{Owner}
-use Rattle.area_search.specs.Answers.{AreClear, IsAnswer, IsLeastLevel, SettlesNoneBelow, undecided}
+use Rattle.area_search.specs.Answers.{IsUnsettled, SettlesNoneBelow}
 use Rattle.area_search.specs.CaseRoots.{owner_at}
 use Rattle.area_search.specs.LevelAnswers.{AreOfCurves, AreOfDrawing}
 use Rattle.area_search.specs.declared.bad_edges.CurvePair.{CurvePair}
-use Rattle.area_search.specs.declared.kinds.AreaAnswer.TheVariants.{Undecided}
-use Rattle.area_search.proofs.Small.{by_lt}
 
 -- ---- pairs of straights, and pairs with a half arc
 by_kind : {P : Type 0} (c : Curve) → (c.kind ≡ kind.Straight → P) → (c.kind ≡ kind.HalfArc → P) → P
@@ -37,21 +35,22 @@ none_of_both d f g i j p =
     (λ (t : (curve d j).kind ≡ kind.HalfArc). g i j (record { pair = p; half_arc = inr t })))
     (λ (s : (curve d i).kind ≡ kind.HalfArc). g i j (record { pair = p; half_arc = inl s }))
 
--- ---- levels
-pub least_level : (d : Plan) (level : ℕ) → level ≤ 5 → SettlesNoneBelow d level → IsSettledAt d level → IsLeastLevel d level
-least_level d level low none s = record { low = low; settled = s; least = none }
+pub straights_clear : (d : Plan) → ((i j : ℕ) → AreBothStraight (curve d i) (curve d j) → IsBadPair d i j → ⊥) → HasNoBadStraights d
+straights_clear d f i j si sj l b = f i j (si.kind, sj.kind) (record { order = l; there = sj.there; bad = b })
 
-pub none_settles : (d : Plan) (k : ℕ) (p : LevelBreak) → 5 ≤ k → SettlesNoneBelow d k → ((i j : ℕ) → IsSettledAt d 5 → Breaks d 5 i j → ⊥) → IsFirstBreak d 5 p.first p.second → AreClear d → IsAnswer d (Undecided p.first p.second)
-none_settles d k p m none unbroken first clear = undecided p.first p.second clear (λ l g s. by_lt l 5 (λ (h : l < 5). none l (omega (arith, h, m)) s) (λ (h : 5 ≤ l). unbroken p.first p.second (subst (IsSettledAt d) (five l g h) s) first.breaks)) first
+pub none_of_all : (d : Plan) → HasNoBadStraights d → ((i j : ℕ) → IsArcPair d i j → ⊥) → (i j : ℕ) → IsBadPair d i j → ⊥
+none_of_all d f g = none_of_both d both g
   where
-    five : (l : ℕ) → l ≤ 5 → 5 ≤ l → l ≡ 5
-    five l g h = omega (arith, g, h)
+    both : (i j : ℕ) → AreBothStraight (curve d i) (curve d j) → IsBadPair d i j → ⊥
+    both i j s p = f i j (record { there = (let o = p.order in let t = p.there in omega (arith, o, t)); kind = s.0 }) (record { there = p.there; kind = s.1 }) p.order p.bad
+
+-- ---- levels
+-- six levels that do not settle
+pub six_unsettled : (d : Plan) (k : ℕ) → 6 ≤ k → SettlesNoneBelow d k → IsUnsettled d
+six_unsettled d k m none l low s = none l (omega (arith, low, m)) s
 
 -- ---- the edges at a level that settles
 module _ (d : Plan) (level : ℕ) (list : EdgeList) (edges_are : list.edges.items ≡ edges_at d level) where
-  pub few_edges : (length (edges_at d level) ≤ (129 * length d.curves)) → length d.curves ≤ 16000000 → length list.edges.items < 2 ^ 31
-  few_edges a b = let e = ap length edges_are in omega (arith, a, b, e)
-
   pub never_bad : IsSettledAt d level → ((a b : Edge) → Bad a b → Disjoint a b → ⊥) → ((a b : Edge) → Bad a b → Touch a b → ⊥) → (edges : List Edge) → edges ≡ list.edges.items → (e f : ℕ) → AreBad edges e f → ⊥
   never_bad s apart touch edges same e f h = by (subst (λ es. AreBad es e f) (same ∙ edges_are) h)
     where

@@ -25,6 +25,7 @@ pub mod CaseCalls
 pub mod NamedNotes
 pub mod CellSideLemmas
 pub mod OwnCornerLemmas
-pub mod ArcNumbers
+pub mod MarkedNumbers
 pub mod PointsOnCurves
 pub mod LevelSearch
+pub mod SetAsideCurves

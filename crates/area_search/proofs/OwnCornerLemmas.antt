@@ -1,5 +1,5 @@
 -- A corner of a tube at which two edges of the tube end, and no third edge, is no other curve's.
-use Rattle.std.proofs.Common.{◌≡◌, ◌⊎◌, inl, inr, ℕ, zero, suc, ◌+◌, ◌<◌, Bool, ◌&&◌, IsTrue, List, [], ◌∷◌, ◌++◌, length, length-append, get_or, refl, sym, ap, subst, ◌∙◌, arith}
+use Rattle.std.proofs.Common.{◌≡◌, ◌⊎◌, inl, inr, ℕ, zero, suc, ◌+◌, ◌<◌, Bool, true, false, ◌&&◌, IsTrue, Option, None, Some, is_some, List, [], ◌∷◌, ◌++◌, length, length-append, get_or, refl, sym, ap, subst, ◌∙◌, arith}
 use Rattle.std.proofs.lemmas.Bool.{and_parts}
 use Rattle.std.proofs.lemmas.Bool.Decides.{Decides-int_eq}
 use Rattle.std.specs.Ordering.{int_eq}
@@ -10,12 +10,13 @@ use Rattle.plane.specs.Lists.{Each, Has}
 use Rattle.plane.specs.Rule.BadPairs.{IsEndOf}
 use Rattle.plane.specs.Rule.Plans.{IsHalfArc, Plan, curve}
 use Rattle.plane.specs.Runs.Moves.{Move, no_move}
-use Rattle.plane.specs.Runs.Timetables.{IsTimed, Timed, moves_at}
+use Rattle.plane.specs.Runs.Timetables.{IsTimed, IsTimetable, Timed, moves_at}
 use Rattle.plane.specs.declared.kinds.Curve.{Curve}
 use Rattle.plane.specs.declared.kinds.Edge.{Edge}
 use Rattle.plane.specs.declared.kinds.Point.{Point}
+use Rattle.straight_predicates.specs.EdgeEvents.{AreEventsOf}
 use Rattle.straight_predicates.specs.EdgeLists.{edge_of}
-use Rattle.tubes.specs.Settled.{IsOwnCorner, owned_at}
+use Rattle.tubes.specs.Settled.{IsFirstForeign, IsOwnCorner, edge_at, edges_at, owned_at}
 use Rattle.tubes.specs.TubedEdges.{IsTubedList, owner_as, part_of}
 use Rattle.tubes.specs.declared.kinds.EdgeList.{EdgeList}
 use Rattle.tubes.specs.declared.kinds.Owner.{Owner}
@@ -176,3 +177,30 @@ module _ (d : Plan) (level : ℕ) (list : EdgeList) (t : IsTubedList d level lis
         by_own : IsOwnEnd d list vs e p → Own e f p
         by_own (inl q) = at_end (subst (λ (i : ℕ). IsEndOf (curve d i) p) (curve_is e le) q)
         by_own (inr ((o, n), two)) = one_of o n (only_two p e o f two le n.there lf there_e n.ends there_f n.differ)
+
+-- ---- the events of all ends
+-- what the search of these says, by the lists as they are lent
+pub found_is : (d : Plan) (level : ℕ) (list : EdgeList) (table : List Timed) (es fs : List Edge) (low high lows highs : List ℕ) (events : ℕ) (found : Option ℕ) → IsTubedList d level list
+    → ((level : ℕ) (table : List Timed) → IsTubedList d level list → IsTimetable (length list.edges.items) (edge_of list.edges.items) table → AreEventsOf list.edges.items table lows highs → length table ≡ events → IsFirstForeign d level table found)
+    → es ≡ list.edges.items → IsTimetable (length es) (edge_of es) table → fs ≡ list.edges.items → AreEventsOf fs table low high → lows ≡ low → highs ≡ high → events ≡ length table → IsFirstForeign d level table found
+found_is d level list table es fs low high lows highs events found l f e t g a p q n =
+    f level table l (subst (λ es. IsTimetable (length es) (edge_of es) table) e t)
+    (subst (λ ls. AreEventsOf list.edges.items table ls highs) (sym p) (subst (λ hs. AreEventsOf list.edges.items table low hs) (sym q) (subst (λ es. AreEventsOf es table low high) g a))) (sym n)
+
+pub table_at : (d : Plan) (level : ℕ) (list : EdgeList) (table : List Timed) (es : List Edge) → IsTubedList d level list → es ≡ list.edges.items → IsTimetable (length es) (edge_of es) table → IsTimetable (length (edges_at d level)) (edge_at d level) table
+table_at d level list table es l e t = subst (λ es. IsTimetable (length es) (edge_of es) table) (e ∙ l.edges) t
+
+-- no corner is found, or one is
+pub none_found : {P : Type 0} (d : Plan) (level : ℕ) (table : List Timed) (found : Option ℕ) (b : Bool) → IsFirstForeign d level table found → b ≡ is_some found → b ≡ false → (IsFirstForeign d level table None → P) → P
+none_found d level table None b h q e f = f h
+none_found d level table (Some k) b h q e f = clash (sym q ∙ e)
+  where
+    clash : {P : Type 0} → true ≡ false → P
+    clash e = cc
+
+pub one_found : {P : Type 0} (d : Plan) (level : ℕ) (table : List Timed) (found : Option ℕ) (b : Bool) → IsFirstForeign d level table found → b ≡ is_some found → IsTrue b → ((k : ℕ) → IsFirstForeign d level table (Some k) → P) → P
+one_found d level table None b h q t f = clash (subst IsTrue q t)
+  where
+    clash : {P : Type 0} → IsTrue false → P
+    clash e = cc
+one_found d level table (Some k) b h q t f = f k h

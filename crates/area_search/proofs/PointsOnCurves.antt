@@ -1,5 +1,5 @@
--- The least point on a straight, on a half arc, and on a curve of any kind.
-use Rattle.std.proofs.Common.{◌≡◌, ◌⊎◌, inl, inr, ℕ, ◌+◌, ◌-◌, ◌<◌, ◌≤◌, Bool, Option, Some, None, List, [], length, get_or, map, pos, slice_index, slice_index_or, arith, refl, ap, sym, ◌∙◌, subst, All}
+-- The least point on a straight, on a marked curve, and on a curve of any kind.
+use Rattle.std.proofs.Common.{◌≡◌, ◌⊎◌, inl, inr, ℕ, ◌+◌, ◌-◌, ◌<◌, ◌≤◌, Bool, true, false, Option, Some, None, List, [], length, get_or, map, pos, slice_index, slice_index_or, arith, refl, ap, sym, ◌∙◌, subst, All}
 use Rattle.std.proofs.lemmas.Int.{ints}
 use Rattle.std.proofs.lemmas.List.{length-map}
 use Rattle.plane.specs.Forms.Boxes.{Box, HoldsCurve, InBox}
@@ -22,7 +22,7 @@ use Rattle.point_location.specs.declared.places.Place.{Place}
 use Rattle.point_location.specs.declared.places.Place.TheVariants as place
 use Rattle.straight_predicates.proofs.WindowEdges.{inside_close}
 use Rattle.straight_predicates.specs.EdgeLists.{IsCloseToAll, edge_of, no_point}
-use Rattle.near_pairs.specs.Boxes.{AreNear, box_of, reach_of}
+use Rattle.near_pairs.specs.Boxes.{AreNear, box_of, mark_of, reach_of}
 use Rattle.near_pairs.specs.LeastPairs.{IsLeastPair, IsLess}
 use Rattle.near_pairs.specs.declared.pairs.NearPair.{NearPair}
 use Rattle.near_pairs.specs.declared.reaches.Reach.{Reach}
@@ -30,7 +30,7 @@ use Rattle.meetings.specs.CurvePairs.{IsJudgedOn}
 use Rattle.meetings.specs.PlacedCurves.{IsPlacedWith}
 use Rattle.meetings.specs.StraightEdges.{AreStraightsTo}
 use Rattle.meetings.proofs.StraightLists.{all_close, inside}
-use Rattle.area_search.specs.CurvePoints.{AreArcBoxes, AreArcsTo, AreMarkedFrom, IsFirstOn, IsFirstOnCurve, IsInCell, IsLeastOf, IsLesserOn, IsNotAfter, IsPointOnArc, LiesOnArc, LiesOnStraight}
+use Rattle.area_search.specs.CurvePoints.{AreCurveBoxes, AreMarkedFrom, AreMarkedTo, IsFirstOn, IsFirstOnCurve, IsInCell, IsLeastOf, IsLesserOn, IsNotAfter, IsPointOnCurve, LiesOnMarked, LiesOnStraight}
 use Rattle.area_search.specs.Faults.{LiesOn}
 use Rattle.area_search.specs.declared.points.OnCurve.{OnCurve}
 use Rattle.area_search.proofs.PlaneLaws.{located_off, on_edge_is}
@@ -129,26 +129,26 @@ module _ (d : Plan) (edges : List Edge) (numbers : List ℕ) (vs : List Move) (s
             (subst (IsInside w.low w.high) (sym (ap (λ ps. slice_index_or ps j no_point) p ∙ nth_point d.points j no_placed lj)) (placed j no_placed lj));
       }
 
--- ---- points on half arcs
-module _ (d : Plan) (arcs : List ℕ) (a : AreArcsTo d.curves (length d.curves) arcs) where
+-- ---- points on marked curves
+module _ (d : Plan) (aside : List Bool) (numbers : List ℕ) (a : AreMarkedTo aside true (length d.curves) numbers) where
   abbrev P : ℕ
   P = length d.points
 
-  abbrev arc_no : ℕ → ℕ
-  arc_no m = slice_index arcs m
+  abbrev number_at : ℕ → ℕ
+  number_at m = slice_index numbers m
 
-  pub placed_with : (i m : ℕ) → i < P → m < length arcs → All (λ (c : Curve). IsDrawn d.window.low d.window.high c) d.curves → All (λ (x : Placed). IsInside d.window.low d.window.high x.at) d.points → IsPlacedWith (curve d (arc_no m)) (object d i)
-  placed_with i m l k drawn placed = record { low = d.window.low; high = d.window.high; narrow = d.window.narrow; drawn = drawn (arc_no m) _ (a.known m k); inside = placed i _ l }
+  pub placed_with : (i m : ℕ) → i < P → m < length numbers → All (λ (c : Curve). IsDrawn d.window.low d.window.high c) d.curves → All (λ (x : Placed). IsInside d.window.low d.window.high x.at) d.points → IsPlacedWith (curve d (number_at m)) (object d i)
+  placed_with i m l k drawn placed = record { low = d.window.low; high = d.window.high; narrow = d.window.narrow; drawn = drawn (number_at m) _ (a.known m k); inside = placed i _ l }
 
-  lies_on : (i j : ℕ) → IsPointOnArc d arcs i j → LiesOnArc d i (arc_no (j - P))
+  lies_on : (i j : ℕ) → IsPointOnCurve d numbers i j → LiesOnMarked d aside true i (number_at (j - P))
   lies_on i j h = record {
     on = record { point_there = h.point_there; curve_there = a.known (j - P) h.within; on = h.judged.on; has_side = h.judged.side };
-    half_arc = a.half_arc (j - P) h.within;
+    mark_is = a.mark_is (j - P) h.within;
   }
 
-  numbered : (j i : ℕ) → LiesOnArc d j i → (m : ℕ) × (m < length arcs) × (arc_no m ≡ i) × IsPointOnArc d arcs j (P + m)
+  numbered : (j i : ℕ) → LiesOnMarked d aside true j i → (m : ℕ) × (m < length numbers) × (number_at m ≡ i) × IsPointOnCurve d numbers j (P + m)
   numbered j i h =
-      let (m, lm, em) = a.whole i h.on.curve_there h.half_arc in
+      let (m, lm, em) = a.whole i h.on.curve_there h.mark_is in
       let e : (P + m) - P ≡ m = omega arith in (
         m,
         lm,
@@ -156,14 +156,14 @@ module _ (d : Plan) (arcs : List ℕ) (a : AreArcsTo d.curves (length d.curves) 
         record {
           point_there = h.on.point_there;
           after = omega arith;
-          within = subst (λ (n : ℕ). n < length arcs) (sym e) lm;
-          judged = subst (λ (n : ℕ). IsJudgedOn (curve d (arc_no n)) (object d j)) (sym e) (subst (λ (n : ℕ). IsJudgedOn (curve d n) (object d j)) (sym em) (record { on = h.on.on; side = h.on.has_side }));
+          within = subst (λ (n : ℕ). n < length numbers) (sym e) lm;
+          judged = subst (λ (n : ℕ). IsJudgedOn (curve d (number_at n)) (object d j)) (sym e) (subst (λ (n : ℕ). IsJudgedOn (curve d n) (object d j)) (sym em) (record { on = h.on.on; side = h.on.has_side }));
         },
       )
 
-  module _ (boxes : List Reach) (marks : List Bool) (b : AreArcBoxes d arcs (length arcs) boxes) (count : ℕ) (n : count ≡ P + length arcs) (k : AreMarkedFrom P count marks)
+  module _ (boxes : List Reach) (marks : List Bool) (b : AreCurveBoxes d numbers (length numbers) boxes) (count : ℕ) (n : count ≡ P + length numbers) (k : AreMarkedFrom P count marks)
       (law : (c : Curve) (x : Box) (z : Vector) → HoldsCurve x c → IsPlace z → (c.kind ≡ kind.HalfArc → HasSide (arc c) z) → IsOn c z → InBox x z) where
-    pub on_is_near : (i j : ℕ) → IsPointOnArc d arcs i j → AreNear boxes marks i j
+    pub on_is_near : (i j : ℕ) → IsPointOnCurve d numbers i j → AreNear boxes marks i j
     on_is_near i j h =
         let f = h.after in
         let g = h.within in
@@ -174,27 +174,27 @@ module _ (d : Plan) (arcs : List ℕ) (a : AreArcsTo d.curves (length d.curves) 
             a_place (object d i),
             b.points i h.point_there,
             subst (λ (m : ℕ). InBox (box_of (reach_of boxes m)) (point (object d i))) e
-                (law (curve d (arc_no (j - P))) (box_of (reach_of boxes (P + (j - P)))) (point (object d i)) (b.holds (j - P) g) (a_place (object d i)) h.judged.side h.judged.on),
+                (law (curve d (number_at (j - P))) (box_of (reach_of boxes (P + (j - P)))) (point (object d i)) (b.holds (j - P) g) (a_place (object d i)) h.judged.side h.judged.on),
           );
         }
 
   -- what was found
-  pub pair_within : (n : ℕ) (p : NearPair) → IsLeastPair (IsPointOnArc d arcs) n p → ((p.second - P) < length arcs) × (P ≤ p.second)
+  pub pair_within : (n : ℕ) (p : NearPair) → IsLeastPair (IsPointOnCurve d numbers) n p → ((p.second - P) < length numbers) × (P ≤ p.second)
   pair_within n p h = (h.pair.sought.within, h.pair.sought.after)
 
-  pub least_arc : (n : ℕ) (p : NearPair) (r : OnCurve) → n ≡ P + length arcs → IsLeastPair (IsPointOnArc d arcs) n p → r.point ≡ p.first → r.curve ≡ arc_no (p.second - P) → IsLeastOf (LiesOnArc d) (Some r)
-  least_arc n p r size h ep ec = (
-    subst (λ (k : ℕ). LiesOnArc d k r.curve) (sym ep) (subst (λ (k : ℕ). LiesOnArc d p.first k) (sym ec) (lies_on p.first p.second h.pair.sought)),
-    (λ j i o less. not_less j i o (subst (λ (k : ℕ). IsLess j i k (arc_no (p.second - P))) ep (subst (λ (k : ℕ). IsLess j i r.point k) ec less))),
+  pub least_marked : (n : ℕ) (p : NearPair) (r : OnCurve) → n ≡ P + length numbers → IsLeastPair (IsPointOnCurve d numbers) n p → r.point ≡ p.first → r.curve ≡ number_at (p.second - P) → IsLeastOf (LiesOnMarked d aside true) (Some r)
+  least_marked n p r size h ep ec = (
+    subst (λ (k : ℕ). LiesOnMarked d aside true k r.curve) (sym ep) (subst (λ (k : ℕ). LiesOnMarked d aside true p.first k) (sym ec) (lies_on p.first p.second h.pair.sought)),
+    (λ j i o less. not_less j i o (subst (λ (k : ℕ). IsLess j i k (number_at (p.second - P))) ep (subst (λ (k : ℕ). IsLess j i r.point k) ec less))),
   )
     where
-      not_less : (j i : ℕ) → LiesOnArc d j i → IsLess j i p.first (arc_no (p.second - P)) → ⊥
+      not_less : (j i : ℕ) → LiesOnMarked d aside true j i → IsLess j i p.first (number_at (p.second - P)) → ⊥
       not_less j i o less =
           let (m, lm, em, on) = numbered j i o in
           let lj = o.on.point_there in
           h.least j (P + m) (omega (arith, lj)) (omega (arith, lm, size)) on (by m lm em less)
         where
-          by : (m : ℕ) → m < length arcs → arc_no m ≡ i → IsLess j i p.first (arc_no (p.second - P)) → IsLess j (P + m) p.first p.second
+          by : (m : ℕ) → m < length numbers → number_at m ≡ i → IsLess j i p.first (number_at (p.second - P)) → IsLess j (P + m) p.first p.second
           by m lm em (inl l) = inl l
           by m lm em (inr (e, l)) = inr (
             e,
@@ -202,22 +202,22 @@ module _ (d : Plan) (arcs : List ℕ) (a : AreArcsTo d.curves (length d.curves) 
                 (λ (g : m < p.second - P). let f = h.pair.sought.after in omega (arith, g, f))
                 (λ (g : p.second - P ≤ m). absurd (by_lt (p.second - P) m
                 (λ (k : p.second - P < m). let w = a.rising (p.second - P) m k lm in omega (arith, w, em, l))
-                (λ (k : m ≤ p.second - P). let w = ap arc_no (both m (p.second - P) g k) in omega (arith, w, em, l)))),
+                (λ (k : m ≤ p.second - P). let w = ap number_at (both m (p.second - P) g k) in omega (arith, w, em, l)))),
           )
             where
               both : (m n : ℕ) → n ≤ m → m ≤ n → m ≡ n
               both m n g k = omega (arith, g, k)
 
-  pub no_arc : (n : ℕ) → n ≡ P + length arcs → ((i j : ℕ) → i < j → j < n → IsPointOnArc d arcs i j → ⊥) → IsLeastOf (LiesOnArc d) None
-  no_arc n size none j i o = let (m, lm, em, on) = numbered j i o in let lj = o.on.point_there in none j (P + m) (omega (arith, lj)) (omega (arith, lm, size)) on
+  pub no_marked : (n : ℕ) → n ≡ P + length numbers → ((i j : ℕ) → i < j → j < n → IsPointOnCurve d numbers i j → ⊥) → IsLeastOf (LiesOnMarked d aside true) None
+  no_marked n size none j i o = let (m, lm, em, on) = numbered j i o in let lj = o.on.point_there in none j (P + m) (omega (arith, lj)) (omega (arith, lm, size)) on
 
--- ---- points on curves of any kind
-by_kind : (d : Plan) (j i : ℕ) → LiesOn d j i → LiesOnStraight d j i ⊎ LiesOnArc d j i
-by_kind d j i h = by (curve d i).kind refl
+-- ---- points on curves with any mark
+by_mark : (d : Plan) (aside : List Bool) (j i : ℕ) → LiesOn d j i → LiesOnMarked d aside false j i ⊎ LiesOnMarked d aside true j i
+by_mark d aside j i h = by (mark_of aside i) refl
   where
-    by : (k : CurveKind) → (curve d i).kind ≡ k → LiesOnStraight d j i ⊎ LiesOnArc d j i
-    by kind.Straight e = inl (record { on = h; straight = e })
-    by kind.HalfArc e = inr (record { on = h; half_arc = e })
+    by : (b : Bool) → mark_of aside i ≡ b → LiesOnMarked d aside false j i ⊎ LiesOnMarked d aside true j i
+    by false e = inl (record { on = h; mark_is = e })
+    by true e = inr (record { on = h; mark_is = e })
 
 -- what is less than one that is not after another is less than that
 less_through : (j i : ℕ) (q p : OnCurve) → (IsLess p.point p.curve q.point q.curve → ⊥) → IsLess j i q.point q.curve → IsLess j i p.point p.curve
@@ -233,48 +233,48 @@ none_of : (R : ℕ → ℕ → Type 0) (a : Option OnCurve) → IsLeastOf R a �
 none_of R None f n j i h = f j i h
 none_of R (Some p) f n j i h = n
 
-pub lesser_is_first : (d : Plan) (a b r : Option OnCurve) → IsLesserOn a b r → IsLeastOf (LiesOnStraight d) a → IsLeastOf (LiesOnArc d) b → IsFirstOnCurve d r
-lesser_is_first d a b None h f g = λ j i o. elim (by_kind d j i o) [ inl s ↦ none_of (LiesOnStraight d) a f h.not_first j i s | inr s ↦ none_of (LiesOnArc d) b g h.not_second j i s ]
-lesser_is_first d a b (Some r) h f g = record {
+pub lesser_is_first : (d : Plan) (aside : List Bool) (a b r : Option OnCurve) → IsLesserOn a b r → IsLeastOf (LiesOnMarked d aside false) a → IsLeastOf (LiesOnMarked d aside true) b → IsFirstOnCurve d r
+lesser_is_first d aside a b None h f g = λ j i o. elim (by_mark d aside j i o) [ inl s ↦ none_of (LiesOnMarked d aside false) a f h.not_first j i s | inr s ↦ none_of (LiesOnMarked d aside true) b g h.not_second j i s ]
+lesser_is_first d aside a b (Some r) h f g = record {
   on = lies h.is;
   no_point = λ k l m o. no_less k l o (inl m);
   no_curve = λ l m o. no_less r.point l o (inr (refl, m));
 }
   where
     no_less : (k l : ℕ) → LiesOn d k l → IsLess k l r.point r.curve → ⊥
-    no_less k l o less = elim (by_kind d k l o) [ inl s ↦ not_less (LiesOnStraight d) a r f h.not_first k l s less | inr s ↦ not_less (LiesOnArc d) b r g h.not_second k l s less ]
+    no_less k l o less = elim (by_mark d aside k l o) [ inl s ↦ not_less (LiesOnMarked d aside false) a r f h.not_first k l s less | inr s ↦ not_less (LiesOnMarked d aside true) b r g h.not_second k l s less ]
 
     lies : (Some r ≡ a) ⊎ (Some r ≡ b) → LiesOn d r.point r.curve
-    lies (inl e) = (subst (IsLeastOf (LiesOnStraight d)) (sym e) f).0.on
-    lies (inr e) = (subst (IsLeastOf (LiesOnArc d)) (sym e) g).0.on
+    lies (inl e) = (subst (IsLeastOf (LiesOnMarked d aside false)) (sym e) f).0.on
+    lies (inr e) = (subst (IsLeastOf (LiesOnMarked d aside true)) (sym e) g).0.on
 
--- ---- the lists of half arcs as they are lent
-module _ (d : Plan) (curves : List Curve) (points : List Placed) (arcs lent lent_too : List ℕ) (boxes boxes_lent boxes_seen : List Reach) (marks marks_lent : List Bool)
-    (ec : curves ≡ d.curves) (ep : points ≡ d.points) (ea : lent ≡ arcs) (eb : lent_too ≡ arcs) (fb : boxes_lent ≡ boxes) (gb : boxes_seen ≡ boxes) (em : marks_lent ≡ marks)
-    (a : AreArcsTo curves (length curves) arcs) (b : AreArcBoxes d lent (length lent) boxes) (k : AreMarkedFrom (length points) (length boxes_seen) marks) where
-  pub lent_arcs : AreArcsTo d.curves (length d.curves) arcs
-  lent_arcs = subst (λ cs. AreArcsTo cs (length cs) arcs) ec a
+-- ---- the lists of marked curves as they are lent
+module _ (d : Plan) (aside : List Bool) (points : List Placed) (numbers lent lent_too : List ℕ) (boxes boxes_lent boxes_seen : List Reach) (marks marks_lent : List Bool)
+    (ec : length aside ≡ length d.curves) (ep : points ≡ d.points) (ea : lent ≡ numbers) (eb : lent_too ≡ numbers) (fb : boxes_lent ≡ boxes) (gb : boxes_seen ≡ boxes) (em : marks_lent ≡ marks)
+    (a : AreMarkedTo aside true (length aside) numbers) (b : AreCurveBoxes d lent (length lent) boxes) (k : AreMarkedFrom (length points) (length boxes_seen) marks) where
+  pub lent_numbers : AreMarkedTo aside true (length d.curves) numbers
+  lent_numbers = subst (λ (n : ℕ). AreMarkedTo aside true n numbers) ec a
 
-  pub lent_boxes : AreArcBoxes d arcs (length arcs) boxes_lent
-  lent_boxes = subst (λ bs. AreArcBoxes d arcs (length arcs) bs) (sym fb) (subst (λ xs. AreArcBoxes d xs (length xs) boxes) ea b)
+  pub lent_boxes : AreCurveBoxes d numbers (length numbers) boxes_lent
+  lent_boxes = subst (λ bs. AreCurveBoxes d numbers (length numbers) bs) (sym fb) (subst (λ xs. AreCurveBoxes d xs (length xs) boxes) ea b)
 
   lent_marks : AreMarkedFrom (length d.points) (length boxes_seen) marks_lent
   lent_marks = subst (λ ms. AreMarkedFrom (length d.points) (length boxes_seen) ms) (sym em) (subst (λ ps. AreMarkedFrom (length ps) (length boxes_seen) marks) ep k)
 
-  pub lent_count : length boxes_lent ≡ length d.points + length arcs
+  pub lent_count : length boxes_lent ≡ length d.points + length numbers
   lent_count = lent_boxes.size
 
-  seen_count : length boxes_seen ≡ length d.points + length arcs
+  seen_count : length boxes_seen ≡ length d.points + length numbers
   seen_count = ap length (gb ∙ sym fb) ∙ lent_count
 
-  pub lent_near : ((c : Curve) (x : Box) (z : Vector) → HoldsCurve x c → IsPlace z → (c.kind ≡ kind.HalfArc → HasSide (arc c) z) → IsOn c z → InBox x z) → (i j : ℕ) → IsPointOnArc d lent_too i j → AreNear boxes_lent marks_lent i j
-  lent_near law i j h = on_is_near d arcs lent_arcs boxes_lent marks_lent lent_boxes (length boxes_seen) seen_count lent_marks law i j (subst (λ xs. IsPointOnArc d xs i j) eb h)
+  pub lent_near : ((c : Curve) (x : Box) (z : Vector) → HoldsCurve x c → IsPlace z → (c.kind ≡ kind.HalfArc → HasSide (arc c) z) → IsOn c z → InBox x z) → (i j : ℕ) → IsPointOnCurve d lent_too i j → AreNear boxes_lent marks_lent i j
+  lent_near law i j h = on_is_near d aside numbers lent_numbers boxes_lent marks_lent lent_boxes (length boxes_seen) seen_count lent_marks law i j (subst (λ xs. IsPointOnCurve d xs i j) eb h)
 
-  pub lent_least : (p : NearPair) (r : OnCurve) → IsLeastPair (IsPointOnArc d lent_too) (length boxes_lent) p → r.point ≡ p.first → r.curve ≡ get_or arcs (p.second - length points) r.curve → IsLeastOf (LiesOnArc d) (Some r)
+  pub lent_least : (p : NearPair) (r : OnCurve) → IsLeastPair (IsPointOnCurve d lent_too) (length boxes_lent) p → r.point ≡ p.first → r.curve ≡ get_or numbers (p.second - length points) r.curve → IsLeastOf (LiesOnMarked d aside true) (Some r)
   lent_least p r h e f =
-      let g = subst (λ xs. IsLeastPair (IsPointOnArc d xs) (length boxes_lent) p) eb h in
-      let w = pair_within d arcs lent_arcs (length boxes_lent) p g in
-      least_arc d arcs lent_arcs (length boxes_lent) p r lent_count g e (f ∙ ap (λ ps. get_or arcs (p.second - length ps) r.curve) ep ∙ get_same arcs (p.second - length d.points) r.curve 0 w.0)
+      let g = subst (λ xs. IsLeastPair (IsPointOnCurve d xs) (length boxes_lent) p) eb h in
+      let w = pair_within d aside numbers lent_numbers (length boxes_lent) p g in
+      least_marked d aside numbers lent_numbers (length boxes_lent) p r lent_count g e (f ∙ ap (λ ps. get_or numbers (p.second - length ps) r.curve) ep ∙ get_same numbers (p.second - length d.points) r.curve 0 w.0)
 
-  pub lent_none : ((i j : ℕ) → i < j → j < length boxes_lent → IsPointOnArc d lent_too i j → ⊥) → IsLeastOf (LiesOnArc d) None
-  lent_none none = no_arc d arcs lent_arcs (length boxes_lent) lent_count (λ i j l m h. none i j l m (subst (λ xs. IsPointOnArc d xs i j) (sym eb) h))
+  pub lent_none : ((i j : ℕ) → i < j → j < length boxes_lent → IsPointOnCurve d lent_too i j → ⊥) → IsLeastOf (LiesOnMarked d aside true) None
+  lent_none none = no_marked d aside numbers lent_numbers (length boxes_lent) lent_count (λ i j l m h. none i j l m (subst (λ xs. IsPointOnCurve d xs i j) (sym eb) h))

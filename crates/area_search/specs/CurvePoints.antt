@@ -1,11 +1,10 @@
--- Objects' points on curves: the least of a kind, and the lists in which those on half arcs are
--- looked for.
+-- Objects' points on curves: the least of a kind, and the lists in which those on curves that are
+-- chosen by their marks are looked for.
 use Rattle.std.specs.Prelude.{◌≡◌, ◌⊎◌, ℕ, ◌+◌, ◌-◌, ◌<◌, ◌≤◌, Bool, true, Option, Some, None, List}
 use Rattle.std.specs.Prelude.{length, slice_index, slice_index_or, ⊤}
 use Rattle.plane.specs.Forms.Boxes.{HoldsCurve, InBox}
 use Rattle.plane.specs.Rule.Places.{point}
 use Rattle.plane.specs.Rule.Plans.{Plan, curve, object}
-use Rattle.plane.specs.declared.kinds.Curve.{Curve}
 use Rattle.plane.specs.declared.kinds.CurveKind.TheVariants as kind
 use Rattle.plane.specs.declared.kinds.Placed.{Placed}
 use Rattle.plane.specs.declared.kinds.Point.{Point}
@@ -18,7 +17,6 @@ use Rattle.near_pairs.specs.LeastPairs.{IsLess}
 use Rattle.near_pairs.specs.declared.reaches.Reach.{Reach}
 use Rattle.meetings.specs.CurvePairs.{IsJudgedOn}
 use Rattle.meetings.specs.StraightEdges.{IsRising}
-use Rattle.tubes.specs.DrawnEdges.{nth_curve}
 use Rattle.area_search.specs.Answers.{IsLeastOn}
 use Rattle.area_search.specs.Faults.{LiesOn}
 use Rattle.area_search.specs.declared.points.OnCurve.{OnCurve}
@@ -33,9 +31,10 @@ pub record LiesOnStraight (d : Plan) (j i : ℕ) : Type 0 where
   pub on : LiesOn d j i
   pub straight : (curve d i).kind ≡ kind.Straight
 
-pub record LiesOnArc (d : Plan) (j i : ℕ) : Type 0 where
+-- on a curve with this mark
+pub record LiesOnMarked (d : Plan) (marks : List Bool) (mark : Bool) (j i : ℕ) : Type 0 where
   pub on : LiesOn d j i
-  pub half_arc : (curve d i).kind ≡ kind.HalfArc
+  pub mark_is : mark_of marks i ≡ mark
 
 -- The least of the pairs, by the point, then by the curve; there are none.
 abbrev pub IsLeastOf : (ℕ → ℕ → Type 0) → Option OnCurve → Type 0
@@ -70,24 +69,28 @@ IsFirstOn places (Some p) =
     AreInCells places p.point × (p.point < length places)
     × (slice_index_or places p.point no_place ≡ place.OnEdge p.curve)
 
--- ---- points on half arcs
--- The half arcs among the first k curves, in their order.
-pub record AreArcsTo (curves : List Curve) (k : ℕ) (arcs : List ℕ) : Type 0 where
-  pub few : length arcs ≤ k
-  pub known : (m : ℕ) → m < length arcs → slice_index arcs m < k
-  pub half_arc : (m : ℕ) → m < length arcs
-      → (nth_curve curves (slice_index arcs m)).kind ≡ kind.HalfArc
-  pub rising : IsRising arcs
-  pub whole : (i : ℕ) → i < k → (nth_curve curves i).kind ≡ kind.HalfArc
-      → (m : ℕ) × (m < length arcs) × (slice_index arcs m ≡ i)
+-- ---- numbers that are chosen
+-- all numbers of the list are below n
+abbrev pub AreNumbers : ℕ → List ℕ → Type 0
+AreNumbers n numbers = (m : ℕ) → m < length numbers → slice_index numbers m < n
 
--- The number i is that of a point, and j, less the number of points, that of a half arc in the
--- list, on which it is judged to lie.
-pub record IsPointOnArc (d : Plan) (arcs : List ℕ) (i j : ℕ) : Type 0 where
+-- The numbers below k with this mark, in their order.
+pub record AreMarkedTo (marks : List Bool) (mark : Bool) (k : ℕ) (numbers : List ℕ) : Type 0 where
+  pub few : length numbers ≤ k
+  pub known : AreNumbers k numbers
+  pub mark_is : (m : ℕ) → m < length numbers → mark_of marks (slice_index numbers m) ≡ mark
+  pub rising : IsRising numbers
+  pub whole : (i : ℕ) → i < k → mark_of marks i ≡ mark
+      → (m : ℕ) × (m < length numbers) × (slice_index numbers m ≡ i)
+
+-- ---- points on these curves
+-- The number i is that of a point, and j, less the number of points, that of a curve in the list,
+-- on which it is judged to lie.
+pub record IsPointOnCurve (d : Plan) (numbers : List ℕ) (i j : ℕ) : Type 0 where
   pub point_there : i < length d.points
   pub after : length d.points ≤ j
-  pub within : (j - length d.points) < length arcs
-  pub judged : IsJudgedOn (curve d (slice_index arcs (j - length d.points))) (object d i)
+  pub within : (j - length d.points) < length numbers
+  pub judged : IsJudgedOn (curve d (slice_index numbers (j - length d.points))) (object d i)
 
 -- the point of each number
 abbrev pub placed_at : List Placed → ℕ → Point
@@ -98,13 +101,14 @@ pub record ArePointBoxes (points : List Placed) (k : ℕ) (boxes : List Reach) :
   pub size : length boxes ≡ k
   pub holds : (j : ℕ) → j < k → InBox (box_of (reach_of boxes j)) (point (placed_at points j))
 
--- The boxes of all points, and then those of the first k half arcs of the list.
-pub record AreArcBoxes (d : Plan) (arcs : List ℕ) (k : ℕ) (boxes : List Reach) : Type 0 where
+-- The boxes of all points, and then those of the first k curves of the list.
+pub record AreCurveBoxes (d : Plan) (numbers : List ℕ) (k : ℕ) (boxes : List Reach) : Type 0 where
   pub size : length boxes ≡ length d.points + k
   pub points : (j : ℕ) → j < length d.points
       → InBox (box_of (reach_of boxes j)) (point (object d j))
   pub holds : (m : ℕ) → m < k
-      → HoldsCurve (box_of (reach_of boxes (length d.points + m))) (curve d (slice_index arcs m))
+      → HoldsCurve (box_of (reach_of boxes (length d.points + m)))
+      (curve d (slice_index numbers m))
 
 -- Of so many numbers those from the first on are marked.
 pub record AreMarkedFrom (first count : ℕ) (marks : List Bool) : Type 0 where

@@ -1,27 +1,13 @@
--- What is at fault with the curves of a drawing, whether a level settles it or not, and the answer
--- at one level.
+-- What is shown of one level.
 use Rattle.std.specs.Prelude.{ℕ, ◌<◌, Option, Some, None, List, length, ⊤}
 use Rattle.plane.specs.Rule.Plans.{Plan}
 use Rattle.tubes.specs.Settled.{IsSettledAt}
 use Rattle.tubes.specs.declared.kinds.Owner.{Owner}
 use Rattle.area_search.specs.Answers.{AreClear, IsAnswer}
-use Rattle.area_search.specs.declared.kinds.AreaAnswer.TheVariants.{Fault}
 use Rattle.area_search.specs.CaseRoots.{owner_at}
 use Rattle.area_search.specs.declared.bad_edges.CurvePair.{CurvePair}
 use Rattle.area_search.specs.declared.by_sweep.Shown.{Shown}
 use Rattle.area_search.specs.declared.by_sweep.Shown.TheVariants as shown
-use Rattle.area_search.specs.declared.kinds.AreaAnswer.{AreaAnswer}
-use Rattle.area_search.specs.declared.kinds.AreaFinding.{AreaFinding}
-
--- A fault that is the answer; or no two curves are bad and no point is on a curve.
-abbrev pub IsFaultOfCurves : Plan → Option AreaFinding → Type 0
-IsFaultOfCurves d None = AreClear d
-IsFaultOfCurves d (Some finding) = IsAnswer d (Fault finding)
-
--- The level does not settle the drawing; or this is the answer.
-abbrev pub IsAnswerAt : Plan → ℕ → Option AreaAnswer → Type 0
-IsAnswerAt d level None = IsSettledAt d level → ⊥
-IsAnswerAt d level (Some answer) = IsAnswer d answer
 
 -- Two curves of the drawing, the lesser number first; or none is named.
 abbrev pub AreOfDrawing : Plan → Option CurvePair → Type 0
@@ -33,8 +19,9 @@ abbrev pub AreOfCurves : Plan → List Owner → Type 0
 AreOfCurves d owners =
     (e : ℕ) → e < length owners → (owner_at owners e).curve < length d.curves
 
--- What is shown of a level: the answer, or that it does not settle the drawing, or nothing.
+-- What is shown of a level: the answer, or that it does not settle the drawing, or that a curve is
+-- at fault.
 abbrev pub IsShown : Plan → ℕ → Shown → Type 0
 IsShown d level (shown.Answer answer) = IsAnswer d answer
 IsShown d level (shown.Unsettled pair) = (IsSettledAt d level → ⊥) × AreOfDrawing d pair
-IsShown d level shown.Nothing = ⊤
+IsShown d level shown.AtFault = AreClear d → ⊥

@@ -15,3 +15,4 @@ pub mod Spots
 pub mod CaseSides
 pub mod CurvePoints
 pub mod LevelAnswers
+pub mod SetAside

@@ -13,16 +13,15 @@ ghost use Rattle.area_search.specs.LevelAnswers.{IsShown};
 
 use super::bad_edges::{CurvePair, shown_by_edges};
 use super::case::Case;
-use super::cell_sides::are_paired;
 use super::finishing::answer_case;
 use super::kinds::AreaAnswer;
 use super::missing_tubes::is_tube_missing;
-use super::own_corners::are_corners_own;
+use super::settled_runs::settled_facings;
 use line_sweep::{SweepRefusal, Swept, sweep};
 use plane::Drawing;
 use ports::Memory;
 use std::alloc::Global;
-use tubes::{EdgeList, edge_list, facings};
+use tubes::{EdgeList, edge_list};
 
 /// What a sweep of a level's edges shows of the drawing.
 #[derive(Drop)]
@@ -31,8 +30,8 @@ pub(crate) enum Shown {
     Answer(AreaAnswer),
     /// The level does not settle the drawing. Where two bad edges show it, their two curves.
     Unsettled(Option<CurvePair>),
-    /// Neither, or that two curves are bad of a drawing whose least bad pair is looked for.
-    Nothing,
+    /// Two curves are bad, of a drawing of few curves, whose least bad pair is looked for.
+    AtFault,
 }
 
 /// What the edges of a level show of a drawing that no lower level settles. The only error is out
@@ -96,21 +95,17 @@ fn answer_swept(
         ≡ closed_gaps swept.events }
     ensures { IfOk result (IsShown (plan drawing.now) level) }
 {
-    tubes::laws::settled_levels();
-    tubes::laws::chains_have_edges();
-    if !are_corners_own(drawing, &list, &swept.events) {
-        return Ok(Shown::Nothing);
+    match settled_facings(alloc, drawing, level, &list, &swept)? {
+        Some(facings) => {
+            let EdgeList { edges, owners } = list;
+            let case = Case {
+                drawing,
+                level,
+                owners: &owners,
+                facings: &facings,
+            };
+            Ok(Shown::Answer(answer_case(alloc, &case, edges, swept)?))
+        }
+        None => Ok(Shown::Unsettled(None)),
     }
-    let facings = facings(alloc, drawing, &list)?;
-    if !are_paired(&swept.cells, &facings, &list.owners) {
-        return Ok(Shown::Nothing);
-    }
-    let EdgeList { edges, owners } = list;
-    let case = Case {
-        drawing,
-        level,
-        owners: &owners,
-        facings: &facings,
-    };
-    Ok(Shown::Answer(answer_case(alloc, &case, edges, swept)?))
 }

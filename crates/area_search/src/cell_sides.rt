@@ -22,6 +22,21 @@ pub(crate) fn are_paired(cells: &[Cell], facings: &[Facing], owners: &[Owner]) -
     true
 }
 
+/// A curve whose tube one side of a cell faces and the other side does not, if there is one.
+pub(crate) fn unpaired_curve(cells: &[Cell], facings: &[Facing], owners: &[Owner]) -> Option<u32>
+    requires count { length owners.now ≡ length facings.now }
+    requires curves { (e : ℕ) → e < length owners.now → (owner_at owners.now e).curve < 2 ^ 30 }
+{
+    for cell in cells {
+        let over = tag_over(facings, owners, cell.lower.get());
+        let under = tag_under(facings, owners, cell.upper.get());
+        if over != under {
+            return over.max(under).checked_sub(1);
+        }
+    }
+    None
+}
+
 fn is_paired(cell: &Cell, facings: &[Facing], owners: &[Owner]) -> bool
     requires count { length owners.now ≡ length facings.now }
     requires curves { (e : ℕ) → e < length owners.now → (owner_at owners.now e).curve < 2 ^ 30 }

@@ -7,7 +7,7 @@ ghost use Rattle.area_search.specs.LevelAnswers.{AreOfDrawing, IsShown};
 use super::bad_edges::CurvePair;
 use super::by_sweep::{Shown, answer_by_sweep};
 use super::kinds::AreaAnswer;
-use super::levels::search_levels;
+use super::unsettled::answer_unsettled;
 use level_breaks::breaks_level;
 use plane::Drawing;
 use ports::Memory;
@@ -26,10 +26,10 @@ pub fn find_area(alloc: Global, drawing: &Drawing) -> Result<AreaAnswer, Memory>
         match shown_at(alloc, drawing, level, pair)? {
             Shown::Answer(answer) => return Ok(answer),
             Shown::Unsettled(next) => pair = next,
-            Shown::Nothing => return search_levels(alloc, drawing, level),
+            Shown::AtFault => return answer_unsettled(alloc, drawing),
         }
     }
-    search_levels(alloc, drawing, 6)
+    answer_unsettled(alloc, drawing)
 }
 
 /// What is shown of a level that is the least one or follows one that does not settle the drawing:

@@ -1,13 +1,9 @@
 // The answer to a drawing that a level settles.
-ghost use Rattle.std.specs.Prelude.{◌≡◌, ◌^◌, ◌<◌, [], IfOk, length};
+ghost use Rattle.std.specs.Prelude.{◌≡◌, ◌^◌, ◌<◌, IfOk, length};
 ghost use Rattle.line_sweep.specs.Kinds.{gaps_of};
 ghost use Rattle.line_sweep.specs.Sweeping.{HasTimetable};
 ghost use Rattle.plane.specs.Rule.Plans.{plan};
 ghost use Rattle.plane.specs.Runs.Gaps.{closed_gaps};
-ghost use Rattle.plane.specs.Runs.Moves.{Fit, steps_from};
-ghost use Rattle.plane.specs.Runs.Steps.{Run};
-ghost use Rattle.straight_predicates.specs.EdgeLists.{edge_of};
-ghost use Rattle.tubes.specs.TubedEdges.{IsTubedList};
 ghost use Rattle.area_search.specs.Answers.{IsAnswer, IsLeastLevel};
 ghost use Rattle.area_search.specs.Cases.{ArePlacedOff, AreSpots, IsCaseOf, IsOutlined, edges_of};
 
@@ -20,46 +16,15 @@ use super::spots::{first_spot_on, spots_at};
 use super::writing::positions;
 use faces::{Labelled, label};
 use line_sweep::{Cell, Swept};
-use plane::{Drawing, Edge};
+use plane::Edge;
 use ports::Memory;
 use std::alloc::Global;
-use tubes::{EdgeList, facings};
 
 /// The answer to a drawing by a complete run of its edges at the least level that settles it: its
 /// first fault, or a certificate with empty names. The only error is out of memory. It takes what
 /// placing the points, the mesh, its faces and the links of a certificate take, one after another;
 /// before the mesh is made, the edges are freed, and before its faces are labelled the events of
 /// the run.
-pub(crate) fn finish(
-    alloc: Global,
-    drawing: &Drawing,
-    level: u8,
-    list: EdgeList,
-    swept: Swept,
-) -> Result<AreaAnswer, Memory>
-    requires list { IsTubedList (plan drawing.now) level list }
-    requires least { IsLeastLevel (plan drawing.now) level }
-    requires few { length list.edges.items < 2 ^ 31 }
-    requires run { Run (length list.edges.items) (edge_of list.edges.items)
-        (steps_from [] swept.events) }
-    requires fit { Fit [] swept.events }
-    requires timed { HasTimetable list.edges.items swept.events }
-    requires cells { gaps_of swept.cells.items ≡ closed_gaps swept.events }
-    ensures { IfOk result (IsAnswer (plan drawing.now)) }
-{
-    tubes::laws::settled_levels();
-    let facings = facings(alloc, drawing, &list)?;
-    let EdgeList { edges, owners } = list;
-    let case = Case {
-        drawing,
-        level,
-        owners: &owners,
-        facings: &facings,
-    };
-    answer_case(alloc, &case, edges, swept)
-}
-
-/// The same for a case and its edges.
 pub(crate) fn answer_case(
     alloc: Global,
     case: &Case,
@@ -85,7 +50,7 @@ pub(crate) fn answer_case(
 }
 
 /// Where the objects' points of the case lie, by its edges, which are then freed, and their run.
-fn spots_of_run(
+pub(crate) fn spots_of_run(
     alloc: Global,
     case: &Case,
     edges: Vec<Edge>,

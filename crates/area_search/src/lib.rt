@@ -12,24 +12,22 @@
 //!   straights is, a certificate is answered exactly where that is so, and each fault contradicts
 //!   it (`laws`).
 //! - **How.** The levels from 0 to 5 are tried in turn by a sweep of their edges. Where it ends, no
-//!   corner of a tube is another curve's too (`own_corners`) and both sides of each cell face one
-//!   tube or none, the level settles the drawing; where two edges are bad, or a half arc has no
-//!   tube, it does not (`by_sweep`). A half arc without a tube is looked for before the edges of a
-//!   level above 0 are listed (`missing_tubes`). Of two bad edges the two curves are tested
+//!   corner of a tube is another curve's too (`corners`) and both sides of each cell face one tube
+//!   or none, the level settles the drawing; else it does not, nor where two edges are bad, or a
+//!   half arc has no tube (`by_sweep`). A half arc without a tube is looked for before the edges of
+//!   a level above 0 are listed (`missing_tubes`). Of two bad edges the two curves are tested
 //!   (`bad_edges`): where they are bad, they are the answer; else each next level that these two
-//!   break is passed over without its edges (`finding`). Where no level is shown to settle, or a
-//!   sweep shows nothing of one, or two curves are bad of a drawing of at most 2,048 curves, bad
-//!   pairs are looked for among all curves, two straights first and then the least pair with a half
-//!   arc, then points on curves (`on_curves`), then the least level that settles: by a sweep of its
-//!   edges, and by pairs of curves only where that shows nothing (`levels`). Of a drawing that a
-//!   level settles, with a complete run of its edges at that level (`finishing`): one replay of the
-//!   run for the places of the points, which say for each whether it lies on a curve, in the tube
-//!   of a half arc or in a cell (`spots`), after which the edges are freed but for what they stand
-//!   for; one for the mesh of its half-edges, after which the events of the run are freed but for
-//!   their positions; the faces of the mesh by what its cells join, and those beside each curve
-//!   (`case_sides`); and links from each half-edge to the border, a tube or a point. What the
-//!   certificate says is what the run, the places, the faces and the links are;
-//!   `certificate_checker` judges it without any of them.
+//!   break is passed over without its edges (`finding`). Where no level settles, or two curves are
+//!   bad of a drawing of at most 2,048 curves, bad pairs are looked for among all curves, two
+//!   straights first and then the least pair with a half arc, then points on curves (`on_curves`),
+//!   then the least pair that breaks level 5 (`unsettled`). Of a drawing that a level settles, with
+//!   a complete run of its edges at that level (`finishing`): one replay of the run for the places
+//!   of the points, which say for each whether it lies on a curve, in the tube of a half arc or in a
+//!   cell (`spots`), after which the edges are freed but for what they stand for; one for the mesh of
+//!   its half-edges, after which the events of the run are freed but for their positions; the faces
+//!   of the mesh by what its cells join, and those beside each curve (`case_sides`); and links from
+//!   each half-edge to the border, a tube or a point. What the certificate says is what the run, the
+//!   places, the faces and the links are; `certificate_checker` judges it without any of them.
 //! - **Degenerate cases.** No line, no point, several rings, holes, lines that end inside a region,
 //!   rings that touch in a vertex, equal points and points at vertices are all taken.
 //! - **Not here:** names of areas, lines of the transfer, and the text of a certificate.
@@ -37,12 +35,12 @@
 //! Cost: O((m + p + events) log (m + p)) for m edges and p points, and what the live list moves in
 //! the sweep and in two replays; some 240 bytes an edge at the peak. Where level 0 does not settle,
 //! at each further level two tubes where the two curves of the last bad edges break it too, else
-//! its tubes and a sweep of its edges up to two that are bad. Where no level is shown to settle,
-//! two sweeps of the straights more, and half arcs times the curves and points that begin within
-//! their boxes; where a sweep shows nothing of a level, and where no level settles, half arcs times
-//! the groups of edges that begin within their boxes.
+//! its tubes and a sweep of its edges up to two that are bad. Where no level settles, two sweeps of
+//! the straights more, half arcs times the curves and points that begin within their boxes, and
+//! half arcs times the groups of edges that begin within their boxes.
 #![tactic(auto)]
 
+mod aside;
 mod bad_edges;
 mod by_sweep;
 mod case;
@@ -52,19 +50,24 @@ mod case_notes;
 mod case_roots;
 mod case_sides;
 mod cell_sides;
+mod corners;
 mod finding;
 mod finishing;
 mod kinds;
 pub mod laws;
-mod levels;
 mod meshing;
 mod missing_tubes;
+mod numbers;
 mod on_curves;
 mod own_corners;
 mod owners;
 mod points;
+mod rest;
+mod settled_runs;
+mod settling;
 mod sides;
 mod spots;
+mod unsettled;
 mod writing;
 
 pub use finding::find_area;

@@ -1,43 +1,44 @@
 // The first object's point on a curve, whether a level settles the drawing or not.
-ghost use Rattle.std.specs.Prelude.{◌≡◌, ◌↔◌, ℕ, ◌+◌, ◌<◌, ◌≤◌, ◌^◌, [], IfOk, IsTrue, OnOk};
+ghost use Rattle.std.specs.Prelude.{◌≡◌, ◌↔◌, ℕ, ◌<◌, ◌^◌, [], IfOk, IsTrue, OnOk, true};
 ghost use Rattle.std.specs.Prelude.{length};
 ghost use Rattle.near_pairs.specs.LeastPairs.{IsLess};
 ghost use Rattle.plane.specs.Rule.Plans.{plan};
-ghost use Rattle.plane.specs.declared.kinds.CurveKind.TheVariants as kind;
 ghost use Rattle.meetings.specs.StraightRuns.{IsClearRun};
-ghost use Rattle.area_search.specs.CurvePoints.{AreArcBoxes, AreArcsTo, AreMarkedFrom, IsFirstOn};
-ghost use Rattle.area_search.specs.CurvePoints.{ArePointBoxes, IsFirstOnCurve, IsLeastOf};
-ghost use Rattle.area_search.specs.CurvePoints.{IsLesserOn, LiesOnArc, LiesOnStraight};
+ghost use Rattle.area_search.specs.CurvePoints.{AreCurveBoxes, AreMarkedFrom, AreNumbers};
+ghost use Rattle.area_search.specs.CurvePoints.{ArePointBoxes, IsFirstOn, IsFirstOnCurve, IsLeastOf};
+ghost use Rattle.area_search.specs.CurvePoints.{IsLesserOn, LiesOnMarked, LiesOnStraight};
+ghost use Rattle.area_search.specs.SetAside.{AreAside};
 
+use super::aside::Aside;
+use super::numbers::numbers_with;
 use super::points::{OnCurve, points_at};
 use line_sweep::Swept;
 use meetings::{Straights, is_on, reach};
 use near_pairs::{PairTest, Reach, least};
-use plane::{Curve, CurveKind, Drawing, Placed};
+use plane::{Drawing, Placed};
 use point_location::{Place, locate};
 use ports::Memory;
 use std::alloc::Global;
 
 /// The least object's point that lies on a curve, and the least curve on which it lies; None
-/// exactly where no point does. The only error is out of memory. It takes what the places of the
-/// points among the straights take; then half arcs times the points that begin within their boxes
-/// along x, or the other way round, and 65 bytes for each point and for each half arc.
+/// exactly where no point does: by the one that was found on the curves that are not set aside, and
+/// those that are. The only error is out of memory. It takes the curves set aside times the points
+/// that begin within their boxes along x, or the other way round, and 65 bytes for each of both.
 pub(crate) fn first_on_curve(
     alloc: Global,
     drawing: &Drawing,
-    straights: &Straights,
-    swept: &Swept,
+    aside: &Aside,
 ) -> Result<Option<OnCurve>, Memory>
-    requires { IsClearRun (plan drawing.now) straights.now swept.now }
+    requires { AreAside (plan drawing.now) aside.now.marks.items aside.now.on_others }
     ensures { IfOk result (IsFirstOnCurve (plan drawing.now)) }
 {
-    let on_straight = first_on_straight(alloc, drawing, straights, swept)?;
-    let on_arc = first_on_arc(alloc, drawing)?;
-    Ok(lesser(on_straight, on_arc))
+    let on_marked = first_on_marked(alloc, drawing, &aside.marks)?;
+    Ok(lesser(aside.on_others, on_marked))
 }
 
-/// The least point on a straight, and the least straight with it.
-fn first_on_straight(
+/// The least point on a straight, and the least straight with it. It takes what the places of the
+/// points among the straights take. The only error is out of memory.
+pub(crate) fn first_on_straight(
     alloc: Global,
     drawing: &Drawing,
     straights: &Straights,
@@ -73,88 +74,74 @@ fn first_on(places: &[Place]) -> Option<OnCurve>
     None
 }
 
-/// Half arcs by their numbers, of which pairs with an object's point are tested. The points come
-/// first, then the half arcs.
+/// Curves by their numbers, of which pairs with an object's point are tested. The points come
+/// first, then the curves.
 #[derive(Drop)]
 struct OnTest<'a> {
     drawing: &'a Drawing,
-    arcs: &'a [u32],
+    numbers: &'a [u32],
 }
 
 impl<'a> PairTest for OnTest<'a> {
     ghost use Rattle.std.specs.Prelude.{◌+◌, ◌<◌, length};
     ghost use Rattle.plane.specs.Rule.Plans.{plan};
-    ghost use Rattle.area_search.specs.CurvePoints.{AreArcsTo, IsPointOnArc};
+    ghost use Rattle.area_search.specs.CurvePoints.{AreNumbers, IsPointOnCurve};
 
     ghost can_test = { λ s i j. (i < j)
-        × (j < length s.drawing.now.points.items + length s.arcs.now)
-        × AreArcsTo s.drawing.now.curves.items (length s.drawing.now.curves.items) s.arcs.now };
+        × (j < length s.drawing.now.points.items + length s.numbers.now)
+        × AreNumbers (length s.drawing.now.curves.items) s.numbers.now };
 
-    ghost sought = { λ s i j. IsPointOnArc (plan s.drawing.now) s.arcs.now i j };
+    ghost sought = { λ s i j. IsPointOnCurve (plan s.drawing.now) s.numbers.now i j };
 
     fn is_sought(&self, first: u32, second: u32) -> bool {
         let points = self.drawing.points.as_slice();
         let point = first as usize;
-        let arc = second as usize;
-        if points.len() <= point || arc < points.len() {
+        let curve = second as usize;
+        if points.len() <= point || curve < points.len() {
             return false;
         }
-        let number = self.arcs[arc - points.len()];
+        let number = self.numbers[curve - points.len()];
         is_on(&self.drawing.curves[number as usize], points[point].at)
     }
 }
 
-/// The least point on a half arc that has a side for it, and the least half arc with it.
-fn first_on_arc(alloc: Global, drawing: &Drawing) -> Result<Option<OnCurve>, Memory>
-    ensures { IfOk result (IsLeastOf (LiesOnArc (plan drawing.now))) }
+/// The least point on a marked curve, and the least such curve with it; of half arcs those that
+/// have a side for it.
+fn first_on_marked(
+    alloc: Global,
+    drawing: &Drawing,
+    aside: &[bool],
+) -> Result<Option<OnCurve>, Memory>
+    requires { length aside.now ≡ length drawing.now.curves.items }
+    ensures { IfOk result (IsLeastOf (LiesOnMarked (plan drawing.now) aside.now true)) }
 {
     plane::arcs::boxes_of_bad_curves_meet();
     let points = drawing.points.as_slice();
-    let arcs = half_arcs(alloc, &drawing.curves)?;
-    let boxes = boxes(alloc, drawing, &arcs)?;
+    let numbers = numbers_with(alloc, aside, true)?;
+    let boxes = boxes(alloc, drawing, &numbers)?;
     let marks = marks_from(alloc, points.len(), boxes.as_slice().len())?;
     let test = OnTest {
         drawing,
-        arcs: &arcs,
+        numbers: &numbers,
     };
     match least(alloc, &boxes, &marks, &test)? {
         Some(pair) => Ok(Some(OnCurve {
             point: pair.first,
-            curve: arcs[pair.second as usize - points.len()],
+            curve: numbers[pair.second as usize - points.len()],
         })),
         None => Ok(None),
     }
 }
 
-/// The numbers of the half arcs.
-fn half_arcs(alloc: Global, curves: &[Curve]) -> Result<Vec<u32>, Memory>
-    requires { length curves.now < 2 ^ 30 }
-    ensures { IfOk result (λ arcs. AreArcsTo curves.now (length curves.now) arcs.items) }
-{
-    let mut arcs = Vec::new(alloc);
-    for (number, curve) in curves.iter().enumerate() {
-        if is_half_arc(curve) {
-            arcs.push(number as u32)?;
-        }
-    }
-    Ok(arcs)
-}
-
-fn is_half_arc(curve: &Curve) -> bool
-    ensures { IsTrue result ↔ (curve.now.kind ≡ kind.HalfArc) }
-{
-    curve.kind == CurveKind::HalfArc
-}
-
-/// The boxes of the objects' points, and then those of the half arcs.
-fn boxes(alloc: Global, drawing: &Drawing, arcs: &[u32]) -> Result<Vec<Reach>, Memory>
-    requires { AreArcsTo drawing.now.curves.items (length drawing.now.curves.items) arcs.now }
-    ensures { IfOk result (λ boxes. AreArcBoxes (plan drawing.now) arcs.now (length arcs.now)
-        boxes.items) }
+/// The boxes of the objects' points, and then those of the curves of these numbers.
+fn boxes(alloc: Global, drawing: &Drawing, numbers: &[u32]) -> Result<Vec<Reach>, Memory>
+    requires { AreNumbers (length drawing.now.curves.items) numbers.now }
+    ensures { IfOk result (λ boxes. AreCurveBoxes (plan drawing.now) numbers.now
+        (length numbers.now) boxes.items) }
 {
     let mut boxes = Vec::new(alloc);
     add_point_boxes(&mut boxes, &drawing.points)?;
-    add_arc_boxes(&mut boxes, drawing, arcs)?;
+    add_curve_boxes(&mut boxes, drawing, numbers)?;
     Ok(boxes)
 }
 
@@ -171,15 +158,15 @@ fn add_point_boxes(boxes: &mut Vec<Reach>, points: &[Placed]) -> Result<(), Memo
     Ok(())
 }
 
-fn add_arc_boxes(boxes: &mut Vec<Reach>, drawing: &Drawing, arcs: &[u32]) -> Result<(), Memory>
-    requires arcs { AreArcsTo drawing.now.curves.items (length drawing.now.curves.items) arcs.now }
+fn add_curve_boxes(boxes: &mut Vec<Reach>, drawing: &Drawing, numbers: &[u32]) -> Result<(), Memory>
+    requires numbers { AreNumbers (length drawing.now.curves.items) numbers.now }
     requires points { ArePointBoxes drawing.now.points.items (length drawing.now.points.items)
         boxes.old.items }
-    ensures { OnOk result (AreArcBoxes (plan drawing.now) arcs.now (length arcs.now)
+    ensures { OnOk result (AreCurveBoxes (plan drawing.now) numbers.now (length numbers.now)
         boxes.new.items) }
 {
-    for arc in arcs {
-        boxes.push(reach(&drawing.curves[*arc as usize]))?;
+    for number in numbers {
+        boxes.push(reach(&drawing.curves[*number as usize]))?;
     }
     Ok(())
 }

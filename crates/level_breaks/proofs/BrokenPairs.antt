@@ -17,7 +17,7 @@ use Rattle.plane.specs.declared.kinds.Edge.{Edge}
 use Rattle.plane.specs.declared.kinds.Point.{Point}
 use Rattle.plane.proofs.Linear.EdgePlaces.{place_point}
 use Rattle.straight_predicates.proofs.Orders.{by_lt}
-use Rattle.near_pairs.specs.Boxes.{AreNear, ShareAPlace, box_of, mark_of, reach_of}
+use Rattle.near_pairs.specs.Boxes.{AreNear, IsOneMarked, ShareAPlace, box_of, reach_of}
 use Rattle.near_pairs.specs.declared.reaches.Reach.{Reach}
 use Rattle.tubes.specs.DrawnEdges.{AreStraights}
 use Rattle.tubes.specs.Settled.{AreTubesAt, Breaks, BreaksOneWay, EdgesMeet, EndsAt, EntersTube, corners, edges, group, missing}
@@ -25,7 +25,7 @@ use Rattle.tubes.specs.TubedEdges.{drawn_bays, edge_as}
 use Rattle.tubes.specs.declared.kinds.Tube.{Tube}
 use Rattle.level_breaks.specs.Groups as groups
 use Rattle.level_breaks.specs.Groups.{HoldsAll, IsTubed, edges_with}
-use Rattle.level_breaks.specs.LevelLists.{AreBoxesTo, AreMarksTo, HasNoBadStraights, tube_of}
+use Rattle.level_breaks.specs.LevelLists.{AreBoxesTo, AreBreaksMarked, AreMarksTo, HasNoBadStraights, tube_of}
 use Rattle.level_breaks.proofs.AnyEdges.{bad_back}
 use Rattle.level_breaks.proofs.BoxPoints.{bad_shares}
 use Rattle.level_breaks.proofs.GroupEdges.{has_left, to_is_inner}
@@ -128,30 +128,33 @@ module _ (d : Plan) (level : ℕ)
   broken_shares i j t u n ht hu a b ha hb (corners m g h (inr w)) = share_back b a (way_shares j i u t hu ht b a hb ha w)
 
   -- of the lists of a drawing
-  module _ (bad_is : (s t : Edge) (c d : Curve) → IsEdgeOf s c → IsEdgeOf t d → c.kind ≡ kind.Straight → d.kind ≡ kind.Straight → (Bad s t → StraightsMeet c d)) (none : HasNoBadStraights d) (tubes : List (Option Tube)) (boxes : List Reach) (marks : List Bool) (ht : AreTubesAt d level tubes)
-      (hb : AreBoxesTo d.curves tubes (length d.curves) boxes) (hm : AreMarksTo d.curves (length d.curves) marks) where
+  module _ (tubes : List (Option Tube)) (boxes : List Reach) (marks : List Bool) (ht : AreTubesAt d level tubes) (hb : AreBoxesTo d.curves tubes (length d.curves) boxes) (hm : AreBreaksMarked d level marks) where
     pub broken_near : (i j : ℕ) → i < j → j < length d.curves → Breaks d level i j → AreNear boxes marks i j
     broken_near i j l m h =
         let k : i < length d.curves = omega (arith, l, m) in
         let g = groups_of d level i j (λ e. omega (arith, l, e)) h in
         let ti = tubed_of level (curve d i) (tube_of tubes i) (ht.each i k) (group_has_edges d level i (tube_of tubes i) (ht.each i k) g.0) in
         let tj = tubed_of level (curve d j) (tube_of tubes j) (ht.each j m) (group_has_edges d level j (tube_of tubes j) (ht.each j m) g.1) in record {
-          mark = marked (one_is_half_arc bad_is d level none i j h);
+          mark = hm i j l m h;
           place = broken_shares i j (tube_of tubes i) (tube_of tubes j) (λ e. omega (arith, l, e)) ti tj (box_of (reach_of boxes i)) (box_of (reach_of boxes j)) (hb.holds i k) (hb.holds j m) h;
         }
-      where
-        marked : IsHalfArc d i ⊎ IsHalfArc d j → (mark_of marks i ≡ true) ⊎ (mark_of marks j ≡ true)
-        marked (inl a) = inl (hm.half_arc i a.there a.kind)
-        marked (inr a) = inr (hm.half_arc j a.there a.kind)
 
--- the same of lists that are lent
-module _ (d : Plan) (tubes : List (Option Tube)) (lent lent_too : List Curve) (boxes boxes_lent : List Reach) (marks marks_lent : List Bool) (e : lent ≡ d.curves) (f : lent_too ≡ d.curves) (g : boxes_lent ≡ boxes) (h : marks_lent ≡ marks)
-    (hb : AreBoxesTo lent tubes (length lent) boxes) (hm : AreMarksTo lent_too (length lent_too) marks) where
+-- ---- of a drawing in which no two straights are bad the half arcs are marked
+pub half_arcs_marked : ((s t : Edge) (c d : Curve) → IsEdgeOf s c → IsEdgeOf t d → c.kind ≡ kind.Straight → d.kind ≡ kind.Straight → (Bad s t → StraightsMeet c d))
+    → (d : Plan) (level : ℕ) → HasNoBadStraights d → (lent : List Curve) (marks marks_lent : List Bool) → lent ≡ d.curves → marks_lent ≡ marks → AreMarksTo lent (length lent) marks → AreBreaksMarked d level marks_lent
+half_arcs_marked bad_is d level none lent marks marks_lent e f m i j l k h = by (one_is_half_arc bad_is d level none i j h)
+  where
+    all : AreMarksTo d.curves (length d.curves) marks_lent
+    all = subst (λ ms. AreMarksTo d.curves (length d.curves) ms) (sym f) (subst (λ cs. AreMarksTo cs (length cs) marks) e m)
+
+    by : IsHalfArc d i ⊎ IsHalfArc d j → IsOneMarked marks_lent i j
+    by (inl a) = inl (all.half_arc i a.there a.kind)
+    by (inr a) = inr (all.half_arc j a.there a.kind)
+
+-- ---- boxes that are lent
+module _ (d : Plan) (tubes : List (Option Tube)) (lent : List Curve) (boxes boxes_lent : List Reach) (e : lent ≡ d.curves) (g : boxes_lent ≡ boxes) (hb : AreBoxesTo lent tubes (length lent) boxes) where
   pub boxes_of_drawing : AreBoxesTo d.curves tubes (length d.curves) boxes_lent
   boxes_of_drawing = subst (λ bs. AreBoxesTo d.curves tubes (length d.curves) bs) (sym g) (subst (λ cs. AreBoxesTo cs tubes (length cs) boxes) e hb)
-
-  pub marks_of_drawing : AreMarksTo d.curves (length d.curves) marks_lent
-  marks_of_drawing = subst (λ ms. AreMarksTo d.curves (length d.curves) ms) (sym h) (subst (λ cs. AreMarksTo cs (length cs) marks) f hm)
 
   pub boxes_count : length boxes_lent ≡ length d.curves
   boxes_count = boxes_of_drawing.size

@@ -14,3 +14,4 @@ pub mod LevelListing
 pub mod BrokenPairs
 pub mod PairBreaks
 pub mod FirstBreaks
+pub mod SameCurves

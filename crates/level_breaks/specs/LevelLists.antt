@@ -5,12 +5,12 @@ use Rattle.plane.specs.Rule.BadPairs.{AreBad}
 use Rattle.plane.specs.Rule.Plans.{IsStraight, Plan, curve}
 use Rattle.plane.specs.declared.kinds.Curve.{Curve}
 use Rattle.plane.specs.declared.kinds.CurveKind.TheVariants as kind
-use Rattle.near_pairs.specs.Boxes.{box_of, mark_of, reach_of}
+use Rattle.near_pairs.specs.Boxes.{IsOneMarked, box_of, mark_of, reach_of}
 use Rattle.near_pairs.specs.LeastPairs.{IsLess}
 use Rattle.near_pairs.specs.declared.pairs.NearPair.{NearPair}
 use Rattle.near_pairs.specs.declared.reaches.Reach.{Reach}
 use Rattle.tubes.specs.DrawnEdges.{nth_curve}
-use Rattle.tubes.specs.Settled.{IsTubeFor}
+use Rattle.tubes.specs.Settled.{Breaks, IsTubeFor}
 use Rattle.tubes.specs.declared.kinds.Tube.{Tube}
 use Rattle.level_breaks.specs.Groups.{HoldsAll, corners}
 use Rattle.level_breaks.specs.declared.pairs.LevelBreak.{LevelBreak}
@@ -52,6 +52,11 @@ IsFirstBare curves tubes (Some i) =
 abbrev pub HasNoBadStraights : Plan → Type 0
 HasNoBadStraights d =
     (i j : ℕ) → IsStraight d i → IsStraight d j → i < j → AreBad (curve d i) (curve d j) → ⊥
+
+-- Of each two curves that break the level one is marked.
+abbrev pub AreBreaksMarked : Plan → ℕ → List Bool → Type 0
+AreBreaksMarked d level marked =
+    (i j : ℕ) → i < j → j < length d.curves → Breaks d level i j → IsOneMarked marked i j
 
 -- The pair of two curves, or the one curve named twice; neither of them is less.
 pub record IsLesser (pair : Option NearPair) (bare : Option ℕ) (r : LevelBreak) : Type 0 where

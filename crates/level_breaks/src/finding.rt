@@ -6,7 +6,7 @@ ghost use Rattle.near_pairs.specs.LeastPairs.{IsLeastPair};
 ghost use Rattle.tubes.specs.Settled.{AreTubesAt, Breaks, IsFirstBreak, IsSettledAt};
 ghost use Rattle.level_breaks.specs.GroupBreaks.{AreBreaking, AreBroken, HasEdges, OneIsUnderChord};
 ghost use Rattle.level_breaks.specs.Groups.{AreGroups};
-ghost use Rattle.level_breaks.specs.LevelLists.{HasNoBadStraights, IsLesser};
+ghost use Rattle.level_breaks.specs.LevelLists.{AreBreaksMarked, HasNoBadStraights, IsLesser};
 
 use super::chords::is_under_chord;
 use super::groups::Group;
@@ -126,11 +126,31 @@ pub fn first_break(
     ensures breaks { IfOk result (λ r. IfSome r (λ p.
         IsFirstBreak (plan drawing.now) level p.first p.second)) }
 {
+    plane::rule::edges_of_straights();
+    let marks = half_arc_marks(alloc, &drawing.curves)?;
+    first_break_among(alloc, drawing, level, &marks)
+}
+
+/// The same of a drawing in which of each two curves that break the level one is marked: only pairs
+/// with a marked curve are tested.
+pub fn first_break_among(
+    alloc: Global,
+    drawing: &Drawing,
+    level: u8,
+    marked: &[bool],
+) -> Result<Option<LevelBreak>, Memory>
+    requires level { level ≤ 5 }
+    requires size { length marked.now ≡ length drawing.now.curves.items }
+    requires marked { AreBreaksMarked (plan drawing.now) level marked.now }
+    ensures settled { IfOk result (λ r. r ≡ None → IsSettledAt (plan drawing.now) level) }
+    ensures breaks { IfOk result (λ r. IfSome r (λ p.
+        IsFirstBreak (plan drawing.now) level p.first p.second)) }
+{
     plane::sweeps::meetings_are_decided();
     plane::settled::own_edges_of_tubes();
     tubes::laws::edges_of_tubed_drawing();
     let tubes = level_tubes(alloc, drawing, level)?;
-    let pair = first_pair(alloc, drawing, level, &tubes)?;
+    let pair = first_pair(alloc, drawing, level, &tubes, marked)?;
     let bare = first_bare(&drawing.curves, &tubes);
     Ok(lesser(pair, bare))
 }
@@ -141,26 +161,26 @@ fn first_pair(
     drawing: &Drawing,
     level: u8,
     tubes: &[Option<Tube>],
+    marked: &[bool],
 ) -> Result<Option<NearPair>, Memory>
     requires level { level ≤ 5 }
-    requires straights { HasNoBadStraights (plan drawing.now) }
     requires tubes { AreTubesAt (plan drawing.now) level tubes.now }
+    requires size { length marked.now ≡ length drawing.now.curves.items }
+    requires marked { AreBreaksMarked (plan drawing.now) level marked.now }
     ensures some { IfOk result (λ r. IfSome r (λ p. IsLeastPair
         (Breaks (plan drawing.now) level) (length drawing.now.curves.items) p)) }
     ensures none { IfOk result (λ r. r ≡ None → (i j : ℕ) → i < j
         → j < length drawing.now.curves.items → Breaks (plan drawing.now) level i j → ⊥) }
 {
     plane::arcs::boxes_hold_means();
-    plane::rule::edges_of_straights();
     let boxes = boxes(alloc, &drawing.curves, tubes)?;
-    let marks = half_arc_marks(alloc, &drawing.curves)?;
     let test = BreakTest {
         drawing,
         level,
         tubes,
         boxes: &boxes,
     };
-    least(alloc, &boxes, &marks, &test)
+    least(alloc, &boxes, marked, &test)
 }
 
 /// The lesser of a pair of two curves and of one curve, named twice.

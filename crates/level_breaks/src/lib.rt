@@ -2,7 +2,8 @@
 //!
 //! - **What it answers.** `first_break`: the least two curves that break the level, by the first
 //!   number, then by the second; a half arc that has no tube at the level breaks it alone, and is
-//!   named twice. None exactly where the level settles the drawing. `breaks_level`: whether two
+//!   named twice. None exactly where the level settles the drawing. `first_break_among`: the same
+//!   where each pair that breaks the level has one of some curves. `breaks_level`: whether two
 //!   curves, given by their numbers, break the level.
 //! - **The rule that it serves.** A level settles a drawing where every two edges that stand for
 //!   its curves meet in common ends alone, corners of tubes are their own, and nothing enters a
@@ -11,7 +12,8 @@
 //!   level is a half arc (`laws::undecided_has_half_arc`), and straights alone are settled at level
 //!   0 (`laws::straights_are_settled`).
 //! - **What it asks for.** No two straights of the drawing are bad. So pairs of straights are not
-//!   tested. `breaks_level` asks for no more than two curves.
+//!   tested. `first_break_among` asks that no pair breaks the level of which neither curve is
+//!   marked, and tests no such pair. `breaks_level` asks for no more than two curves.
 //! - **How.** Two curves break a level exactly where one of three things holds: two of their edges,
 //!   one of each curve, meet badly; an edge of one of them ends in the tube of the other, at no end
 //!   of that curve; or one of them is a straight between the ends of the other, a half arc whose
@@ -50,6 +52,6 @@ mod pairs;
 mod parts;
 mod triangles;
 
-pub use finding::first_break;
+pub use finding::{first_break, first_break_among};
 pub use one_pair::breaks_level;
 pub use pairs::LevelBreak;

@@ -11,7 +11,7 @@ use Rattle.plane.specs.Rule.Places.{Vector, Place}
 use Rattle.plane.specs.Rule.Plans.{Plan}
 use Rattle.plane.specs.Rule.Windows.{IsDrawn, IsNarrow, IsShort}
 use Rattle.straight_predicates.proofs.Orders.{by_lt}
-use Rattle.near_pairs.specs.Boxes.{AreNear, box_of, mark_of, no_reach, reach_of}
+use Rattle.near_pairs.specs.Boxes.{AreNear, IsOneMarked, box_of, mark_of, no_reach, reach_of}
 use Rattle.near_pairs.specs.LeastPairs.{IsLeastPair, IsLess}
 use Rattle.near_pairs.specs.declared.pairs.NearPair.{NearPair}
 use Rattle.near_pairs.specs.declared.reaches.Reach.{Reach}
@@ -70,17 +70,24 @@ module _ (low high : Point) (curves : List Curve) (narrow : IsNarrow low high) (
   pairs_placed i j l m = record { low = low; high = high; narrow = narrow; first = drawn i _ l; second = drawn j _ m }
 
 -- ---- bad pairs are near
-module _ (curves : List Curve) (reaches : List Reach) (marks : List Bool) (r : AreReachesTo curves (length curves) reaches) (m : AreMarksTo curves (length curves) marks)
+module _ (curves : List Curve) (reaches : List Reach) (marks : List Bool) (r : AreReachesTo curves (length curves) reaches) (m : (i j : ℕ) → i < length curves → j < length curves → AreArcBad (curve_of curves i) (curve_of curves j) → i < j → IsOneMarked marks i j)
     (law : (c d : Curve) (a b : Box) → AreBad c d → HoldsCurve a c → HoldsCurve b d → (z : Vector) × Place z × InBox a z × InBox b z) where
-  pub bad_is_near : (i j : ℕ) → i < length curves → j < length curves → AreArcBad (curve_of curves i) (curve_of curves j) → AreNear reaches marks i j
-  bad_is_near i j k l bad = record {
-    mark = marked bad.half_arc;
+  pub bad_is_near : (i j : ℕ) → i < j → i < length curves → j < length curves → AreArcBad (curve_of curves i) (curve_of curves j) → AreNear reaches marks i j
+  bad_is_near i j o k l bad = record {
+    mark = m i j k l bad o;
     place = law (curve_of curves i) (curve_of curves j) (box_of (reach_of reaches i)) (box_of (reach_of reaches j)) bad.bad (r.holds i k) (r.holds j l);
   }
-    where
-      marked : HaveHalfArc (curve_of curves i) (curve_of curves j) → (mark_of marks i ≡ true) ⊎ (mark_of marks j ≡ true)
-      marked (inl e) = inl (m.half_arc i k e)
-      marked (inr e) = inr (m.half_arc j l e)
+
+-- of each pair with a half arc one is marked
+pub half_arcs_marked : (d : Plan) (curves : List Curve) (marks lent : List Bool) → curves ≡ d.curves → lent ≡ marks → AreMarksTo curves (length curves) marks → (i j : ℕ) → IsArcPair d i j → IsOneMarked lent i j
+half_arcs_marked d curves marks lent e f m i j p = by p.half_arc
+  where
+    all : AreMarksTo d.curves (length d.curves) lent
+    all = subst (AreMarksTo d.curves (length d.curves)) (sym f) (subst (λ (cs : List Curve). AreMarksTo cs (length cs) marks) e m)
+
+    by : HaveHalfArc (curve_of d.curves i) (curve_of d.curves j) → IsOneMarked lent i j
+    by (inl h) = inl (all.half_arc i (let o = p.pair.order in let t = p.pair.there in omega (arith, o, t)) h)
+    by (inr h) = inr (all.half_arc j p.pair.there h)
 
 -- ---- what was found
 abbrev pub seeks : List Curve → ℕ → ℕ → Type 0
@@ -103,14 +110,18 @@ module _ (d : Plan) (n : ℕ) (size : n ≡ length d.curves) where
 pub lent_size : (curves lent : List Curve) (reaches lent_reaches : List Reach) → lent ≡ curves → lent_reaches ≡ reaches → AreReachesTo lent (length lent) reaches → length lent_reaches ≡ length curves
 lent_size curves lent reaches lent_reaches e f a = ap length f ∙ a.size ∙ ap length e
 
-pub near_lent : (curves : List Curve) (reaches lent_reaches : List Reach) (marks lent_marks : List Bool) → lent_reaches ≡ reaches → lent_marks ≡ marks → AreReachesTo curves (length curves) reaches → AreMarksTo curves (length curves) marks
+pub near_lent : (d : Plan) (curves : List Curve) (reaches lent_reaches : List Reach) (marks : List Bool) → curves ≡ d.curves → lent_reaches ≡ reaches → AreReachesTo curves (length curves) reaches → ((i j : ℕ) → IsArcPair d i j → IsOneMarked marks i j)
     → ((c d : Curve) (a b : Box) → AreBad c d → HoldsCurve a c → HoldsCurve b d → (z : Vector) × Place z × InBox a z × InBox b z)
-    → (i j : ℕ) → i < j → j < length lent_reaches → seeks curves i j → AreNear lent_reaches lent_marks i j
-near_lent curves reaches lent_reaches marks lent_marks f g r m law i j l k s =
+    → (i j : ℕ) → i < j → j < length lent_reaches → seeks curves i j → AreNear lent_reaches marks i j
+near_lent d curves reaches lent_reaches marks q f r m law i j l k s =
     let r2 : AreReachesTo curves (length curves) lent_reaches = subst (AreReachesTo curves (length curves)) (sym f) r in
-    let m2 : AreMarksTo curves (length curves) lent_marks = subst (AreMarksTo curves (length curves)) (sym g) m in
     let z = r2.size in
-    bad_is_near curves lent_reaches lent_marks r2 m2 law i j (omega (arith, l, k, z)) (omega (arith, k, z)) s
+    bad_is_near curves lent_reaches marks r2 one law i j l (omega (arith, l, k, z)) (omega (arith, k, z)) s
+  where
+    one : (i j : ℕ) → i < length curves → j < length curves → AreArcBad (curve_of curves i) (curve_of curves j) → i < j → IsOneMarked marks i j
+    one i j k l bad o =
+        let b : AreArcBad (curve_of d.curves i) (curve_of d.curves j) = subst (λ (cs : List Curve). AreArcBad (curve_of cs i) (curve_of cs j)) q bad in
+        m i j (record { pair = record { order = o; there = subst (λ (cs : List Curve). j < length cs) q l; bad = b.bad }; half_arc = b.half_arc })
 
 pub no_pair_lent : (d : Plan) (lent : List Curve) (n : ℕ) → n ≡ length d.curves → lent ≡ d.curves → ((i j : ℕ) → i < j → j < n → seeks lent i j → ⊥) → (i j : ℕ) → IsArcPair d i j → ⊥
 no_pair_lent d lent n size e f = no_pair d n size (subst (λ (cs : List Curve). (i j : ℕ) → i < j → j < n → seeks cs i j → ⊥) e f)

@@ -2,6 +2,7 @@
 ghost use Rattle.std.specs.Prelude.{◌≡◌, ℕ, ◌<◌, None, false, IfOk, IfSome, length};
 ghost use Rattle.plane.specs.declared.kinds.CurveKind.TheVariants as kind;
 ghost use Rattle.plane.specs.Rule.Plans.{plan};
+ghost use Rattle.near_pairs.specs.Boxes.{IsOneMarked};
 ghost use Rattle.near_pairs.specs.LeastPairs.{IsLess};
 ghost use Rattle.meetings.specs.CurveBoxes.{AreMarksTo, AreReachesTo, IsEachPlaced};
 ghost use Rattle.meetings.specs.CurvePairs.{IsArcPair};
@@ -10,7 +11,7 @@ ghost use Rattle.meetings.specs.StraightEdges.{curve_of};
 use super::badness::are_arc_bad;
 use super::pairs::BadPair;
 use super::reaching::reach;
-use near_pairs::{PairTest, Reach, least};
+use near_pairs::{PairTest, Reach, are_many, least};
 use plane::{Curve, CurveKind, Drawing};
 use ports::Memory;
 use std::alloc::Global;
@@ -49,21 +50,49 @@ pub fn arc_meeting(alloc: Global, drawing: &Drawing) -> Result<Option<BadPair>, 
     ensures none { IfOk result (λ r. r ≡ None → (i j : ℕ)
         → IsArcPair (plan drawing.now) i j → ⊥) }
 {
-    plane::arcs::boxes_of_bad_curves_meet();
-    let curves = drawing.curves.as_slice();
-    if !has_half_arc(curves) {
+    if !has_half_arc(&drawing.curves) {
         return Ok(None);
     }
+    let marks = half_arc_marks(alloc, &drawing.curves)?;
+    arc_meeting_among(alloc, drawing, &marks)
+}
+
+/// The same of a drawing in which of each such pair one curve is marked. It takes the time of the
+/// marked curves times those that begin within their boxes along x, or the other way round.
+pub fn arc_meeting_among(
+    alloc: Global,
+    drawing: &Drawing,
+    marked: &[bool],
+) -> Result<Option<BadPair>, Memory>
+    requires size { length marked.now ≡ length drawing.now.curves.items }
+    requires marked { (i j : ℕ) → IsArcPair (plan drawing.now) i j → IsOneMarked marked.now i j }
+    ensures bad { IfOk result (λ r. IfSome r (λ p.
+        IsArcPair (plan drawing.now) p.first p.second)) }
+    ensures least { IfOk result (λ r. IfSome r (λ p. (i j : ℕ)
+        → IsArcPair (plan drawing.now) i j → IsLess i j p.first p.second → ⊥)) }
+    ensures none { IfOk result (λ r. r ≡ None → (i j : ℕ)
+        → IsArcPair (plan drawing.now) i j → ⊥) }
+{
+    plane::arcs::boxes_of_bad_curves_meet();
+    let curves = drawing.curves.as_slice();
     let reaches = reaches(alloc, curves)?;
-    let marks = half_arc_marks(alloc, curves)?;
     let test = ArcTest { curves };
-    match least(alloc, &reaches, &marks, &test)? {
+    match least(alloc, &reaches, marked, &test)? {
         Some(pair) => Ok(Some(BadPair {
             first: pair.first,
             second: pair.second,
         })),
         None => Ok(None),
     }
+}
+
+/// Whether many pairs with a half arc would have to be looked at, by their boxes
+/// (`near_pairs::are_many`). No answer rests on it. The only error is out of memory.
+pub fn has_many_pairs(alloc: Global, drawing: &Drawing) -> Result<bool, Memory> {
+    let curves = drawing.curves.as_slice();
+    let reaches = reaches(alloc, curves)?;
+    let marks = half_arc_marks(alloc, curves)?;
+    are_many(alloc, &reaches, &marks)
 }
 
 fn has_half_arc(curves: &[Curve]) -> bool

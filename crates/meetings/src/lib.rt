@@ -3,7 +3,9 @@
 //! - **What it answers.** `bad_meeting`: some pair of curves that is bad, the lesser number first,
 //!   or None exactly where the drawing has no such pair. Two straights are named where some are
 //!   bad; else the least pair with a half arc, by its first number, then by its second
-//!   (`arc_meeting`). `is_bad`: whether two curves, given by their numbers, are bad.
+//!   (`arc_meeting`; `arc_meeting_among`, where each such pair has one of some curves).
+//!   `has_many_pairs`: whether these would be many pairs to look at. `is_bad`: whether two curves,
+//!   given by their numbers, are bad.
 //!   `sweep_straights`: the run of the straights' edges, or two that are bad. `is_on`: whether a
 //!   point is on a curve. `reach`: a box that holds a curve.
 //! - **The rule that it serves.** Lines of an area meet in control points alone. What it names is
@@ -35,7 +37,7 @@ mod placing;
 mod reaching;
 mod straight_runs;
 
-pub use arcs::arc_meeting;
+pub use arcs::{arc_meeting, arc_meeting_among, has_many_pairs};
 pub use badness::is_bad;
 pub use edges::Straights;
 pub use finding::bad_meeting;

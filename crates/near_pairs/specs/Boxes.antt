@@ -25,7 +25,11 @@ ShareANumber a b c d = (m : ℤ) × (a ≤ℤ m) × (m ≤ℤ b) × (c ≤ℤ m)
 abbrev pub ShareAPlace : Box → Box → Type 0
 ShareAPlace a b = (z : Vector) × Place z × InBox a z × InBox b z
 
+-- One of the two numbers is marked.
+abbrev pub IsOneMarked : List Bool → ℕ → ℕ → Type 0
+IsOneMarked marked i j = (mark_of marked i ≡ true) ⊎ (mark_of marked j ≡ true)
+
 -- One of the two numbers is marked, and their boxes share a place.
 pub record AreNear (boxes : List Reach) (marked : List Bool) (i j : ℕ) : Type 0 where
-  pub mark : (mark_of marked i ≡ true) ⊎ (mark_of marked j ≡ true)
+  pub mark : IsOneMarked marked i j
   pub place : ShareAPlace (box_of (reach_of boxes i)) (box_of (reach_of boxes j))

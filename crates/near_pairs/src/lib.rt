@@ -11,6 +11,8 @@
 //!   stand side by side, and of them those that share a y are tested, where the pair is less than
 //!   the best so far. Marked boxes are held against all boxes, then the others against the marked
 //!   ones.
+//! - **How long.** `are_many` says beforehand whether so many boxes would be looked at that another
+//!   way may be shorter; no answer rests on it.
 //! - **Not here:** what is looked for, and how the boxes are made.
 //!
 //! Cost: two sorts, and a comparison of y for each box that begins within a marked one along x, or
@@ -20,11 +22,13 @@
 
 mod chosen;
 mod column;
+mod counting;
 mod finding;
 mod pairs;
 mod reaches;
 mod testing;
 
+pub use counting::are_many;
 pub use finding::least;
 pub use pairs::NearPair;
 pub use reaches::Reach;

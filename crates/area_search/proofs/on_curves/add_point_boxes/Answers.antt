@@ -1,5 +1,5 @@
 use Rattle.std.proofs.Common.{refl}
-use Rattle.area_search.proofs.ArcNumbers.{point_box_more}
+use Rattle.area_search.proofs.MarkedNumbers.{point_box_more}
 use Rattle.area_search.proofs.on_curves.add_point_boxes.Goals as goal
 
 pub loop-point-preserved : goal.loop-point-preserved

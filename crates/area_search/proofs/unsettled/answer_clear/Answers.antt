@@ -1,0 +1,19 @@
+use Rattle.std.proofs.Common.{Bool, List, ℕ, sym, subst}
+use Rattle.plane.specs.Rule.Plans.{plan}
+use Rattle.near_pairs.specs.Boxes.{IsOneMarked}
+use Rattle.meetings.specs.CurvePairs.{IsArcPair}
+use Rattle.area_search.specs.Answers.{IsAnswer, meeting}
+use Rattle.area_search.proofs.LevelSearch.{none_of_all}
+use Rattle.area_search.proofs.unsettled.answer_clear.Goals as goal
+
+pub arc_meeting_among-requires-clause-marked : goal.arc_meeting_among-requires-clause-marked
+arc_meeting_among-requires-clause-marked c =
+    subst (λ (ms : List Bool). (i j : ℕ) → IsArcPair (plan c.args.drawing.now) i j → IsOneMarked ms i j) (sym c.deref.ensures.value) c.in_ok-aside.ensures.pairs
+
+pub returns-in-Some : goal.returns-in-Some
+returns-in-Some c =
+    let h = rw c.in-Some.is at c.in_ok-pair.ensures.bad in
+    subst (IsAnswer (plan c.args.drawing.now)) (sym c.meeting.ensures) (meeting c.in-Some.pair.first c.in-Some.pair.second h.pair)
+
+pub answer_good-requires-clause-pairs : goal.answer_good-requires-clause-pairs
+answer_good-requires-clause-pairs c = none_of_all (plan c.args.drawing.now) c.requires.straights (c.in_ok-pair.ensures.none c.in-None.is)

@@ -1,0 +1,16 @@
+use Rattle.std.proofs.Common.{sym, subst}
+use Rattle.plane.specs.Rule.Plans.{plan}
+use Rattle.meetings.specs.StraightRuns.{IsStraightRun}
+use Rattle.area_search.specs.Answers.{IsAnswer, meeting}
+use Rattle.area_search.proofs.LevelSearch.{straights_clear}
+use Rattle.area_search.proofs.unsettled.answer_unsettled.Goals as goal
+
+pub answer_clear-requires-clause-straights : goal.answer_clear-requires-clause-straights
+answer_clear-requires-clause-straights c =
+    let run = subst (IsStraightRun (plan c.args.drawing.now)) c.in-Clear.is c.in_ok-pair.ensures in
+    straights_clear (plan c.args.drawing.now) run.clear
+
+pub returns-in-Bad : goal.returns-in-Bad
+returns-in-Bad c =
+    let bad = subst (IsStraightRun (plan c.args.drawing.now)) c.in-Bad.is c.in_ok-pair.ensures in
+    subst (IsAnswer (plan c.args.drawing.now)) (sym c.meeting.ensures) (meeting c.in-Bad.pair.first c.in-Bad.pair.second bad)

@@ -1,0 +1,9 @@
+use Rattle.std.proofs.Common.{arith}
+use Rattle.area_search.specs.Answers.{undecided}
+use Rattle.area_search.proofs.unsettled.first_undecided.Goals as goal
+
+pub returns : goal.returns
+returns c = undecided c.in-Some.pair.first c.in-Some.pair.second c.requires.clear c.requires.unsettled (rw c.in-Some.is at c.in_ok-pair.ensures.breaks)
+
+pub unreachable-requires : goal.unreachable-requires
+unreachable-requires c = c.requires.unsettled 5 (omega arith) (c.in_ok-pair.ensures.settled c.in-None.is)

@@ -1,0 +1,127 @@
+// Whether the last level settles a drawing.
+ghost use Rattle.std.specs.Prelude.{◌≡◌, ◌^◌, ◌<◌, ◌≤◌, [], IfOk, length};
+ghost use Rattle.line_sweep.specs.Kinds.{gaps_of};
+ghost use Rattle.line_sweep.specs.Sweeping.{HasTimetable};
+ghost use Rattle.plane.specs.Rule.Plans.{Plan, plan};
+ghost use Rattle.plane.specs.Runs.Gaps.{closed_gaps};
+ghost use Rattle.plane.specs.Runs.Moves.{Fit, steps_from};
+ghost use Rattle.plane.specs.Runs.Steps.{Run};
+ghost use Rattle.straight_predicates.specs.EdgeLists.{edge_of};
+ghost use Rattle.tubes.specs.TubedEdges.{AreUsable, IsTubedList};
+ghost use Rattle.area_search.specs.SetAside.{IsSettling};
+
+use super::case::Case;
+use super::cell_sides::unpaired_curve;
+use super::finishing::spots_of_run;
+use super::points::OnCurve;
+use super::settled_runs::settled_facings;
+use super::spots::first_spot_on;
+use line_sweep::{SweepRefusal, Swept, sweep};
+use plane::Drawing;
+use ports::Memory;
+use std::alloc::Global;
+use tubes::{EdgeList, Owner, edge_list, facings};
+
+/// What the last level shows of a drawing.
+#[derive(Drop)]
+pub(crate) enum Settling {
+    /// It settles the drawing; and the first point on a curve, if there is one.
+    Settled(Option<OnCurve>),
+    /// It does not, by these two curves, or by this one, named twice.
+    Near { first: u32, second: u32 },
+    /// It does not.
+    Unsettled,
+}
+
+/// What the last level shows of a drawing, by a sweep of its edges. The only error is out of
+/// memory.
+pub(crate) fn settle(alloc: Global, drawing: &Drawing) -> Result<Settling, Memory>
+    requires { length (plan drawing.now).curves ≤ 16000000 }
+    ensures { IfOk result (IsSettling (plan drawing.now)) }
+{
+    tubes::laws::few_edges();
+    match edge_list(alloc, drawing, 5)? {
+        Some(list) => settle_list(alloc, drawing, list),
+        None => Ok(Settling::Unsettled),
+    }
+}
+
+/// The same, with the edges.
+fn settle_list(alloc: Global, drawing: &Drawing, list: EdgeList) -> Result<Settling, Memory>
+    requires few { length list.edges.items < 2 ^ 31 }
+    requires list { IsTubedList (plan drawing.now) 5 list }
+    requires usable { AreUsable (plan drawing.now) list.edges.items }
+    ensures { IfOk result (IsSettling (plan drawing.now)) }
+{
+    match sweep(alloc, &list.edges) {
+        Ok(swept) => settle_run(alloc, drawing, list, &swept),
+        Err(SweepRefusal::Bad { first, second }) => Ok(near(&list.owners, first, second)),
+        Err(SweepRefusal::Memory) => Err(Memory),
+    }
+}
+
+/// The curves of two edges.
+fn near(owners: &[Owner], first: u32, second: u32) -> Settling
+    ensures { (d : Plan) → IsSettling d result }
+{
+    match (owners.get(first as usize), owners.get(second as usize)) {
+        (Some(one), Some(other)) => Settling::Near {
+            first: one.curve,
+            second: other.curve,
+        },
+        _ => Settling::Unsettled,
+    }
+}
+
+/// The same, with a complete run of the edges.
+fn settle_run(
+    alloc: Global,
+    drawing: &Drawing,
+    list: EdgeList,
+    swept: &Swept,
+) -> Result<Settling, Memory>
+    requires few { length list.edges.items < 2 ^ 31 }
+    requires list { IsTubedList (plan drawing.now) 5 list }
+    requires usable { AreUsable (plan drawing.now) list.edges.items }
+    requires run { Run (length list.edges.items) (edge_of list.edges.items) (steps_from []
+        swept.now.events) }
+    requires fit { Fit [] swept.now.events }
+    requires timed { HasTimetable list.edges.items swept.now.events }
+    requires cells { gaps_of swept.now.cells.items ≡ closed_gaps swept.now.events }
+    ensures { IfOk result (IsSettling (plan drawing.now)) }
+{
+    level_breaks::laws::settled_is_unbroken();
+    let Some(facings) = settled_facings(alloc, drawing, 5, &list, swept)? else {
+        return near_cell(alloc, drawing, &list, swept);
+    };
+    let EdgeList { edges, owners } = list;
+    let case = Case {
+        drawing,
+        level: 5,
+        owners: &owners,
+        facings: &facings,
+    };
+    let spots = spots_of_run(alloc, &case, edges, swept)?;
+    Ok(Settling::Settled(first_spot_on(&spots)))
+}
+
+/// A curve whose tube only one side of a cell faces, if there is one.
+fn near_cell(
+    alloc: Global,
+    drawing: &Drawing,
+    list: &EdgeList,
+    swept: &Swept,
+) -> Result<Settling, Memory>
+    requires list { IsTubedList (plan drawing.now) 5 list.now }
+    ensures { IfOk result (IsSettling (plan drawing.now)) }
+{
+    tubes::laws::chains_have_edges();
+    let facings = facings(alloc, drawing, list)?;
+    match unpaired_curve(&swept.cells, &facings, &list.owners) {
+        Some(curve) => Ok(Settling::Near {
+            first: curve,
+            second: curve,
+        }),
+        None => Ok(Settling::Unsettled),
+    }
+}

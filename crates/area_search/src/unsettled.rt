@@ -1,0 +1,113 @@
+// The answer to a drawing that no level settles.
+ghost use Rattle.std.specs.Prelude.{◌≡◌, ◌≤◌, IfOk, length};
+ghost use Rattle.level_breaks.specs.LevelLists.{AreBreaksMarked, HasNoBadStraights};
+ghost use Rattle.plane.specs.Rule.Plans.{plan};
+ghost use Rattle.meetings.specs.StraightRuns.{IsClearRun};
+ghost use Rattle.area_search.specs.Answers.{AreClear, HasNoBadPair, IsAnswer, IsUnsettled};
+ghost use Rattle.area_search.specs.CurvePoints.{IsLeastOf, LiesOnStraight};
+ghost use Rattle.area_search.specs.SetAside.{AreAside};
+ghost use Rattle.area_search.specs.declared.kinds.AreaAnswer.TheVariants.{Fault};
+ghost use Rattle.area_search.specs.declared.kinds.AreaFinding.TheVariants.{Meeting};
+
+use super::aside::{Aside, set_aside};
+use super::kinds::{AreaAnswer, AreaFinding};
+use super::on_curves::{first_on_curve, first_on_straight};
+use super::points::OnCurve;
+use level_breaks::first_break_among;
+use line_sweep::Swept;
+use meetings::{BadPair, StraightRun, Straights, arc_meeting_among, sweep_straights};
+use plane::Drawing;
+use ports::Memory;
+use std::alloc::Global;
+
+/// The answer to a drawing that no level settles, unless its curves are at fault: a pair of curves
+/// that is bad, else a point on a curve, else the first pair that breaks the last level. The only
+/// error is out of memory. Of each part the memory is let go before the next.
+pub(crate) fn answer_unsettled(alloc: Global, drawing: &Drawing) -> Result<AreaAnswer, Memory>
+    requires few { length (plan drawing.now).curves ≤ 16000000 }
+    requires unsettled { AreClear (plan drawing.now) → IsUnsettled (plan drawing.now) }
+    ensures { IfOk result (IsAnswer (plan drawing.now)) }
+{
+    match sweep_straights(alloc, drawing)? {
+        StraightRun::Bad(pair) => Ok(meeting(pair)),
+        StraightRun::Clear { straights, swept } => {
+            let on_straight = point_on_straight(alloc, drawing, straights, swept)?;
+            answer_clear(alloc, drawing, on_straight)
+        }
+    }
+}
+
+fn meeting(pair: BadPair) -> AreaAnswer
+    ensures { result ≡ Fault (Meeting pair.first pair.second) }
+{
+    AreaAnswer::Fault(AreaFinding::Meeting {
+        first: pair.first,
+        second: pair.second,
+    })
+}
+
+/// The least point on a straight, and the least straight with it, by the run of the straights,
+/// which is then freed.
+fn point_on_straight(
+    alloc: Global,
+    drawing: &Drawing,
+    straights: Straights,
+    swept: Swept,
+) -> Result<Option<OnCurve>, Memory>
+    requires { IsClearRun (plan drawing.now) straights swept }
+    ensures { IfOk result (IsLeastOf (LiesOnStraight (plan drawing.now))) }
+{
+    first_on_straight(alloc, drawing, &straights, &swept)
+}
+
+/// The same, where no two straights are bad.
+fn answer_clear(
+    alloc: Global,
+    drawing: &Drawing,
+    on_straight: Option<OnCurve>,
+) -> Result<AreaAnswer, Memory>
+    requires few { length (plan drawing.now).curves ≤ 16000000 }
+    requires unsettled { AreClear (plan drawing.now) → IsUnsettled (plan drawing.now) }
+    requires straights { HasNoBadStraights (plan drawing.now) }
+    requires points { IsLeastOf (LiesOnStraight (plan drawing.now)) on_straight }
+    ensures { IfOk result (IsAnswer (plan drawing.now)) }
+{
+    let aside = set_aside(alloc, drawing, on_straight)?;
+    match arc_meeting_among(alloc, drawing, &aside.marks)? {
+        Some(pair) => Ok(meeting(pair)),
+        None => answer_good(alloc, drawing, &aside),
+    }
+}
+
+/// The same, where no two curves are bad.
+fn answer_good(alloc: Global, drawing: &Drawing, aside: &Aside) -> Result<AreaAnswer, Memory>
+    requires unsettled { AreClear (plan drawing.now) → IsUnsettled (plan drawing.now) }
+    requires pairs { HasNoBadPair (plan drawing.now) }
+    requires aside { AreAside (plan drawing.now) aside.now.marks.items aside.now.on_others }
+    ensures { IfOk result (IsAnswer (plan drawing.now)) }
+{
+    match first_on_curve(alloc, drawing, aside)? {
+        Some(on) => Ok(AreaAnswer::Fault(AreaFinding::On {
+            point: on.point,
+            curve: on.curve,
+        })),
+        None => first_undecided(alloc, drawing, &aside.marks),
+    }
+}
+
+/// The first pair that breaks the last level, where no curve is at fault.
+fn first_undecided(alloc: Global, drawing: &Drawing, marks: &[bool]) -> Result<AreaAnswer, Memory>
+    requires size { length marks.now ≡ length drawing.now.curves.items }
+    requires marked { AreBreaksMarked (plan drawing.now) 5 marks.now }
+    requires clear { AreClear (plan drawing.now) }
+    requires unsettled { IsUnsettled (plan drawing.now) }
+    ensures { IfOk result (IsAnswer (plan drawing.now)) }
+{
+    match first_break_among(alloc, drawing, 5, marks)? {
+        Some(pair) => Ok(AreaAnswer::Undecided {
+            first: pair.first,
+            second: pair.second,
+        }),
+        None => unreachable!(),
+    }
+}
