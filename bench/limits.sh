@@ -195,6 +195,24 @@ for count in (25, 100, 400, 1600):
         print("    %.1f times the time of a quarter as many" % (got[2] / smaller))
     smaller = got[2]
 
+# ---- and two arcs beside them that no level parts
+
+smaller = None
+for count in (25, 100, 400, 1600):
+    radii = [1000 + 20 * k for k in range(count)]
+    circles = [[(x + r, y), (b"ARCP", (x, y + r)), (b"LIPT", (x - r, y)), (b"ARCP", (x, y - r)), (b"LIPT", (x + r, y))]
+               for r in radii]
+    near = [[(100000, 100000), (b"ARCP", (100000 + 6000 * k, 100000 + 2000 * k)),
+             (b"LIPT", (100000 + 10000 * k, 100000 + 10000 * k))] for k in (1, 2)]
+    delivery(circles + near, [(x, y)] + [(x + r + 10, y) for r in radii[:-1]])
+    got = run("check", "M", "T", "C")
+    if got[1] != 2:
+        sys.exit("%d circles and two near arcs are not undecided" % count)
+    tell("transfer", "%d circles about one place, and two near arcs" % count, os.path.getsize("T"), got, EMPTY, ORDINARY)
+    if smaller:
+        print("    %.1f times the time of a quarter as many" % (got[2] / smaller))
+    smaller = got[2]
+
 # ---- points in tubes at level 5
 
 RADIUS, LEAVES = 100000, 4000

@@ -60,5 +60,5 @@ HasNoBreak d = (i j : ℕ) → Breaks d 5 i j → ⊥
 -- there is one; or nothing.
 abbrev pub IsSettling : Plan → Settling → Type 0
 IsSettling d (settling.Settled on) = HasNoBadPair d × HasNoBreak d × IsFirstOnCurve d on
-IsSettling d (settling.Near first second) = ⊤
+IsSettling d (settling.Near near) = ⊤
 IsSettling d settling.Unsettled = ⊤

@@ -6,6 +6,7 @@ ghost use Rattle.tubes.specs.TubedEdges.{IsFit};
 ghost use Rattle.area_search.specs.CurvePoints.{IsLeastOf, LiesOnStraight};
 ghost use Rattle.area_search.specs.SetAside.{AreArcMarks, AreAside, IsNumbered};
 
+use super::numbers::mark;
 use super::points::OnCurve;
 use super::rest::rest_of;
 use super::settling::{Settling, settle};
@@ -17,7 +18,7 @@ use std::alloc::Global;
 use tubes::tube;
 
 /// How often curves are set aside before all half arcs are.
-const ROUNDS: u32 = 16;
+const ROUNDS: u32 = 8;
 
 /// Curves that are set aside, by their marks, and the least point on one of the others, if there is
 /// one.
@@ -30,7 +31,7 @@ pub(crate) struct Aside {
 /// Curves to set aside of a drawing in which no two straights are bad: all half arcs; or, where
 /// these have many others near them, few curves without which the last level settles the drawing,
 /// if they are found. The only error is out of memory. In the second case it takes the edges of the
-/// last level and their sweep, up to 16 times.
+/// last level and two sweeps of them, up to eight times.
 pub(crate) fn set_aside(
     alloc: Global,
     drawing: &Drawing,
@@ -53,8 +54,8 @@ pub(crate) fn set_aside(
     })
 }
 
-/// The second case: half arcs without a tube at the last level, and in each round two curves that
-/// are near at that level among those that are left.
+/// The second case: half arcs without a tube at the last level, and in each round curves that are
+/// near others at that level among those that are left.
 fn few_aside(alloc: Global, drawing: &Drawing) -> Result<Option<Aside>, Memory>
     requires few { length (plan drawing.now).curves ≤ 16000000 }
     ensures { IfOk result (λ r. IfSome r (λ a.
@@ -69,23 +70,20 @@ fn few_aside(alloc: Global, drawing: &Drawing) -> Result<Option<Aside>, Memory>
                 let on_others = numbered(&rest.numbers, on);
                 return Ok(Some(Aside { marks, on_others }));
             }
-            Settling::Near { first, second } => {
-                mark(&mut marks, &rest.numbers, first);
-                mark(&mut marks, &rest.numbers, second);
-            }
+            Settling::Near(near) => mark_near(&mut marks, &rest.numbers, &near),
             Settling::Unsettled => return Ok(None),
         }
     }
     Ok(None)
 }
 
-/// Marks the curve of this place among the numbers.
-fn mark(marks: &mut [bool], numbers: &[u32], place: u32)
+/// Marks the curves whose places among the numbers are marked.
+fn mark_near(marks: &mut [bool], numbers: &[u32], near: &[bool])
     ensures { length marks.new ≡ length marks.old }
 {
-    if let Some(number) = numbers.get(place as usize) {
-        if let Some(mark) = marks.get_mut(*number as usize) {
-            *mark = true;
+    for place in 0..near.len() {
+        if near[place] {
+            mark(marks, numbers, place);
         }
     }
 }

@@ -18,9 +18,11 @@
 //!   a level above 0 are listed (`missing_tubes`). Of two bad edges the two curves are tested
 //!   (`bad_edges`): where they are bad, they are the answer; else each next level that these two
 //!   break is passed over without its edges (`finding`). Where no level settles, or two curves are
-//!   bad of a drawing of at most 2,048 curves, bad pairs are looked for among all curves, two
-//!   straights first and then the least pair with a half arc, then points on curves (`on_curves`),
-//!   then the least pair that breaks level 5 (`unsettled`). Of a drawing that a level settles, with
+//!   bad of a drawing of at most 2,048 curves, bad pairs are looked for, two straights first and
+//!   then the least pair with a half arc, then points on curves (`on_curves`), then the least pair
+//!   that breaks level 5 (`unsettled`). Where half arcs have many others near them, curves that are
+//!   near each other at level 5 are first set aside, until it settles the drawing of the others:
+//!   then only pairs with one of these are tested (`aside`). Of a drawing that a level settles, with
 //!   a complete run of its edges at that level (`finishing`): one replay of the run for the places
 //!   of the points, which say for each whether it lies on a curve, in the tube of a half arc or in a
 //!   cell (`spots`), after which the edges are freed but for what they stand for; one for the mesh of
@@ -35,9 +37,11 @@
 //! Cost: O((m + p + events) log (m + p)) for m edges and p points, and what the live list moves in
 //! the sweep and in two replays; some 240 bytes an edge at the peak. Where level 0 does not settle,
 //! at each further level two tubes where the two curves of the last bad edges break it too, else
-//! its tubes and a sweep of its edges up to two that are bad. Where no level settles, two sweeps of
-//! the straights more, half arcs times the curves and points that begin within their boxes, and
-//! half arcs times the groups of edges that begin within their boxes.
+//! its tubes and a sweep of its edges up to two that are bad. Where no level settles: a sweep of the
+//! straights, the tubes of level 5, and curves set aside times the curves, points and groups of
+//! edges that begin within their boxes. Set aside are all half arcs, or, where these have more than
+//! some 32 others near them on the average, those few without which level 5 settles the drawing,
+//! if up to 16 sweeps of its edges find them.
 #![tactic(auto)]
 
 mod aside;

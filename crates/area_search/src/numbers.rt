@@ -27,3 +27,14 @@ fn is_marked(marks: &[bool], number: usize, mark: bool) -> bool
 {
     marks[number] == mark
 }
+
+/// Marks the number at this place of the list.
+pub(crate) fn mark(marks: &mut [bool], numbers: &[u32], place: usize)
+    ensures { length marks.new ≡ length marks.old }
+{
+    if let Some(number) = numbers.get(place) {
+        if let Some(mark) = marks.get_mut(*number as usize) {
+            *mark = true;
+        }
+    }
+}

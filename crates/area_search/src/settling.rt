@@ -2,7 +2,7 @@
 ghost use Rattle.std.specs.Prelude.{◌≡◌, ◌^◌, ◌<◌, ◌≤◌, [], IfOk, length};
 ghost use Rattle.line_sweep.specs.Kinds.{gaps_of};
 ghost use Rattle.line_sweep.specs.Sweeping.{HasTimetable};
-ghost use Rattle.plane.specs.Rule.Plans.{Plan, plan};
+ghost use Rattle.plane.specs.Rule.Plans.{plan};
 ghost use Rattle.plane.specs.Runs.Gaps.{closed_gaps};
 ghost use Rattle.plane.specs.Runs.Moves.{Fit, steps_from};
 ghost use Rattle.plane.specs.Runs.Steps.{Run};
@@ -13,10 +13,11 @@ ghost use Rattle.area_search.specs.SetAside.{IsSettling};
 use super::case::Case;
 use super::cell_sides::unpaired_curve;
 use super::finishing::spots_of_run;
+use super::numbers::mark;
 use super::points::OnCurve;
 use super::settled_runs::settled_facings;
 use super::spots::first_spot_on;
-use line_sweep::{SweepRefusal, Swept, sweep};
+use line_sweep::{SweepRefusal, Swept, clashing, sweep};
 use plane::Drawing;
 use ports::Memory;
 use std::alloc::Global;
@@ -27,8 +28,8 @@ use tubes::{EdgeList, Owner, edge_list, facings};
 pub(crate) enum Settling {
     /// It settles the drawing; and the first point on a curve, if there is one.
     Settled(Option<OnCurve>),
-    /// It does not, by these two curves, or by this one, named twice.
-    Near { first: u32, second: u32 },
+    /// It does not, since these curves, by their marks, are near others; there may be more of them.
+    Near(Vec<bool>),
     /// It does not.
     Unsettled,
 }
@@ -55,22 +56,39 @@ fn settle_list(alloc: Global, drawing: &Drawing, list: EdgeList) -> Result<Settl
 {
     match sweep(alloc, &list.edges) {
         Ok(swept) => settle_run(alloc, drawing, list, &swept),
-        Err(SweepRefusal::Bad { first, second }) => Ok(near(&list.owners, first, second)),
+        Err(SweepRefusal::Bad { first, second }) => {
+            near_edges(alloc, drawing, &list, first, second)
+        }
         Err(SweepRefusal::Memory) => Err(Memory),
     }
 }
 
-/// The curves of two edges.
-fn near(owners: &[Owner], first: u32, second: u32) -> Settling
-    ensures { (d : Plan) → IsSettling d result }
+/// The curves of edges that are bad, those of these two among them.
+fn near_edges(
+    alloc: Global,
+    drawing: &Drawing,
+    list: &EdgeList,
+    first: u32,
+    second: u32,
+) -> Result<Settling, Memory>
+    requires few { length list.now.edges.items < 2 ^ 31 }
+    requires usable { AreUsable (plan drawing.now) list.now.edges.items }
+    ensures { IfOk result (IsSettling (plan drawing.now)) }
 {
-    match (owners.get(first as usize), owners.get(second as usize)) {
-        (Some(one), Some(other)) => Settling::Near {
-            first: one.curve,
-            second: other.curve,
-        },
-        _ => Settling::Unsettled,
+    let curves = curve_numbers(alloc, &list.owners)?;
+    let mut near = clashing(alloc, &list.edges, &curves, drawing.curves.len())?;
+    mark(&mut near, &curves, first as usize);
+    mark(&mut near, &curves, second as usize);
+    Ok(Settling::Near(near))
+}
+
+/// The curve of each edge.
+fn curve_numbers(alloc: Global, owners: &[Owner]) -> Result<Vec<u32>, Memory> {
+    let mut curves = Vec::with_capacity(alloc, owners.len())?;
+    for owner in owners {
+        curves.push(owner.curve)?;
     }
+    Ok(curves)
 }
 
 /// The same, with a complete run of the edges.
@@ -117,11 +135,10 @@ fn near_cell(
 {
     tubes::laws::chains_have_edges();
     let facings = facings(alloc, drawing, list)?;
-    match unpaired_curve(&swept.cells, &facings, &list.owners) {
-        Some(curve) => Ok(Settling::Near {
-            first: curve,
-            second: curve,
-        }),
-        None => Ok(Settling::Unsettled),
-    }
+    let Some(curve) = unpaired_curve(&swept.cells, &facings, &list.owners) else {
+        return Ok(Settling::Unsettled);
+    };
+    let mut near = vec![in alloc; false; drawing.curves.len()]?;
+    mark(&mut near, &[curve], 0);
+    Ok(Settling::Near(near))
 }

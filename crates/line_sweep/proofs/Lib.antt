@@ -8,3 +8,4 @@ pub mod CellEdges
 pub mod NextEvent
 pub mod Stepping
 pub mod TimedMoves
+pub mod LiveNumbers

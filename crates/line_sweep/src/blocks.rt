@@ -33,7 +33,7 @@ pub fn find_block(live: &Row<u32>, edges: &[Edge], at: Point) -> Result<Block, u
 }
 
 /// The place after the edges from `from` on that end at the event.
-fn block_end(live: &Row<u32>, edges: &[Edge], at: Point, from: usize) -> usize
+pub fn block_end(live: &Row<u32>, edges: &[Edge], at: Point, from: usize) -> usize
     requires known { AreBelow (length edges.now) live.now }
     requires place { from ≤ length live.now }
     ensures least { from ≤ result }

@@ -171,7 +171,7 @@ fn block_at(
 }
 
 /// An edge that ends or starts at the event.
-fn edge_of_event(edges: &[Edge], table: &Timetable, event: u32) -> u32
+pub fn edge_of_event(edges: &[Edge], table: &Timetable, event: u32) -> u32
     requires table { IsTimetable (length edges.now) (edge_of edges.now) (table_of table.now) }
     requires event { event < length (table_of table.now) }
     ensures known { result < length edges.now }

@@ -11,10 +11,10 @@ use std::alloc::Global;
 /// For each box so many others may begin within a marked one along x, and so many may share a place
 /// with a marked one, before there are many.
 const MOST_BESIDE: usize = 1 << 16;
-const MOST_NEAR: usize = 64;
+const MOST_NEAR: usize = 32;
 
 /// Whether a search for the least pair looks at many pairs: for each box on the average, at more
-/// than 2^16 by their extents along x, or at more than 64 that share a place. No answer rests on
+/// than 2^16 by their extents along x, or at more than 32 that share a place. No answer rests on
 /// it: it says which of two ways is shorter. The only error is out of memory. It takes a sort, and
 /// stops where there are many; and 32 bytes for each box.
 pub fn are_many(alloc: Global, boxes: &[Reach], marked: &[bool]) -> Result<bool, Memory>

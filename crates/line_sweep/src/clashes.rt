@@ -1,0 +1,190 @@
+// Groups of edges that are in the way of a sweep.
+ghost use Rattle.std.specs.Prelude.{◌≡◌, ℕ, ◌^◌, ◌<◌, IfOk, OnOk, length};
+ghost use Rattle.plane.specs.Lists.{Has};
+ghost use Rattle.plane.specs.Runs.Timetables.{IsTimetable};
+ghost use Rattle.straight_predicates.specs.EdgeLists.{edge_of, AreAllClose, AreBelow, AreSorted};
+ghost use Rattle.straight_predicates.specs.EdgeLists.{IsCloseToAll};
+ghost use Rattle.straight_predicates.specs.Tables.{table_of};
+
+use super::blocks::block_end;
+use super::sweeping::edge_of_event;
+use plane::{Edge, Point};
+use ports::Memory;
+use std::alloc::Global;
+use straight_predicates::{Meet, Row, Timetable, Turn, cut, meet, turn_over};
+
+/// The groups of edges by the numbers of the edges, and a mark for each group.
+#[derive(Drop)]
+struct Marks<'a> {
+    groups: &'a [u32],
+    marks: Vec<bool>,
+}
+
+impl<'a> Marks<'a> {
+    ghost use Rattle.std.specs.Prelude.{◌≡◌, length};
+
+    fn has(&self, edge: u32) -> bool {
+        match self.groups.get(edge as usize) {
+            Some(group) => matches!(self.marks.get(*group as usize), Some(true)),
+            None => false,
+        }
+    }
+
+    fn set(&mut self, edge: u32)
+        ensures { length self.new.marks.items ≡ length self.old.marks.items }
+    {
+        if let Some(group) = self.groups.get(edge as usize) {
+            if let Some(mark) = self.marks.get_mut(*group as usize) {
+                *mark = true;
+            }
+        }
+    }
+}
+
+/// Marks for so many groups of edges: those of two edges that a sweep finds to be bad. It goes on
+/// without the edges of marked groups; so where few groups are in the way of each other, a sweep of
+/// the others will most often find nothing bad. No clause says that: who needs it sweeps them.
+/// `groups` has the group of each edge. The only error is out of memory. It takes the time of a
+/// sweep, and at each event that marks a group a pass over the live list.
+pub fn clashing(
+    alloc: Global,
+    edges: &[Edge],
+    groups: &[u32],
+    count: usize,
+) -> Result<Vec<bool>, Memory>
+    requires few { length edges.now < 2 ^ 31 }
+    requires sorted { AreSorted edges.now }
+    requires close { AreAllClose edges.now }
+    ensures { IfOk result (λ marks. length marks.items ≡ count) }
+{
+    let table = Timetable::new(alloc, edges)?;
+    let mut marks = Marks {
+        groups,
+        marks: vec![in alloc; false; count]?,
+    };
+    let mut live = Row::new(alloc);
+    let mut room = Vec::new(alloc);
+    let mut all = Vec::new(alloc);
+    for event in 0..table.events() {
+        if pass(edges, &table, event, &mut live, &mut marks, &mut room)? {
+            drop_marked(edges, &mut live, &marks, &mut all, &mut room)?;
+        }
+    }
+    Ok(marks.marks)
+}
+
+/// Puts the starting edges of the event that are not marked in the place of those that end there,
+/// and marks the groups of edges that are bad there. Whether there are some.
+fn pass(
+    edges: &[Edge],
+    table: &Timetable,
+    event: u32,
+    live: &mut Row<u32>,
+    marks: &mut Marks<'_>,
+    room: &mut Vec<u32>,
+) -> Result<bool, Memory>
+    requires few { length edges.now < 2 ^ 31 }
+    requires sorted { AreSorted edges.now }
+    requires close { AreAllClose edges.now }
+    requires table { IsTimetable (length edges.now) (edge_of edges.now) (table_of table.now) }
+    requires event { event < length (table_of table.now) }
+    requires known { AreBelow (length edges.now) live.old }
+    ensures known { OnOk result (AreBelow (length edges.now) live.new) }
+    ensures marks { length marks.new.marks.items ≡ length marks.old.marks.items }
+{
+    let at = table.at(event);
+    let from = cut(live, edges, at);
+    let upto = block_end(live, edges, at, from);
+    let through = upto < live.len() && goes_through(edges, live.get(upto), at);
+    if through {
+        marks.set(live.get(upto));
+        marks.set(edge_of_event(edges, table, event));
+    }
+    unmarked(table.starting(event), marks, room)?;
+    live.replace(from, upto - from, room)?;
+    let bad = mark_neighbours(edges, live, from, room.len(), marks);
+    Ok(through || bad)
+}
+
+/// Whether the edge, which does not end at the point, goes through it.
+fn goes_through(edges: &[Edge], edge: u32, at: Point) -> bool
+    requires known { edge < length edges.now }
+    requires close { IsCloseToAll edges.now at }
+{
+    turn_over(edges, edge, at) == Turn::Straight
+}
+
+/// The edges whose groups are not marked.
+fn unmarked(edges: &[u32], marks: &Marks<'_>, room: &mut Vec<u32>) -> Result<(), Memory>
+    ensures { OnOk result ((e : ℕ) → Has e room.new.items → Has e edges.now) }
+{
+    room.clear();
+    for edge in edges {
+        if !marks.has(*edge) {
+            room.push(*edge)?;
+        }
+    }
+    Ok(())
+}
+
+/// Marks the groups of neighbours that are bad, from the edge before the place to the one after so
+/// many others. Whether there are some.
+fn mark_neighbours(
+    edges: &[Edge],
+    live: &Row<u32>,
+    from: usize,
+    count: usize,
+    marks: &mut Marks<'_>,
+) -> bool
+    requires sorted { AreSorted edges.now }
+    requires close { AreAllClose edges.now }
+    requires known { AreBelow (length edges.now) live.now }
+    ensures { length marks.new.marks.items ≡ length marks.old.marks.items }
+{
+    let mut any = false;
+    for below in from.saturating_sub(1)..from.saturating_add(count) {
+        if let Some((lower, upper)) = bad_neighbours(edges, live, below) {
+            marks.set(lower);
+            marks.set(upper);
+            any = true;
+        }
+    }
+    any
+}
+
+/// The edge at the place and the next one, if they are bad.
+fn bad_neighbours(edges: &[Edge], live: &Row<u32>, below: usize) -> Option<(u32, u32)>
+    requires sorted { AreSorted edges.now }
+    requires close { AreAllClose edges.now }
+    requires known { AreBelow (length edges.now) live.now }
+{
+    let above = below.checked_add(1)?;
+    if live.len() <= above {
+        return None;
+    }
+    let lower = live.get(below);
+    let upper = live.get(above);
+    if meet(&edges[lower as usize], &edges[upper as usize]) == Meet::Bad {
+        Some((lower, upper))
+    } else {
+        None
+    }
+}
+
+/// Takes the edges of marked groups out of the live list.
+fn drop_marked(
+    edges: &[Edge],
+    live: &mut Row<u32>,
+    marks: &Marks<'_>,
+    all: &mut Vec<u32>,
+    room: &mut Vec<u32>,
+) -> Result<(), Memory>
+    requires { AreBelow (length edges.now) live.old }
+    ensures { OnOk result (AreBelow (length edges.now) live.new) }
+{
+    let size = live.len();
+    live.copy_part(0, size, all)?;
+    unmarked(all, marks, room)?;
+    live.replace(0, size, room)?;
+    Ok(())
+}
