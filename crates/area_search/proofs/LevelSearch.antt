@@ -1,5 +1,5 @@
 -- Levels that settle a drawing, and the curves of their edges.
-use Rattle.std.proofs.Common.{◌≡◌, ◌⊎◌, inl, inr, ℕ, ◌*◌, ◌<◌, ◌≤◌, ◌^◌, Some, List, length, arith, refl, ap, ◌∙◌, subst}
+use Rattle.std.proofs.Common.{◌≡◌, ◌⊎◌, inl, inr, ℕ, ◌<◌, ◌≤◌, Some, List, length, arith, refl, ap, ◌∙◌, subst}
 use Rattle.plane.specs.Forms.Meets.{Bad, Disjoint, Touch}
 use Rattle.plane.specs.Rule.BadPairs.{IsBadPair}
 use Rattle.plane.specs.Rule.Plans.{Plan, curve}

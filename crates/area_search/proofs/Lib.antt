@@ -12,7 +12,6 @@ pub mod CaseCurves
 pub mod CaseSideLaws
 pub mod CaseFaults
 pub mod CaseMesh
-pub mod CaseMaking
 pub mod ListPlaces
 pub mod TubedLaws
 pub mod CertifiedMoves

@@ -12,7 +12,6 @@ use Rattle.plane.specs.Rule.Windows.{IsDrawn, IsInside}
 use Rattle.plane.specs.Runs.Moves.{Move, steps_from}
 use Rattle.plane.specs.Runs.Steps.{Run}
 use Rattle.plane.specs.declared.kinds.Curve.{Curve}
-use Rattle.plane.specs.declared.kinds.CurveKind.{CurveKind}
 use Rattle.plane.specs.declared.kinds.CurveKind.TheVariants as kind
 use Rattle.plane.specs.declared.kinds.Edge.{Edge}
 use Rattle.plane.specs.declared.kinds.Placed.{Placed}

@@ -1,7 +1,7 @@
 -- Curves of a drawing that are set aside, and the drawing of the others.
 use Rattle.std.specs.Prelude.{◌≡◌, ℕ, ◌<◌, Bool, true, false, Option, Some, None, List, length, ⊤}
 use Rattle.std.specs.Prelude.{slice_index}
-use Rattle.plane.specs.Rule.Plans.{Plan, curve, plan}
+use Rattle.plane.specs.Rule.Plans.{Plan, plan}
 use Rattle.plane.specs.declared.kinds.Curve.{Curve}
 use Rattle.plane.specs.declared.kinds.CurveKind.TheVariants as kind
 use Rattle.near_pairs.specs.Boxes.{IsOneMarked, mark_of}

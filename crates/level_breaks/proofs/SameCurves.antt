@@ -1,5 +1,5 @@
 -- Whether two curves break a level does not depend on their numbers, nor on what else is drawn.
-use Rattle.std.proofs.Common.{◌≡◌, ◌⊎◌, inl, inr, ℕ, ◌<◌, List, [], ◌∷◌, ◌++◌, length, refl, ap, sym, ◌∙◌, subst, pos, ◌≤ℤ◌}
+use Rattle.std.proofs.Common.{◌≡◌, inl, inr, ℕ, ◌<◌, List, [], ◌∷◌, ◌++◌, length, refl, ap, sym, subst, pos, ◌≤ℤ◌}
 use Rattle.plane.specs.CurveRuns.TubedRuns as runs
 use Rattle.plane.specs.Forms.Meets.{Bad, IsEnd}
 use Rattle.plane.specs.Forms.Vectors.{point}

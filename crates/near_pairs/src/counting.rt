@@ -8,9 +8,10 @@ use super::reaches::Reach;
 use ports::Memory;
 use std::alloc::Global;
 
-/// For each box so many others may begin within a marked one along x, and so many may share a place
-/// with a marked one, before there are many.
+/// So many boxes may begin within a marked one along x, for each box, before there are many.
 const MOST_BESIDE: usize = 1 << 16;
+
+/// So many of them may share a place with it.
 const MOST_NEAR: usize = 32;
 
 /// Whether a search for the least pair looks at many pairs: for each box on the average, at more

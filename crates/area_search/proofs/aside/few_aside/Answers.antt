@@ -1,4 +1,4 @@
-use Rattle.std.proofs.Common.{List, Bool, ℕ, length, subst, sym}
+use Rattle.std.proofs.Common.{List, Bool, ℕ, subst}
 use Rattle.plane.specs.Rule.Plans.{plan}
 use Rattle.area_search.specs.SetAside.{IsNumbered, IsRest, IsSettling}
 use Rattle.area_search.proofs.SetAsideCurves.{few_are_aside}

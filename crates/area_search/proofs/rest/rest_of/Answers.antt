@@ -1,4 +1,4 @@
-use Rattle.std.proofs.Common.{All, List, ℕ, arith, length, subst, sym, ◌∙◌, false}
+use Rattle.std.proofs.Common.{All, ℕ, subst, sym, ◌∙◌, false}
 use Rattle.plane.specs.Rule.Plans.{plan}
 use Rattle.plane.specs.Rule.Windows.{IsInside}
 use Rattle.plane.specs.declared.kinds.Placed.{Placed}

@@ -1,4 +1,4 @@
-use Rattle.std.proofs.Common.{rules, arith, pos, ℕ, ◌≡◌, ◌<◌, ◌^◌, ◌∙◌, false, IsTrue, List, [], length, sym, subst}
+use Rattle.std.proofs.Common.{rules, arith, pos, ℕ, ◌≡◌, ◌<◌, false, IsTrue, List, [], length, sym, subst}
 use Rattle.plane.specs.Rule.Plans.{plan}
 use Rattle.plane.specs.Runs.Moves.{steps_from}
 use Rattle.tubes.specs.TubedEdges.{drawn_bays}

@@ -1,6 +1,6 @@
-use Rattle.std.proofs.Common.{ℕ, List, length, get_or, sym, subst, ◌+◌, ◌-◌, ◌≡◌, take, drop, ◌++◌, arith, ◌∙◌, ap}
+use Rattle.std.proofs.Common.{length, sym, subst, ◌+◌, ◌-◌}
 use Rattle.plane.specs.Lists.{Has}
-use Rattle.straight_predicates.specs.EdgeLists.{AreBelow, IsCloseToAll}
+use Rattle.straight_predicates.specs.EdgeLists.{IsCloseToAll}
 use Rattle.straight_predicates.specs.Tables.{table_of}
 use Rattle.line_sweep.proofs.EventEdges.{close_event, starting_below}
 use Rattle.line_sweep.proofs.LiveNumbers.{replaced}

@@ -1,4 +1,4 @@
-use Rattle.std.proofs.Common.{ap, ◌∙◌, subst, ℕ}
+use Rattle.std.proofs.Common.{ap, ◌∙◌, subst}
 use Rattle.plane.specs.Lists.{Has}
 use Rattle.line_sweep.proofs.LiveNumbers.{one_more}
 use Rattle.line_sweep.proofs.clashes.unmarked.Goals as goal
