@@ -39,9 +39,9 @@
 //! at each further level two tubes where the two curves of the last bad edges break it too, else
 //! its tubes and a sweep of its edges up to two that are bad. Where no level settles: a sweep of the
 //! straights, the tubes of level 5, and curves set aside times the curves, points and groups of
-//! edges that begin within their boxes. Set aside are all half arcs, or, where these have more than
-//! some 32 others near them on the average, those few without which level 5 settles the drawing,
-//! if up to 16 sweeps of its edges find them.
+//! edges that begin within their boxes. Set aside are all half arcs; or, where these have more than
+//! some 32 others near them on the average, those without which level 5 settles the drawing, if up
+//! to eight times two sweeps of its edges find them.
 #![tactic(auto)]
 
 mod aside;
