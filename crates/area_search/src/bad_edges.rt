@@ -58,8 +58,8 @@ fn shown_by_curves(drawing: &Drawing, pair: CurvePair) -> Shown
     }
 }
 
-/// The same, where they are bad: these two, or of a drawing of few curves no more than that it is at
-/// fault, since its least pair is looked for among all pairs.
+/// The same, where they are bad: these two, or of a drawing of few curves no more than that it is
+/// at fault, since its least pair is looked for among all pairs.
 fn shown_by_bad(drawing: &Drawing, pair: CurvePair) -> Shown
     requires { IsBadPair (plan drawing.now) pair.first pair.second }
     ensures { (level : ℕ) → IsShown (plan drawing.now) level result }

@@ -22,14 +22,15 @@
 //!   then the least pair with a half arc, then points on curves (`on_curves`), then the least pair
 //!   that breaks level 5 (`unsettled`). Where half arcs have many others near them, curves that are
 //!   near each other at level 5 are first set aside, until it settles the drawing of the others:
-//!   then only pairs with one of these are tested (`aside`). Of a drawing that a level settles, with
-//!   a complete run of its edges at that level (`finishing`): one replay of the run for the places
-//!   of the points, which say for each whether it lies on a curve, in the tube of a half arc or in a
-//!   cell (`spots`), after which the edges are freed but for what they stand for; one for the mesh of
-//!   its half-edges, after which the events of the run are freed but for their positions; the faces
-//!   of the mesh by what its cells join, and those beside each curve (`case_sides`); and links from
-//!   each half-edge to the border, a tube or a point. What the certificate says is what the run, the
-//!   places, the faces and the links are; `certificate_checker` judges it without any of them.
+//!   then only pairs with one of these are tested (`aside`). Of a drawing that a level settles,
+//!   with a complete run of its edges at that level (`finishing`): one replay of the run for the
+//!   places of the points, which say for each whether it lies on a curve, in the tube of a half arc
+//!   or in a cell (`spots`), after which the edges are freed but for what they stand for; one for
+//!   the mesh of its half-edges, after which the events of the run are freed but for their
+//!   positions; the faces of the mesh by what its cells join, and those beside each curve
+//!   (`case_sides`); and links from each half-edge to the border, a tube or a point. What the
+//!   certificate says is what the run, the places, the faces and the links are;
+//!   `certificate_checker` judges it without any of them.
 //! - **Degenerate cases.** No line, no point, several rings, holes, lines that end inside a region,
 //!   rings that touch in a vertex, equal points and points at vertices are all taken.
 //! - **Not here:** names of areas, lines of the transfer, and the text of a certificate.
@@ -37,8 +38,8 @@
 //! Cost: O((m + p + events) log (m + p)) for m edges and p points, and what the live list moves in
 //! the sweep and in two replays; some 240 bytes an edge at the peak. Where level 0 does not settle,
 //! at each further level two tubes where the two curves of the last bad edges break it too, else
-//! its tubes and a sweep of its edges up to two that are bad. Where no level settles: a sweep of the
-//! straights, the tubes of level 5, and curves set aside times the curves, points and groups of
+//! its tubes and a sweep of its edges up to two that are bad. Where no level settles: a sweep of
+//! the straights, the tubes of level 5, and curves set aside times the curves, points and groups of
 //! edges that begin within their boxes. Set aside are all half arcs; or, where these have more than
 //! some 32 others near them on the average, those without which level 5 settles the drawing, if up
 //! to eight times two sweeps of its edges find them.
