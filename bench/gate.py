@@ -1,22 +1,26 @@
 #!/usr/bin/env python3
-"""Prints the processor minutes that the gate takes for each crate: its proof, that of its tests and
-its edits.
+"""Runs the gate from nothing, and prints the processor minutes that it takes for each crate: its
+proof, that of its tests and its edits.
 
-Runs `rt ci NAME` for each crate once those that it depends on have passed, some side by side, and
-counts the user and system time of each run with all its children. What a run of `rt ci` on this
-machine has passed before is not done again, so the figures are those of the whole gate only where
-nothing was kept; a crate that took less than a tenth of a minute is marked as kept. Ends at the
-first crate that fails, with the end of its log.
+It runs `.ci/run` and looks once a second at the processes of the prover, each of which names its
+crate; what a process takes after the last look goes uncounted, at most a second of it. The last
+lines have the sums, the time of the clock, and what the same tasks would take on fewer processors:
+not seen but computed, each task on one processor, those with the longest way to the end first, as
+`rt ci` takes them. Its status is that of the gate.
 
-usage: bench/gate.py [SIDE_BY_SIDE]      (half the processors where no number is given)
+usage: bench/gate.py
 """
+import collections
 import os
+import resource
 import subprocess
 import sys
 import tempfile
 import time
 
 TOP = os.path.dirname(os.path.dirname(os.path.abspath(__file__)))
+KINDS = ("proof", "tests", "edits")
+TICKS = os.sysconf("SC_CLK_TCK") * 60
 
 
 def crates():
@@ -27,50 +31,79 @@ def crates():
     return {name: [other for other in rest.split() if other in names] for name, rest in rows}
 
 
-class Run:
-    """A run of `rt ci` for one crate."""
+def look(seen):
+    """Notes for each process of the prover its crate, what it does and its minutes so far."""
+    for pid in filter(str.isdigit, os.listdir("/proc")):
+        try:
+            with open(f"/proc/{pid}/cmdline", "rb") as file:
+                words = file.read().decode(errors="replace").split("\0")
+            if os.path.basename(words[0]) != "rattle" or "--crate-name" not in words:
+                continue
+            with open(f"/proc/{pid}/stat") as file:
+                fields = file.read().rsplit(")", 1)[1].split()
+            folder = os.readlink(f"/proc/{pid}/cwd")
+        except OSError:
+            continue
+        kind = "edits" if "rt-edit-" in folder else "tests" if "--test" in words else "proof"
+        name = words[words.index("--crate-name") + 1]
+        seen[pid, fields[19]] = name, kind, sum(map(int, fields[11:15])) / TICKS
 
-    def __init__(self, name):
-        self.name = name
-        self.log = tempfile.TemporaryFile()
-        self.begun = time.time()
-        self.child = subprocess.Popen(
-            ["rt", "ci", name], cwd=TOP, stdin=subprocess.DEVNULL, stdout=self.log, stderr=self.log
-        )
 
-    def ended(self):
-        """The minutes of processors and of the clock, once the run has ended well."""
-        pid, status, usage = os.wait4(self.child.pid, os.WNOHANG)
-        if pid == 0:
-            return None
-        if status != 0:
-            self.log.seek(0)
-            lines = self.log.read().decode(errors="replace").splitlines()
-            sys.exit("\n".join([f"{self.name} fails"] + lines[-40:]))
-        return (usage.ru_utime + usage.ru_stime) / 60, (time.time() - self.begun) / 60
+def gate():
+    """The minutes by crate and kind, of the clock and of all processes; and the status."""
+    seen, begun = {}, time.time()
+    with tempfile.TemporaryFile() as log:
+        child = subprocess.Popen([os.path.join(TOP, ".ci", "run")], stdin=subprocess.DEVNULL, stdout=log, stderr=log)
+        while child.poll() is None:
+            look(seen)
+            time.sleep(1)
+        log.seek(0)
+        lines = log.read().decode(errors="replace").splitlines()
+    print("\n".join(lines[-40:] if child.returncode else lines[-1:]))
+    minutes = collections.defaultdict(float)
+    for name, kind, taken in seen.values():
+        minutes[name, kind] += taken
+    usage = resource.getrusage(resource.RUSAGE_CHILDREN)
+    return minutes, (time.time() - begun) / 60, (usage.ru_utime + usage.ru_stime) / 60, child.returncode
+
+
+def on_processors(number, below, minutes):
+    """How long the tasks take on so many processors, each on one of them."""
+    waits = {}
+    for name, others in below.items():
+        proofs = [(other, "proof") for other in others]
+        waits[name, "proof"] = waits[name, "tests"] = proofs
+        waits[name, "edits"] = [(name, "proof"), (name, "tests")]
+    way = collections.defaultdict(float)
+    for task in reversed(waits):
+        way[task] += minutes[task]
+        for other in waits[task]:
+            way[other] = max(way[other], way[task])
+    left, ended, running, now = sorted(waits, key=lambda task: -way[task]), set(), [], 0.0
+    while left or running:
+        ready = [task for task in left if all(other in ended for other in waits[task])]
+        for task in ready[: number - len(running)]:
+            left.remove(task)
+            running.append((now + minutes[task], task))
+        running.sort()
+        now, task = running.pop(0)
+        ended.add(task)
+    return now
 
 
 def main():
-    side_by_side = int(sys.argv[1]) if len(sys.argv) > 1 else max(1, (os.cpu_count() or 1) // 2)
-    waiting, running, passed = crates(), [], []
-    begun, total = time.time(), 0.0
-    print("%-20s %10s %8s" % ("crate", "processor", "clock"))
-    while waiting or running:
-        for name in [it for it, below in waiting.items() if all(one in passed for one in below)]:
-            if len(running) < side_by_side:
-                running.append(Run(name))
-                del waiting[name]
-        time.sleep(1)
-        for run in running[:]:
-            minutes = run.ended()
-            if minutes is None:
-                continue
-            running.remove(run)
-            passed.append(run.name)
-            total += minutes[0]
-            kept = "  (kept)" if minutes[0] < 0.1 else ""
-            print("%-20s %10.1f %8.1f%s" % (run.name, *minutes, kept), flush=True)
-    print("%-20s %10.1f %8.1f" % ("all", total, (time.time() - begun) / 60))
+    below = crates()
+    minutes, clock, whole, status = gate()
+    print("%-20s %8s %8s %8s %8s" % ("crate", *KINDS, "all"))
+    sums = {name: sum(minutes[name, kind] for kind in KINDS) for name in below}
+    for name in sorted(below, key=lambda name: -sums[name]):
+        print("%-20s %8.1f %8.1f %8.1f %8.1f" % (name, *(minutes[name, kind] for kind in KINDS), sums[name]))
+    parts = [sum(minutes[name, kind] for name in below) for kind in KINDS]
+    print("%-20s %8.1f %8.1f %8.1f %8.1f" % ("all", *parts, sum(parts)))
+    print("%.0f processor minutes with all else, %.0f minutes of the clock" % (whole, clock))
+    for number in (2, 4):
+        print("on %d processors, computed: %.0f minutes" % (number, on_processors(number, below, minutes)))
+    sys.exit(status)
 
 
 if __name__ == "__main__":

@@ -116,6 +116,12 @@ ARCP 512.000 504.000
 LIPT 520.000 520.000
 ELIN
 """
+# a spiral of half turns, each 2 wider than the one before
+SPIRAL = "OBJE 9\nSTPT 510.000 500.000\n"
+for radius in range(11, 91, 2):
+    at, side = (499, 1) if radius % 4 == 3 else (501, -1)
+    SPIRAL += "ARCP %d.000 %d.000\nLIPT %d.000 500.000\n" % (at, 500 + side * radius, at - side * radius)
+SPIRAL += "ELIN\n"
 
 
 def transfer(lines, parcels):
@@ -139,6 +145,10 @@ CHECKS = [
     ("a circle of two arcs", "check", MODEL, ROUND, None, 0),
     ("a circle, and a square that level 0 does not settle", "check", MODEL, NEAR, None, 0),
     ("two arcs that begin in one direction", "check", MODEL, transfer(FORKED, ""), None, 2),
+    ("two such arcs beside a spiral, where few curves are set aside", "check", MODEL,
+     transfer(SPIRAL + FORKED.replace("500.000 500.000", "300.000 100.000").replace("506.000 502.000", "306.000 102.000")
+              .replace("510.000 510.000", "310.000 110.000").replace("512.000 504.000", "312.000 104.000")
+              .replace("520.000 520.000", "320.000 120.000"), ""), None, 2),
     ("two lines that meet", "check", MODEL, CROSSED, None, 1),
     ("wrong rows", "check", MODEL, WRONG, None, 1),
     ("a transfer that ends too soon", "check", MODEL, SQUARE[:150], None, 1),
