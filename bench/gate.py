@@ -3,8 +3,8 @@
 proof, that of its tests and its edits.
 
 It runs `.ci/run` and looks once a second at the processes of the prover, each of which names its
-crate; what a process takes after the last look goes uncounted, at most a second of it. The last
-lines have the sums, the time of the clock, and what the same tasks would take on fewer processors:
+crate; what a process takes after the last look goes uncounted, at most a second of it, and so does
+the building and running of programs. The last lines have the sums, the time of the clock, and what the same tasks would take on fewer processors:
 not seen but computed, each task on one processor, those with the longest way to the end first, as
 `rt ci` takes them. Its status is that of the gate.
 
@@ -12,7 +12,6 @@ usage: bench/gate.py
 """
 import collections
 import os
-import resource
 import subprocess
 import sys
 import tempfile
@@ -50,7 +49,7 @@ def look(seen):
 
 
 def gate():
-    """The minutes by crate and kind, of the clock and of all processes; and the status."""
+    """The minutes by crate and kind, and of the clock; and the status."""
     seen, begun = {}, time.time()
     with tempfile.TemporaryFile() as log:
         child = subprocess.Popen([os.path.join(TOP, ".ci", "run")], stdin=subprocess.DEVNULL, stdout=log, stderr=log)
@@ -63,8 +62,7 @@ def gate():
     minutes = collections.defaultdict(float)
     for name, kind, taken in seen.values():
         minutes[name, kind] += taken
-    usage = resource.getrusage(resource.RUSAGE_CHILDREN)
-    return minutes, (time.time() - begun) / 60, (usage.ru_utime + usage.ru_stime) / 60, child.returncode
+    return minutes, (time.time() - begun) / 60, child.returncode
 
 
 def on_processors(number, below, minutes):
@@ -93,14 +91,14 @@ def on_processors(number, below, minutes):
 
 def main():
     below = crates()
-    minutes, clock, whole, status = gate()
+    minutes, clock, status = gate()
     print("%-20s %8s %8s %8s %8s" % ("crate", *KINDS, "all"))
     sums = {name: sum(minutes[name, kind] for kind in KINDS) for name in below}
     for name in sorted(below, key=lambda name: -sums[name]):
         print("%-20s %8.1f %8.1f %8.1f %8.1f" % (name, *(minutes[name, kind] for kind in KINDS), sums[name]))
     parts = [sum(minutes[name, kind] for name in below) for kind in KINDS]
     print("%-20s %8.1f %8.1f %8.1f %8.1f" % ("all", *parts, sum(parts)))
-    print("%.0f processor minutes with all else, %.0f minutes of the clock" % (whole, clock))
+    print("%.0f minutes of the clock" % clock)
     for number in (2, 4):
         print("on %d processors, computed: %.0f minutes" % (number, on_processors(number, below, minutes)))
     sys.exit(status)
