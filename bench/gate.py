@@ -4,9 +4,10 @@ proof, that of its tests and its edits.
 
 It runs `.ci/run` and looks once a second at the processes of the prover, each of which names its
 crate; what a process takes after the last look goes uncounted, at most a second of it, and so does
-the building and running of programs. The last lines have the sums, the time of the clock, and what the same tasks would take on fewer processors:
-not seen but computed, each task on one processor, those with the longest way to the end first, as
-`rt ci` takes them. Its status is that of the gate.
+the building and running of programs. The last lines have the sums, the time of the clock, and what
+the same tasks would take on two processors and on four: not seen but computed, each task on one
+processor, those with the longest way to the end first, as `rt ci` takes them, and without the
+memory that it plans. Its status is that of the gate.
 
 usage: bench/gate.py
 """
