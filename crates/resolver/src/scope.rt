@@ -5,6 +5,7 @@ ghost use Rattle.resolver.specs.Steps.{steps_of};
 ghost use Rattle.resolver.specs.DomainScopes.{domains_above, steps_above, StepsFrom};
 
 pub mod aliases;
+pub mod all_names;
 pub mod declared;
 pub mod domain_scope;
 pub mod name_index;

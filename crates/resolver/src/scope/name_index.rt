@@ -4,6 +4,7 @@ ghost use Rattle.std.specs.Cmp.Lexicographic.{pointwise};
 ghost use Rattle.indexmap.specs.IndexMap.{get};
 ghost use Rattle.resolver.specs.Indexed.{IsIndex, idents};
 
+use super::all_names::{AllNames, key_of};
 use super::named::Named;
 use crate::earliest::Earliest;
 use crate::faults::ModelCode;
@@ -16,7 +17,7 @@ use std::alloc::Global;
 #[derive(Drop)]
 pub struct NameIndex<'a> {
     names: Vec<&'a Ident>,
-    places: IndexMap<Key<'a>, usize>,
+    places: IndexMap<Key<'a>, usize, AllNames>,
     ghost indexed: { IsIndex (get (pointwise nat_eq) places) (idents names.items) },
 }
 
@@ -31,17 +32,14 @@ fn names<T: Named>(alloc: Global, items: &[T]) -> Result<Vec<&Ident>, Memory>
     Ok(names)
 }
 
-fn key_of(name: &Ident) -> Key<'_>
-    ensures { result ≡ name.now.text }
-{
-    Key::new(name.text.bytes())
-}
-
 // The first place of each name.
-fn first_places<'a>(alloc: Global, names: &[&'a Ident]) -> Result<IndexMap<Key<'a>, usize>, Memory>
+fn first_places<'a>(
+    alloc: Global,
+    names: &[&'a Ident],
+) -> Result<IndexMap<Key<'a>, usize, AllNames>, Memory>
     ensures { IfOk result (λ m. IsIndex (get (pointwise nat_eq) m) (idents names.now)) }
 {
-    let mut places = IndexMap::new(alloc);
+    let mut places = IndexMap::with_hasher(alloc, AllNames::new(names));
     for place in (0..names.len()).rev() {
         places.insert(key_of(names[place]), place)?;
     }
