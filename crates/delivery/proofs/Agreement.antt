@@ -7,29 +7,29 @@ use Rattle.itf_reader.proofs.Readings.{one_transfer, one_refusal as one_fault, n
 use Rattle.itf_reader.specs.Forms.{Row}
 use Rattle.itf_reader.specs.Layouts.{form_of}
 use Rattle.table_layout.specs.Layouts.{Layout}
-use Rattle.delivery.specs.declared.files.File.{File}
-use Rattle.delivery.specs.declared.status.Status.{Status}
-use Rattle.delivery.specs.declared.status.Status.TheVariants.{ReadFault, WriteFault}
+use Rattle.commands.specs.declared.files.File.{File}
+use Rattle.reports.specs.declared.status.Status.{Status}
+use Rattle.reports.specs.declared.status.Status.TheVariants.{ReadFault, WriteFault}
 use Rattle.delivery.specs.Answers.{AgreeFilings, Agree, AgreeUnlessUnread, Answers, IsStopped, IsAnswer}
 use Rattle.delivery.specs.AreaAnswers.{AreAnswers}
 use Rattle.delivery.specs.Verifying.{IsVerification}
 use Rattle.plane.specs.Rule.Plans.{Plan}
 use Rattle.delivery.proofs.Windows.{same_drawings}
-use Rattle.delivery.specs.Commands.{Command, Source, from_file, made, compile, check, verify, trial, limit_of, model_of, further_files}
+use Rattle.commands.specs.Commands.{Command, Source, from_file, made, compile, check, verify, trial, limit_of, model_of, further_files}
 use Rattle.delivery.specs.Deciding.{Decides, formless, formed}
 use Rattle.delivery.specs.FiledTexts as filed_texts
 use Rattle.delivery.specs.FiledTexts.{AreVerified, IsRowsVerified, IsVerified}
-use Rattle.delivery.specs.Gathering as gathering
-use Rattle.delivery.specs.Gathering.{Gathered, Reads, ReadsAll, Compiles, Gathers}
+use Rattle.commands.specs.Gathering as gathering
+use Rattle.commands.specs.Gathering.{Gathered, Reads, ReadsAll, Compiles, Gathers}
 use Rattle.delivery.specs.Causes.{HasOutcome}
 use Rattle.delivery.specs.Judging.{lines_of, objects, AreJudged, IsRowsChecked, faulty, oversized, judged, IsChecked, at_fault, well_formed}
-use Rattle.delivery.specs.ModelTexts.{Refusal, IsRefused, HasLayout}
-use Rattle.delivery.specs.Outcomes.{Filing, Target, check_target, trial_target, Outcome, misbuilt, areas_outcome, verified, report_of}
-use Rattle.delivery.specs.Reading.{IsWhole, IsLonger}
+use Rattle.commands.specs.ModelTexts.{Refusal, IsRefused, HasLayout}
+use Rattle.reports.specs.Outcomes.{Filing, Target, check_target, trial_target, Outcome, misbuilt, areas_outcome, verified, report_of}
+use Rattle.commands.specs.Reading.{IsWhole, IsLonger}
 use Rattle.delivery.proofs.AreaLemmas.{AreaLaws, same_lines, areas_agree}
 use Rattle.delivery.proofs.Causes.{by_write}
-use Rattle.delivery.proofs.OneCommand.{one_command}
-use Rattle.delivery.proofs.ModelTextLemmas.{one_layout, one_refusal, not_refused}
+use Rattle.commands.proofs.OneCommand.{one_command}
+use Rattle.commands.proofs.ModelTextLemmas.{one_layout, one_refusal, not_refused}
 
 -- ---- an outcome agrees with itself
 same_filings : (f : Option Filing) → AgreeFilings f f

@@ -18,12 +18,13 @@ use Rattle.area_search.specs.declared.kinds.AreaAnswer.{AreaAnswer as Found}
 use Rattle.area_search.specs.declared.kinds.AreaAnswer.TheVariants as found
 use Rattle.area_search.specs.declared.kinds.AreaFinding.{AreaFinding}
 use Rattle.delivery.specs.AnswerViews.{certificates_in, named}
-use Rattle.delivery.specs.AreaAnswers.{IsAnswer, faulty, undecided, proved, fault_answer, undecided_answer, proof_answer, plans, AreAnswers}
+use Rattle.delivery.specs.AreaAnswers.{IsAnswer, faulty, undecided, proved, fault_answer, undecided_answer, AreAnswers}
+use Rattle.reports.specs.AreaKinds.{proof_answer, plans}
 use Rattle.delivery.specs.AreaCertificates.{claims_of}
 use Rattle.delivery.specs.AreaLimits.{IsSmallPlan}
 use Rattle.delivery.proofs.CertificateLemmas.{proved_view}
-use Rattle.delivery.specs.AreaNames.{HasTitle, topic_name, table_name}
-use Rattle.delivery.specs.declared.report.lines.AreaAnswer.{AreaAnswer}
+use Rattle.reports.specs.AreaNames.{HasTitle, topic_name, table_name}
+use Rattle.reports.specs.declared.lines.AreaAnswer.{AreaAnswer}
 
 -- ---- one answer
 -- the certificate that a search gives proves, at the least level

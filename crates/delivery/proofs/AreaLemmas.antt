@@ -21,19 +21,21 @@ use Rattle.area_search.specs.declared.kinds.AreaAnswer.TheVariants as found
 use Rattle.area_search.specs.declared.kinds.AreaFinding.{AreaFinding}
 use Rattle.area_search.specs.declared.kinds.AreaFinding.TheVariants as fault
 use Rattle.delivery.specs.Answers.{Matches, same, meetings, AgreeLines, Agree}
-use Rattle.delivery.specs.AreaAnswers.{IsAnswer, faulty, undecided, proved, fault_answer, undecided_answer, proof_answer, curve_line, IsDrawn, AreAnswers, is_fault, is_left, has_fault, has_left, IsFaultyPlan, IsUndecidedPlan, IsFaultlessPlan, HasFaultyArea, ArePartedAreas, AreLeftAreas, HaveStraightLines}
-use Rattle.delivery.specs.AreaNames.{topic_name, table_name}
+use Rattle.delivery.specs.AreaAnswers.{IsAnswer, faulty, undecided, proved, fault_answer, undecided_answer, curve_line, IsDrawn, AreAnswers, IsFaultyPlan, IsUndecidedPlan, IsFaultlessPlan, HasFaultyArea, ArePartedAreas, AreLeftAreas, HaveStraightLines}
+use Rattle.reports.specs.AreaKinds.{proof_answer, is_fault, is_left, has_fault, has_left}
+use Rattle.reports.specs.AreaNames.{topic_name, table_name}
 use Rattle.delivery.specs.Drawings.{IsDrawing, AreDrawings, area_curves}
-use Rattle.delivery.specs.Lines as lines
-use Rattle.delivery.specs.Lines.{Line}
-use Rattle.delivery.specs.Outcomes.{Target, Outcome, trial_line, size_lines, trial_lines, reported, accepted, with_verdict, area_line, area_lines, areas_outcome}
+use Rattle.reports.specs.Lines as lines
+use Rattle.reports.specs.Lines.{Line}
+use Rattle.reports.specs.Outcomes.{Target, Outcome, trial_line, size_lines, trial_lines, reported, accepted, with_verdict, area_line, area_lines, areas_outcome}
 use Rattle.delivery.specs.TrialCounts.{HasEvents}
-use Rattle.delivery.specs.Verifying as verifying
-use Rattle.delivery.specs.Verifying.{Verification, IsVerification}
-use Rattle.delivery.specs.declared.report.lines.AreaAnswer.{AreaAnswer}
-use Rattle.delivery.specs.declared.report.lines.AreaAnswer.TheVariants.{Meeting}
-use Rattle.delivery.specs.declared.report.lines.Verdict.TheVariants as verdict
-use Rattle.delivery.specs.declared.status.Status.TheVariants as status
+use Rattle.reports.specs.Verifications as verifications
+use Rattle.delivery.specs.Verifying.{IsVerification}
+use Rattle.reports.specs.Verifications.{Verification}
+use Rattle.reports.specs.declared.lines.AreaAnswer.{AreaAnswer}
+use Rattle.reports.specs.declared.lines.AreaAnswer.TheVariants.{Meeting}
+use Rattle.reports.specs.declared.lines.Verdict.TheVariants as verdict
+use Rattle.reports.specs.declared.status.Status.TheVariants as status
 
 -- ---- the laws of the layers below
 -- two answers to one drawing agree
@@ -62,7 +64,7 @@ VerificationsAgree = (l : Layout) (ds : List Plan) (text : List ℕ) (v w : Veri
 
 -- what a text proves is a partition
 abbrev pub VerifiedPartitions : Type 0
-VerifiedPartitions = (l : Layout) (ds : List Plan) (text levels : List ℕ) → IsVerification l ds text (verifying.proved levels) → All IsPartition ds
+VerifiedPartitions = (l : Layout) (ds : List Plan) (text levels : List ℕ) → IsVerification l ds text (verifications.proved levels) → All IsPartition ds
 
 -- a drawing has one number of events at a level, and a certificate that proves it there a position for each
 abbrev pub EventsAreOne : Type 0

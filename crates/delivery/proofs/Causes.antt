@@ -4,22 +4,24 @@ use Rattle.std.specs.Prelude.{◌≢◌, ◌⊎◌, ⊤, codes}
 use Rattle.ports.specs.Files.{Files}
 use Rattle.itf_reader.specs.Forms.{Row}
 use Rattle.table_layout.specs.Layouts.{Layout}
-use Rattle.delivery.specs.declared.status.Status.{Status}
-use Rattle.delivery.specs.declared.status.Status.TheVariants.{Accepted, Rejected, Undecided, ModelRefused, Usage, ReadFault, WriteFault, OverLimit, Memory, NotProved}
+use Rattle.reports.specs.declared.status.Status.{Status}
+use Rattle.reports.specs.declared.status.Status.TheVariants.{Accepted, Rejected, Undecided, ModelRefused, Usage, ReadFault, WriteFault, OverLimit, Memory, NotProved}
 use Rattle.delivery.specs.Answers.{HasCause}
-use Rattle.delivery.specs.Commands.{FileNames, Command, compile, check, verify, trial, IsSpelled, IsCommand}
+use Rattle.commands.specs.Commands.{FileNames, Command, compile, check, verify, trial, IsSpelled, IsCommand}
 use Rattle.delivery.specs.Deciding.{Decides, formless, formed}
-use Rattle.delivery.specs.Gathering as gathering
-use Rattle.delivery.specs.Gathering.{Gathered, Gathers}
+use Rattle.commands.specs.Gathering as gathering
+use Rattle.commands.specs.Gathering.{Gathered, Gathers}
 use Rattle.delivery.specs.Causes.{HasOutcome, HasSoundRows, HasFault, HasLargeArea, Accepts, Rejects, LeavesUndecided, IsOversized}
 use Rattle.delivery.specs.Judging.{findings, objects, IsTextOf, IsClean, AreJudged, IsRowsChecked, faulty, oversized, judged, IsChecked, at_fault, well_formed}
-use Rattle.delivery.specs.AreaAnswers.{has_fault, has_left, HasFaultyArea, ArePartedAreas, AreLeftAreas}
+use Rattle.delivery.specs.AreaAnswers.{HasFaultyArea, ArePartedAreas, AreLeftAreas}
+use Rattle.reports.specs.AreaKinds.{has_fault, has_left}
 use Rattle.delivery.specs.AreaLimits.{has_too_large}
-use Rattle.delivery.specs.Outcomes.{Target, check_target, trial_target, Outcome, usage, unread, too_long, area_too_large, refused, compiled, misbuilt, rejected, areas_outcome, verified}
+use Rattle.reports.specs.Outcomes.{Target, check_target, trial_target, Outcome, usage, unread, too_long, area_too_large, refused, compiled, misbuilt, rejected, areas_outcome, verified}
 use Rattle.delivery.specs.FiledTexts as filed_texts
 use Rattle.delivery.specs.FiledTexts.{AreVerified, IsRowsVerified, IsVerified}
-use Rattle.delivery.specs.Verifying as verifying
-use Rattle.delivery.specs.Verifying.{Verification, IsVerification}
+use Rattle.reports.specs.Verifications as verifications
+use Rattle.delivery.specs.Verifying.{IsVerification}
+use Rattle.reports.specs.Verifications.{Verification}
 use Rattle.delivery.proofs.AreaLemmas.{AreaLaws, outcome_by, faulty_area, left_areas, parted_areas, parted_all}
 
 -- ---- the causes
@@ -59,8 +61,8 @@ module _ (laws : AreaLaws) (held : Option Files) (counted : List ℕ → Type 0)
     verified_means rows t k b o j = moved o (verified l (objects rows) j.drawings j.verification) j.is (by j.verification j.judged)
       where
         by : (v : Verification) → IsVerification l j.drawings filed v → HasCause held counted words (verified l (objects rows) j.drawings v).status
-        by (verifying.proved levels) h = (verify c, l, text ∷ filed ∷ [], i, g_, (rows, t, k, b, ((j.drawings, j.drawn, levels, h), parted_all l rows j.drawings j.drawn (laws.verified l j.drawings filed levels h))))
-        by (verifying.not_proved a rule place) h = (verify c, l, text ∷ filed ∷ [], i, g_, (rows, t, k, b, (j.drawings, j.drawn, a, rule, place, h)))
+        by (verifications.proved levels) h = (verify c, l, text ∷ filed ∷ [], i, g_, (rows, t, k, b, ((j.drawings, j.drawn, levels, h), parted_all l rows j.drawings j.drawn (laws.verified l j.drawings filed levels h))))
+        by (verifications.not_proved a rule place) h = (verify c, l, text ∷ filed ∷ [], i, g_, (rows, t, k, b, (j.drawings, j.drawn, a, rule, place, h)))
 
     filed_rows_mean : (rows : List (List Row)) → IsTextOf l text rows → (o : Outcome) → IsRowsVerified l rows filed o → HasCause held counted words o.status
     filed_rows_mean rows t o (filed_texts.faulty n e) = moved o (rejected (findings l rows)) e (verify c, l, text ∷ filed ∷ [], i, g_, inr (rows, t, n))
@@ -122,8 +124,8 @@ verified_fixed : (l : Layout) (rows : List (List Row)) (filed : List ℕ) (o : O
 verified_fixed l rows filed o j = fixed_as o (verified l (objects rows) j.drawings j.verification) j.is (by j.verification)
   where
     by : (v : Verification) → IsFixed (verified l (objects rows) j.drawings v).status
-    by (verifying.proved levels) = tt
-    by (verifying.not_proved a rule place) = tt
+    by (verifications.proved levels) = tt
+    by (verifications.not_proved a rule place) = tt
 
 filed_rows_fixed : (l : Layout) (rows : List (List Row)) (filed : List ℕ) (o : Outcome) → IsRowsVerified l rows filed o → IsFixed o.status
 filed_rows_fixed l rows filed o (filed_texts.faulty n e) = fixed_as o (rejected (findings l rows)) e tt

@@ -6,27 +6,29 @@ use Rattle.itf_reader.specs.Forms.{Row}
 use Rattle.table_layout.specs.Layouts.{AreaOf, Layout}
 use Rattle.plane.specs.Rule.Plans.{Plan}
 use Rattle.delivery.specs.Causes.{HasOutcome}
-use Rattle.delivery.specs.AreaAnswers.{IsAnswer, faulty, undecided, proved, AreAnswers, is_fault, is_left, has_fault, has_left}
+use Rattle.delivery.specs.AreaAnswers.{IsAnswer, faulty, undecided, proved, AreAnswers}
+use Rattle.reports.specs.AreaKinds.{is_fault, is_left, has_fault, has_left}
 use Rattle.delivery.specs.AreaCertificates.{IsCertificateOf, AreCertificatesOf}
 use Rattle.delivery.specs.AreaLimits.{has_too_large}
 use Rattle.delivery.specs.Certified.{AreCertified, Certifies}
-use Rattle.delivery.specs.Commands.{Command, compile, check, verify, trial, writes_to}
+use Rattle.commands.specs.Commands.{Command, compile, check, verify, trial, writes_to}
 use Rattle.delivery.specs.Deciding.{Decides, formless, formed}
 use Rattle.delivery.specs.Effects.{IsFiled}
-use Rattle.delivery.specs.Gathering as gathering
-use Rattle.delivery.specs.Gathering.{Gathered, Gathers}
+use Rattle.commands.specs.Gathering as gathering
+use Rattle.commands.specs.Gathering.{Gathered, Gathers}
 use Rattle.delivery.specs.Judging as judging
 use Rattle.delivery.specs.Judging.{IsTextOf, IsClean, objects, AreJudged, IsRowsChecked, IsChecked}
 use Rattle.delivery.specs.FiledTexts as filed_texts
 use Rattle.delivery.specs.FiledTexts.{IsVerified}
 use Rattle.delivery.specs.Verifying as verifying
+use Rattle.reports.specs.Verifications as verifications
 use Rattle.delivery.specs.Verifying.{levels_of}
-use Rattle.delivery.specs.Outcomes.{Target, check_target, trial_target, Outcome, Filing, verified}
-use Rattle.delivery.specs.declared.report.lines.AreaAnswer.{AreaAnswer}
-use Rattle.delivery.specs.declared.status.Status.TheVariants.{Accepted}
+use Rattle.reports.specs.Outcomes.{Target, check_target, trial_target, Outcome, Filing, verified}
+use Rattle.reports.specs.declared.lines.AreaAnswer.{AreaAnswer}
+use Rattle.reports.specs.declared.status.Status.TheVariants.{Accepted}
 use Rattle.delivery.proofs.Agreement.{agree_filed}
 use Rattle.delivery.proofs.AreaLemmas.{AreaLaws, outcome_by, differ, neither, fault_is_fault}
-use Rattle.delivery.proofs.OneCommand.{one_command}
+use Rattle.commands.proofs.OneCommand.{one_command}
 
 -- ---- one certificate for each area
 one_certificate : (l : Layout) (a : AreaOf) (d : Plan) (x : AreaAnswer) (here : List Plain) → IsAnswer l a d x here → is_fault x ≡ false → is_left x ≡ false → (c : Plain) × (here ≡ c ∷ []) × IsCertificateOf l a d c
@@ -123,7 +125,7 @@ certifies held counted words o new (formed d g j h a) s f c name i w =
 -- ---- what is left is verified
 pub verified_again : AreaLaws → (l : Layout) (text : List ℕ) (cs : List Plain) (o : Outcome) → AreCertified l text cs → IsVerified l text (spelling cs) o → o.status ≡ Accepted
 verified_again laws l text cs o a h =
-    let v = verifying.proved (levels_of cs) in
+    let v = verifications.proved (levels_of cs) in
     let p = verified l (objects a.rows) a.drawings v in
     let again : IsVerified l text (spelling cs) p =
     filed_texts.well_formed a.rows a.rows_of

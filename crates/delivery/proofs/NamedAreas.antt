@@ -11,7 +11,7 @@ use Rattle.ili_lexer.specs.Forms.{IsName as IsWord}
 use Rattle.certificate.specs.Spelling.{IsName, is_name_byte}
 use Rattle.table_layout.specs.Layouts.{Table, AreaOf, Layout}
 use Rattle.table_layout.specs.Valid.{IsArea, IsNamedArea, Rise, IsValid}
-use Rattle.delivery.specs.AreaNames.{HasTitle, name_at, topic_at}
+use Rattle.reports.specs.AreaNames.{HasTitle, name_at, topic_at}
 
 -- ---- names of a model are names of a certificate
 differ : true ≡ false → ⊥

@@ -9,8 +9,8 @@ use Rattle.ports.specs.MemoryOutput.{Output}
 use Rattle.ports.specs.declared.memory_shelf.MemoryShelf.{MemoryShelf}
 use Rattle.ports.specs.Rooms.{HasRoom}
 use Rattle.certificate.specs.Spelling.{spelling}
-use Rattle.delivery.specs.Commands.{Source, from_file, made, model_of, further_files}
-use Rattle.delivery.specs.Outcomes.{Filing, report_of}
+use Rattle.commands.specs.Commands.{Source, from_file, made, model_of, further_files}
+use Rattle.reports.specs.Outcomes.{Filing, report_of}
 use Rattle.delivery.specs.Served.{IsReadable, AreReadable, HasFilingSpace, IsServed}
 
 -- a count that stays where it was, below its end, did not rise

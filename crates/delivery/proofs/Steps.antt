@@ -1,31 +1,26 @@
 -- One step of a call after another.
-use Rattle.std.proofs.Common.{◌≡◌, ℕ, ◌≤◌, List, [], ◌∷◌, ◌++◌, Option, Result, Ok, Err, refl, subst, sym, arith, inl, inr}
-use Rattle.std.specs.Prelude.{IfOk, IsErrOf}
+use Rattle.std.proofs.Common.{◌≡◌, ℕ, ◌≤◌, List, [], ◌∷◌, ◌++◌, Option, Err, refl, subst, sym, arith, inl, inr}
+use Rattle.std.specs.Prelude.{IsErrOf}
 use Rattle.ports.specs.Faults.{Rose}
 use Rattle.ports.specs.Files.{Files}
 use Rattle.table_layout.specs.Layouts.{Layout}
-use Rattle.delivery.specs.Commands.{Command, compile, trial, Source, from_file, made, limit_of, model_of, further_files}
+use Rattle.commands.specs.Commands.{Command, compile, trial, Source, from_file, made, limit_of, model_of, further_files}
 use Rattle.delivery.specs.Deciding.{Decides, formless, formed}
 use Rattle.delivery.specs.Ending.{Ends, EndsAfter, EndsModel}
-use Rattle.delivery.specs.Gathering as gathering
-use Rattle.delivery.specs.Gathering.{Gathered, Reads, ReadsAll, Compiles, Gathers}
+use Rattle.commands.specs.Gathering as gathering
+use Rattle.commands.specs.Gathering.{Gathered, Reads, ReadsAll, Compiles, Gathers}
 use Rattle.delivery.specs.Causes.{HasOutcome}
 use Rattle.delivery.specs.Judging.{IsChecked}
-use Rattle.delivery.specs.Outcomes.{Outcome, trial_target, compiled}
-use Rattle.delivery.specs.TrialFiles.{transfer_text}
-use Rattle.delivery.specs.Reading.{IsLonger}
-use Rattle.delivery.specs.FileRefusals.{IsNotRead}
-use Rattle.delivery.specs.declared.files.File.{File}
+use Rattle.reports.specs.Outcomes.{Outcome, trial_target, compiled}
+use Rattle.commands.specs.TrialFiles.{transfer_text}
+use Rattle.commands.specs.Reading.{IsLonger}
+use Rattle.reports.specs.FileRefusals.{IsNotRead}
+use Rattle.commands.specs.declared.files.File.{File}
 use Rattle.delivery.specs.Pieces.{IsTransfer}
-use Rattle.delivery.specs.declared.files.File.TheVariants.{Transfer}
+use Rattle.commands.specs.declared.files.File.TheVariants.{Transfer}
 use Rattle.delivery.specs.declared.transfers.TransferReading.TheVariants as reading
-use Rattle.delivery.specs.declared.files.FileRefusal.{FileRefusal}
-use Rattle.delivery.specs.declared.files.FileRefusal.TheVariants.{Failed, TooLong, Memory}
-
--- what is said of a value that a call gave
-pub if_ok : {A E : Type 0} (P Q : A → Type 0) (r : Result A E) → ((x : A) → P x → Q x) → IfOk r P → IfOk r Q
-if_ok P Q (Ok x) f h = f x h
-if_ok P Q (Err e) f h = h
+use Rattle.commands.specs.declared.files.FileRefusal.{FileRefusal}
+use Rattle.commands.specs.declared.files.FileRefusal.TheVariants.{Failed, TooLong, Memory}
 
 -- counts that rise in one part of a call rise in the whole of it
 pub rose_after : (a b c : ℕ) → a ≤ b → Rose b c → Rose a c

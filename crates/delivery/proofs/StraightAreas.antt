@@ -8,15 +8,15 @@ use Rattle.table_layout.specs.Layouts.{Layout}
 use Rattle.delivery.specs.Causes.{HasStraightAreas, LeavesUndecided}
 use Rattle.delivery.specs.Answers.{HasCause, Passes}
 use Rattle.delivery.specs.AreaAnswers.{HaveStraightLines}
-use Rattle.delivery.specs.Commands.{Command, compile, check, verify, trial}
-use Rattle.delivery.specs.Gathering as gathering
-use Rattle.delivery.specs.Gathering.{Gathered, Gathers}
+use Rattle.commands.specs.Commands.{Command, compile, check, verify, trial}
+use Rattle.commands.specs.Gathering as gathering
+use Rattle.commands.specs.Gathering.{Gathered, Gathers}
 use Rattle.delivery.specs.Judging.{lines_of}
-use Rattle.delivery.specs.declared.status.Status.{Status}
-use Rattle.delivery.specs.declared.status.Status.TheVariants.{Undecided}
+use Rattle.reports.specs.declared.status.Status.{Status}
+use Rattle.reports.specs.declared.status.Status.TheVariants.{Undecided}
 use Rattle.delivery.proofs.Agreement.{same_gathered}
 use Rattle.delivery.proofs.AreaLemmas.{straights_decided}
-use Rattle.delivery.proofs.OneCommand.{one_command}
+use Rattle.commands.proofs.OneCommand.{one_command}
 
 none_in : (c : Command) (l : Layout) (ts : List (List ℕ)) → HasStraightAreas c l ts → LeavesUndecided c l ts → ⊥
 none_in (compile m) l ts s h = h

@@ -12,7 +12,8 @@ use Rattle.plane.specs.Rule.Partition.{IsPartition}
 use Rattle.plane.specs.Rule.Plans.{Plan}
 use Rattle.table_layout.specs.Layouts.{AreaOf, Layout}
 use Rattle.delivery.specs.AreaCertificates.{AreCertificatesOf, IsCertificateOf, claims_of}
-use Rattle.delivery.specs.Verifying.{Verification, proved, not_proved, Spells, IsNamedAt, AreNamed, IsMisnamedAt, IsProvedAt, IsBrokenAt, levels_of, IsVerification, unspelt, misnamed, broken, all_proved}
+use Rattle.delivery.specs.Verifying.{Spells, IsNamedAt, AreNamed, IsMisnamedAt, IsProvedAt, IsBrokenAt, levels_of, IsVerification, unspelt, misnamed, broken, all_proved}
+use Rattle.reports.specs.Verifications.{Verification, proved, not_proved}
 use Rattle.delivery.proofs.BadLines.{one_bad_line}
 
 -- ---- the laws of one certificate

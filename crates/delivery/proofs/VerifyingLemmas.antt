@@ -15,9 +15,10 @@ use Rattle.certificate_checker.specs.Verdicts.{IsBroken, Proves}
 use Rattle.plane.specs.Rule.Plans.{Plan, plan}
 use Rattle.plane.specs.declared.drawing.Drawing.{Drawing}
 use Rattle.table_layout.specs.Layouts.{Layout}
-use Rattle.delivery.specs.AreaAnswers.{plans}
+use Rattle.reports.specs.AreaKinds.{plans}
 use Rattle.delivery.specs.AreaCertificates.{claims_of}
-use Rattle.delivery.specs.Verifying.{Verification, proved, not_proved, AreChecked, AreNamed, IsBadLine, IsBrokenAt, IsLineOf, IsProvedAt, IsVerification, Spells, all_proved, bad, broken, levels_of, missing}
+use Rattle.delivery.specs.Verifying.{AreChecked, AreNamed, IsBadLine, IsBrokenAt, IsLineOf, IsProvedAt, IsVerification, Spells, all_proved, bad, broken, levels_of, missing}
+use Rattle.reports.specs.Verifications.{Verification, proved, not_proved}
 use Rattle.delivery.proofs.Verifications.{certificates_of}
 
 -- an element of a list and of its view

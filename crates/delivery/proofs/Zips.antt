@@ -8,7 +8,7 @@ use Rattle.table_layout.specs.Values.{area_view, areas_view}
 use Rattle.table_layout.specs.declared.layouts.AreaOf as area
 use Rattle.plane.specs.Rule.Plans.{Plan, plan}
 use Rattle.plane.specs.declared.drawing.Drawing.{Drawing}
-use Rattle.delivery.specs.AreaAnswers.{plans}
+use Rattle.reports.specs.AreaKinds.{plans}
 use Rattle.delivery.specs.Drawings.{IsDrawing}
 
 zip_more : {A B : Type 0} (R : A → B → Type 0) (xs : List A) (ys : List B) (i : ℕ) (x : A) (y : B) → i < length xs → x ≡ get_or xs i x → AllZip R (take i xs) ys → R x y → AllZip R (take (suc i) xs) (ys ++ y ∷ [])

@@ -3,21 +3,21 @@ use Rattle.std.specs.Prelude.{◌≡◌, ◌≢◌, ℕ, List, [], ◌∷◌, Op
 use Rattle.ports.specs.Files.{Files}
 use Rattle.ports.specs.Output.{Adds}
 use Rattle.table_layout.specs.Layouts.{Layout}
-use Rattle.delivery.specs.Commands.{Command, IsCommand, IsUsage}
+use Rattle.commands.specs.Commands.{Command, IsCommand, IsUsage}
 use Rattle.delivery.specs.Deciding.{Decides}
-use Rattle.delivery.specs.Gathering.{Gathered, unread, too_long, refused, texts, Gathers}
+use Rattle.commands.specs.Gathering.{Gathered, unread, too_long, refused, texts, Gathers}
 use Rattle.delivery.specs.Causes.{Accepts, Rejects, LeavesUndecided, Unproves, IsOversized}
-use Rattle.delivery.specs.Lines as lines
-use Rattle.delivery.specs.Lines.{Line}
-use Rattle.delivery.specs.ModelTexts.{Refusal}
-use Rattle.delivery.specs.Outcomes.{Filing, Outcome, report_of}
-use Rattle.delivery.specs.declared.files.File.{File}
-use Rattle.delivery.specs.declared.report.lines.AreaAnswer.TheVariants.{Meeting}
-use Rattle.delivery.specs.declared.status.Status.{Status}
-use Rattle.delivery.specs.declared.status.Status.TheVariants.{Accepted, Rejected, Undecided}
-use Rattle.delivery.specs.declared.status.Status.TheVariants.{ModelRefused, Usage, ReadFault}
-use Rattle.delivery.specs.declared.status.Status.TheVariants.{WriteFault, OverLimit, Memory}
-use Rattle.delivery.specs.declared.status.Status.TheVariants.{NotProved}
+use Rattle.reports.specs.Lines as lines
+use Rattle.reports.specs.Lines.{Line}
+use Rattle.commands.specs.ModelTexts.{Refusal}
+use Rattle.reports.specs.Outcomes.{Filing, Outcome, report_of}
+use Rattle.commands.specs.declared.files.File.{File}
+use Rattle.reports.specs.declared.lines.AreaAnswer.TheVariants.{Meeting}
+use Rattle.reports.specs.declared.status.Status.{Status}
+use Rattle.reports.specs.declared.status.Status.TheVariants.{Accepted, Rejected, Undecided}
+use Rattle.reports.specs.declared.status.Status.TheVariants.{ModelRefused, Usage, ReadFault}
+use Rattle.reports.specs.declared.status.Status.TheVariants.{WriteFault, OverLimit, Memory}
+use Rattle.reports.specs.declared.status.Status.TheVariants.{NotProved}
 
 -- the words are a command of whose files this is read
 abbrev pub GathersFor : Option Files → (List ℕ → Type 0) → List (List ℕ) → Gathered → Type 0

@@ -1,13 +1,11 @@
 -- What is answered to the areas of a layout.
-use Rattle.std.specs.Prelude.{◌≡◌, ◌⊎◌, ℕ, Bool, true, false, pos, List, [], ◌∷◌, ◌++◌, length, map}
-use Rattle.std.specs.Prelude.{get_or}
-use Rattle.std.specs.List.{All, Any, list_any}
+use Rattle.std.specs.Prelude.{◌≡◌, ◌⊎◌, ℕ, pos, List, [], ◌∷◌, ◌++◌, get_or}
+use Rattle.std.specs.List.{All, Any}
 use Rattle.certificate.specs.Spelling.{Plain}
 use Rattle.itf_reader.specs.Forms.{Row}
 use Rattle.table_layout.specs.Layouts.{AreaOf, Layout}
 use Rattle.plane.specs.Rule.Partition.{IsPartition}
-use Rattle.plane.specs.Rule.Plans.{Plan, plan, curve, IsHalfArc}
-use Rattle.plane.specs.declared.drawing.Drawing.{Drawing}
+use Rattle.plane.specs.Rule.Plans.{Plan, curve, IsHalfArc}
 use Rattle.tubes.specs.DrawnEdges.{AreAllStraight}
 use Rattle.area_search.specs.Answers as search
 use Rattle.area_search.specs.declared.kinds.AreaAnswer.TheVariants as found
@@ -15,9 +13,10 @@ use Rattle.area_search.specs.declared.kinds.AreaFinding.{AreaFinding}
 use Rattle.area_search.specs.declared.kinds.AreaFinding.TheVariants as fault
 use Rattle.delivery.specs.AreaCertificates.{IsCertificateOf}
 use Rattle.delivery.specs.Drawings.{IsDrawing, area_curves}
-use Rattle.delivery.specs.declared.report.lines.AreaAnswer.{AreaAnswer}
-use Rattle.delivery.specs.declared.report.lines.AreaAnswer.TheVariants.{Undecided, Meeting, On}
-use Rattle.delivery.specs.declared.report.lines.AreaAnswer.TheVariants.{Outside, Two, Empty, Proved}
+use Rattle.reports.specs.AreaKinds.{proof_answer}
+use Rattle.reports.specs.declared.lines.AreaAnswer.{AreaAnswer}
+use Rattle.reports.specs.declared.lines.AreaAnswer.TheVariants.{Undecided, Meeting, On}
+use Rattle.reports.specs.declared.lines.AreaAnswer.TheVariants.{Outside, Two, Empty}
 
 -- ---- one drawing
 -- the line of the transfer of a curve, and that of an object
@@ -40,10 +39,6 @@ fault_answer d (fault.Empty i left) = Empty (curve_line d i) left
 abbrev pub undecided_answer : Plan → ℕ → ℕ → AreaAnswer
 undecided_answer d i j = Undecided (curve_line d i) (curve_line d j)
 
--- how many curves and points are shown to be a partition, at a level
-abbrev pub proof_answer : Plan → ℕ → AreaAnswer
-proof_answer d level = Proved level (length d.curves) (length d.points)
-
 -- The answer to the drawing of an area, and the certificates that go with it: one where it is
 -- proved, else none.
 pub data IsAnswer (l : Layout) (a : AreaOf) (d : Plan) (x : AreaAnswer)
@@ -59,9 +54,6 @@ pub data IsAnswer (l : Layout) (a : AreaOf) (d : Plan) (x : AreaAnswer)
       → x ≡ proof_answer d c.level → cs ≡ c ∷ [] → IsAnswer l a d x cs
 
 -- ---- all areas of a layout
-abbrev pub plans : List Drawing → List Plan
-plans ds = map plan ds
-
 -- the answers to areas and their drawings, in order, and all certificates that go with them
 abbrev pub AreAnswers : Layout → List AreaOf → List Plan → List AreaAnswer → List Plain → Type 0
 AreAnswers l [] [] [] cs = cs ≡ []
@@ -69,23 +61,6 @@ AreAnswers l (a ∷ as_) (d ∷ ds) (x ∷ xs) cs =
     (here : List Plain) × (rest : List Plain) × IsAnswer l a d x here × AreAnswers l as_ ds xs rest
     × (cs ≡ here ++ rest)
 AreAnswers l as_ ds xs cs = ⊥
-
--- the answer names what is at fault
-abbrev pub is_fault : AreaAnswer → Bool
-is_fault (Undecided first second) = false
-is_fault (Proved level curves points) = false
-is_fault _ = true
-
--- the area is not decided
-abbrev pub is_left : AreaAnswer → Bool
-is_left (Undecided first second) = true
-is_left _ = false
-
-abbrev pub has_fault : List AreaAnswer → Bool
-has_fault xs = list_any is_fault xs
-
-abbrev pub has_left : List AreaAnswer → Bool
-has_left xs = list_any is_left xs
 
 -- ---- what the answers say of the areas
 -- the drawing has this first fault, so it is no partition

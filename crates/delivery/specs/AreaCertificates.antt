@@ -6,7 +6,7 @@ use Rattle.certificate_checker.specs.Subjects.{Claims}
 use Rattle.certificate_checker.specs.Verdicts.{Proves}
 use Rattle.plane.specs.Rule.Plans.{Plan}
 use Rattle.table_layout.specs.Layouts.{AreaOf, Layout}
-use Rattle.delivery.specs.AreaNames.{topic_name, table_name}
+use Rattle.reports.specs.AreaNames.{topic_name, table_name}
 
 -- the notes of half-edges, below and above edge by edge
 abbrev pub notes_of : List (HalfNote × HalfNote) → List HalfNote

@@ -6,16 +6,17 @@ use Rattle.table_layout.specs.Layouts.{Layout}
 use Rattle.delivery.specs.AreaAnswers.{HasFaultyArea, ArePartedAreas, AreLeftAreas}
 use Rattle.delivery.specs.AreaAnswers.{HaveStraightLines}
 use Rattle.delivery.specs.AreaLimits.{has_too_large}
-use Rattle.delivery.specs.Commands.{Command, compile, check, verify, trial}
+use Rattle.commands.specs.Commands.{Command, compile, check, verify, trial}
 use Rattle.delivery.specs.FiledTexts.{IsVerified}
 use Rattle.delivery.specs.Drawings.{AreDrawings}
 use Rattle.plane.specs.Rule.Plans.{Plan}
-use Rattle.delivery.specs.Gathering as gathering
-use Rattle.delivery.specs.Gathering.{Gathered}
+use Rattle.commands.specs.Gathering as gathering
+use Rattle.commands.specs.Gathering.{Gathered}
 use Rattle.delivery.specs.Judging.{findings, IsMisbuilt, IsTextOf, IsClean, IsChecked}
-use Rattle.delivery.specs.Outcomes.{Outcome, check_target, trial_target, unread, too_long, refused}
-use Rattle.delivery.specs.Outcomes.{compiled}
-use Rattle.delivery.specs.Verifying.{proved, not_proved, IsVerification}
+use Rattle.reports.specs.Outcomes.{Outcome, check_target, trial_target, unread, too_long, refused}
+use Rattle.reports.specs.Outcomes.{compiled}
+use Rattle.delivery.specs.Verifying.{IsVerification}
+use Rattle.reports.specs.Verifications.{proved, not_proved}
 
 -- the outcome of what was read for a command
 abbrev pub HasOutcome : Command → Gathered → Outcome → Type 0

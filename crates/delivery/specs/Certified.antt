@@ -6,10 +6,10 @@ use Rattle.itf_reader.specs.Forms.{Row}
 use Rattle.table_layout.specs.Layouts.{Layout}
 use Rattle.delivery.specs.AreaCertificates.{AreCertificatesOf}
 use Rattle.delivery.specs.AreaLimits.{has_too_large}
-use Rattle.delivery.specs.Commands.{Command, IsCommand, writes_to}
+use Rattle.commands.specs.Commands.{Command, IsCommand, writes_to}
 use Rattle.delivery.specs.Drawings.{AreDrawings}
 use Rattle.plane.specs.Rule.Plans.{Plan}
-use Rattle.delivery.specs.Gathering.{texts, Gathers}
+use Rattle.commands.specs.Gathering.{texts, Gathers}
 use Rattle.delivery.specs.Judging.{IsTextOf, IsClean}
 
 -- The transfer has rows that meet the declarations, and no AREA is over its limit. These

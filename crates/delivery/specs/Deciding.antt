@@ -1,10 +1,10 @@
 -- Which outcome the words and the files have.
 use Rattle.std.specs.Prelude.{◌≡◌, ℕ, List, Option}
 use Rattle.ports.specs.Files.{Files}
-use Rattle.delivery.specs.Commands.{Command, IsCommand, IsUsage}
-use Rattle.delivery.specs.Gathering.{Gathered, Gathers}
+use Rattle.commands.specs.Commands.{Command, IsCommand, IsUsage}
+use Rattle.commands.specs.Gathering.{Gathered, Gathers}
 use Rattle.delivery.specs.Causes.{HasOutcome}
-use Rattle.delivery.specs.Outcomes.{Outcome, usage}
+use Rattle.reports.specs.Outcomes.{Outcome, usage}
 
 -- The words are no command; or this is read of the files of the command, and amounts to the
 -- outcome.

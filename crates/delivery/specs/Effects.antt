@@ -5,9 +5,9 @@ use Rattle.ports.specs.Files.{Files, Puts}
 use Rattle.ports.specs.Output.{Adds, AddsPrefix}
 use Rattle.certificate.specs.Spelling.{spelling}
 use Rattle.delivery.specs.Deciding.{Decides}
-use Rattle.delivery.specs.Outcomes.{Filing, Outcome, report_of}
-use Rattle.delivery.specs.declared.status.Status.{Status}
-use Rattle.delivery.specs.declared.status.Status.TheVariants.{WriteFault}
+use Rattle.reports.specs.Outcomes.{Filing, Outcome, report_of}
+use Rattle.reports.specs.declared.status.Status.{Status}
+use Rattle.reports.specs.declared.status.Status.TheVariants.{WriteFault}
 
 -- every file is as before, but that one may hold a front of the text in place of what it held
 abbrev pub HoldsFront : Option Files → List ℕ → List ℕ → Option Files → Type 0

@@ -2,10 +2,10 @@
 use Rattle.std.specs.Prelude.{ℕ, List, [], Option}
 use Rattle.ports.specs.Files.{Files}
 use Rattle.table_layout.specs.Layouts.{Layout}
-use Rattle.delivery.specs.Commands.{Command, Source, further_files}
-use Rattle.delivery.specs.Gathering.{Gathered, ReadsAll, Compiles, Gathers}
+use Rattle.commands.specs.Commands.{Command, Source, further_files}
+use Rattle.commands.specs.Gathering.{Gathered, ReadsAll, Compiles, Gathers}
 use Rattle.delivery.specs.Causes.{HasOutcome}
-use Rattle.delivery.specs.Outcomes.{Outcome}
+use Rattle.reports.specs.Outcomes.{Outcome}
 
 -- the outcome of a command whose model has this layout and some of whose further files have these
 -- texts: the rest of them is read, and all amounts to it

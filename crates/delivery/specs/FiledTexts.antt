@@ -7,9 +7,10 @@ use Rattle.delivery.specs.AreaLimits.{has_too_large}
 use Rattle.delivery.specs.Drawings.{AreDrawings}
 use Rattle.plane.specs.Rule.Plans.{Plan}
 use Rattle.delivery.specs.Judging.{findings, objects, IsMisbuilt, IsTextOf, IsClean}
-use Rattle.delivery.specs.Outcomes as outcomes
-use Rattle.delivery.specs.Outcomes.{Outcome, area_too_large, misbuilt, rejected}
-use Rattle.delivery.specs.Verifying.{Verification, IsVerification}
+use Rattle.reports.specs.Outcomes as outcomes
+use Rattle.reports.specs.Outcomes.{Outcome, area_too_large, misbuilt, rejected}
+use Rattle.delivery.specs.Verifying.{IsVerification}
+use Rattle.reports.specs.Verifications.{Verification}
 
 -- the text of the certificates is judged against the drawings of all areas
 pub record AreVerified (l : Layout) (rows : List (List Row)) (filed : List ℕ)

@@ -13,9 +13,9 @@ use Rattle.delivery.specs.AreaAnswers.{AreAnswers}
 use Rattle.delivery.specs.AreaLimits.{has_too_large}
 use Rattle.delivery.specs.Drawings.{AreDrawings}
 use Rattle.plane.specs.Rule.Plans.{Plan}
-use Rattle.delivery.specs.Outcomes.{Target, Outcome, area_too_large, misbuilt, rejected}
-use Rattle.delivery.specs.Outcomes.{areas_outcome}
-use Rattle.delivery.specs.declared.report.lines.AreaAnswer.{AreaAnswer}
+use Rattle.reports.specs.Outcomes.{Target, Outcome, area_too_large, misbuilt, rejected}
+use Rattle.reports.specs.Outcomes.{areas_outcome}
+use Rattle.reports.specs.declared.lines.AreaAnswer.{AreaAnswer}
 
 -- the logical lines of a transfer, by the codes of its layout
 abbrev pub lines_of : Layout → List ℕ → LogicalLines

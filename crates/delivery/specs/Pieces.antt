@@ -18,13 +18,13 @@ use Rattle.delivery.specs.declared.judging.closing.Judged.{Judged}
 use Rattle.delivery.specs.declared.judging.closing.Judged.TheVariants as judged
 use Rattle.delivery.specs.declared.judging.lines.Judge.{Judge}
 use Rattle.delivery.specs.declared.judging.rows.TransferKept.{TransferKept}
-use Rattle.delivery.specs.AreaAnswers.{plans}
+use Rattle.reports.specs.AreaKinds.{plans}
 use Rattle.delivery.specs.AreaLimits.{has_too_large}
 use Rattle.delivery.specs.Drawings.{AreDrawings}
 use Rattle.delivery.specs.Judging.{lines_of, objects, findings, IsMisbuilt, IsTextOf, IsClean}
 use Rattle.delivery.specs.KeptRows.{transfer_so_far}
-use Rattle.delivery.specs.Reading.{IsWhole, IsLonger}
-use Rattle.delivery.specs.declared.files.FileRefusal.TheVariants as refusals_of
+use Rattle.commands.specs.Reading.{IsWhole, IsLonger}
+use Rattle.commands.specs.declared.files.FileRefusal.TheVariants as refusals_of
 use Rattle.delivery.specs.declared.transfers.TransferReading.{TransferReading}
 use Rattle.delivery.specs.declared.transfers.TransferReading.TheVariants as reading
 use Rattle.ports.specs.Files.{Files}

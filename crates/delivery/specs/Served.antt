@@ -3,10 +3,10 @@ use Rattle.std.specs.Prelude.{ℕ, ◌-◌, ◌^◌, ◌<◌, List, [], ◌∷�
 use Rattle.ports.specs.Files.{Files}
 use Rattle.ports.specs.Rooms.{HasRoom}
 use Rattle.certificate.specs.Spelling.{spelling}
-use Rattle.delivery.specs.Commands.{Command, IsCommand, Source, from_file, made, model_of}
-use Rattle.delivery.specs.Commands.{further_files}
+use Rattle.commands.specs.Commands.{Command, IsCommand, Source, from_file, made, model_of}
+use Rattle.commands.specs.Commands.{further_files}
 use Rattle.delivery.specs.Deciding.{Decides}
-use Rattle.delivery.specs.Outcomes.{Filing, Outcome, report_of}
+use Rattle.reports.specs.Outcomes.{Filing, Outcome, report_of}
 
 -- a read of the text is not to fail; one that is made needs no read
 abbrev pub IsReadable : (List ℕ → Type 0) → Source → Type 0

@@ -8,13 +8,8 @@ use Rattle.certificate.specs.declared.fault.CertFault.TheVariants as faults
 use Rattle.certificate_checker.specs.Verdicts.{IsBroken, Proves}
 use Rattle.plane.specs.Rule.Plans.{Plan}
 use Rattle.table_layout.specs.Layouts.{AreaOf, Layout}
+use Rattle.reports.specs.Verifications.{Verification, proved, not_proved}
 use Rattle.delivery.specs.AreaCertificates.{AreCertificatesOf, IsNamedFor, claims_of}
-
--- all is proved, by certificates of these levels; or an area, the rule that is broken there and its
--- place
-pub data Verification : Type 0 where
-  proved : List ℕ → Verification
-  not_proved : ℕ → ℕ → ℕ → Verification
 
 -- ---- rule 0: the text spells a list of certificates
 pub record Spells (text : List ℕ) (cs : List Plain) : Type 0 where

@@ -7,22 +7,23 @@ ghost use Rattle.table_layout.specs.Valid.{IsValid};
 ghost use Rattle.table_layout.specs.Values.{area_view, areas_view, layout_view};
 ghost use Rattle.area_search.specs.Answers.{IsAnswer as IsFound};
 ghost use Rattle.area_search.specs.declared.kinds.AreaAnswer.TheVariants.{Fault, Proved, Undecided};
-ghost use Rattle.delivery.specs.AreaAnswers.{IsAnswer, AreAnswers, plans};
-ghost use Rattle.delivery.specs.AreaAnswers.{fault_answer, proof_answer, undecided_answer};
-ghost use Rattle.delivery.specs.AreaAnswers.{is_fault, is_left, has_fault, has_left};
+ghost use Rattle.delivery.specs.AreaAnswers.{IsAnswer, AreAnswers};
+ghost use Rattle.reports.specs.AreaKinds.{plans};
+ghost use Rattle.delivery.specs.AreaAnswers.{fault_answer, undecided_answer};
+ghost use Rattle.reports.specs.AreaKinds.{proof_answer};
+ghost use Rattle.reports.specs.AreaKinds.{is_fault, is_left, has_fault, has_left};
 ghost use Rattle.delivery.specs.AreaAnswers.{curve_line, object_line};
-ghost use Rattle.delivery.specs.AreaNames.{HasTitle};
+ghost use Rattle.reports.specs.AreaNames.{HasTitle};
 ghost use Rattle.delivery.specs.AnswerViews.{certificates_in, named};
 ghost use Rattle.delivery.specs.AreaLimits.{IsSmallPlan};
 
-use crate::area_names::{AreaNames, names_of};
-use crate::report::AreaAnswer;
 use area_search::laws::undecided_has_half_arc;
 use area_search::{AreaAnswer as Found, AreaFinding, find_area};
 use certificate::{Certificate, numbers_fit};
 use certificate_checker::laws::proved_counts;
 use plane::Drawing;
 use ports::Memory;
+use reports::{Answers, AreaAnswer, AreaNames, names_of, proof_answer};
 use std::alloc::Global;
 use table_layout::{AreaOf, Layout, area_names};
 
@@ -31,13 +32,6 @@ use table_layout::{AreaOf, Layout, area_names};
 struct Answer {
     area: AreaAnswer,
     certificate: Option<Certificate>,
-}
-
-/// The answers to areas, in order, and the certificates of those that are proved.
-#[derive(Drop)]
-pub struct Answers {
-    pub areas: Vec<AreaAnswer>,
-    pub certificates: Vec<Certificate>,
 }
 
 // The line of the transfer of a curve.
@@ -110,17 +104,6 @@ fn named(names: AreaNames, found: Certificate) -> Certificate
         positions: found.positions,
         notes: found.notes,
         places: found.places,
-    }
-}
-
-/// How many curves and points of a drawing are shown to be a partition.
-pub fn proof_answer(drawing: &Drawing, level: u8) -> AreaAnswer
-    ensures { result ≡ proof_answer (plan drawing.now) level }
-{
-    AreaAnswer::Proved {
-        level,
-        curves: drawing.curves.len() as u64,
-        points: drawing.points.len() as u64,
     }
 }
 
@@ -209,45 +192,4 @@ pub fn answers_of(alloc: Global, layout: &Layout, drawings: &[Drawing]) -> Resul
         keep(&mut answers, answer_of(alloc, layout, area, drawing)?)?;
     }
     Ok(answers)
-}
-
-fn is_fault(answer: AreaAnswer) -> bool
-    ensures { result ≡ is_fault answer }
-{
-    match answer {
-        AreaAnswer::Undecided { .. } | AreaAnswer::Proved { .. } => false,
-        AreaAnswer::Meeting { .. }
-        | AreaAnswer::On { .. }
-        | AreaAnswer::Outside { .. }
-        | AreaAnswer::Two { .. }
-        | AreaAnswer::Empty { .. } => true,
-    }
-}
-
-/// Some answer names a fault.
-pub fn has_fault(answers: &[AreaAnswer]) -> bool
-    ensures { result ≡ has_fault answers.now }
-{
-    answers.iter().any(|answer| is_fault(*answer))
-}
-
-fn is_left(answer: AreaAnswer) -> bool
-    ensures { result ≡ is_left answer }
-{
-    match answer {
-        AreaAnswer::Undecided { .. } => true,
-        AreaAnswer::Proved { .. }
-        | AreaAnswer::Meeting { .. }
-        | AreaAnswer::On { .. }
-        | AreaAnswer::Outside { .. }
-        | AreaAnswer::Two { .. }
-        | AreaAnswer::Empty { .. } => false,
-    }
-}
-
-/// Some area is left undecided.
-pub fn has_left(answers: &[AreaAnswer]) -> bool
-    ensures { result ≡ has_left answers.now }
-{
-    answers.iter().any(|answer| is_left(*answer))
 }

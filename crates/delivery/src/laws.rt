@@ -1,8 +1,10 @@
 // Laws of outcomes.
-ghost use Rattle.std.specs.Prelude.{◌≡◌, ℕ, List, [], Option, Some, IsSome};
+ghost use Rattle.std.specs.Prelude.{◌≡◌, ℕ, List, [], length, Option, Some, IsSome};
 ghost use Rattle.std.specs.FinMap as map;
 ghost use Rattle.std.specs.List.{All};
 ghost use Rattle.certificate.specs.Spelling.{Plain, spelling};
+ghost use Rattle.certificate_checker.specs.Subjects.{Claims};
+ghost use Rattle.certificate_checker.specs.Verdicts.{Proves};
 ghost use Rattle.plane.specs.Rule.Partition.{IsPartition};
 ghost use Rattle.plane.specs.Rule.Plans.{Plan};
 ghost use Rattle.table_layout.specs.Layouts.{Layout};
@@ -19,10 +21,12 @@ ghost use Rattle.delivery.specs.AreaAnswers.{AreLeftAreas, HaveStraightLines};
 ghost use Rattle.delivery.specs.Certified.{AreCertified};
 ghost use Rattle.delivery.specs.Deciding.{Decides};
 ghost use Rattle.delivery.specs.FiledTexts.{IsVerified};
-ghost use Rattle.delivery.specs.Outcomes.{Outcome};
+ghost use Rattle.reports.specs.Outcomes.{Outcome};
 ghost use Rattle.delivery.specs.Served.{IsServed};
-ghost use Rattle.delivery.specs.declared.status.Status.TheVariants.{Accepted, Undecided};
-ghost use Rattle.delivery.specs.Verifying.{IsVerification, Verification, proved};
+ghost use Rattle.delivery.specs.TrialCounts.{HasEvents};
+ghost use Rattle.reports.specs.declared.status.Status.TheVariants.{Accepted, Undecided};
+ghost use Rattle.delivery.specs.Verifying.{IsVerification};
+ghost use Rattle.reports.specs.Verifications.{Verification, proved};
 
 /// The status of each outcome of words and files has its cause; and two outcomes of the same words
 /// and files agree, unless a file could not be read.
@@ -40,7 +44,7 @@ pub fn outcomes_are_right()
     area_search::laws::faults_are_true();
     area_search::laws::undecided_has_half_arc();
     certificate_checker::laws::proves_partition();
-    crate::trial::events_are_counted();
+    events_are_counted();
     verifications_agree();
     verified_partitions();
 }
@@ -72,7 +76,7 @@ pub fn accepted_is_verified()
     area_search::laws::faults_are_true();
     area_search::laws::undecided_has_half_arc();
     certificate_checker::laws::proves_partition();
-    crate::trial::events_are_counted();
+    events_are_counted();
     verifications_agree();
     verified_partitions();
 }
@@ -98,3 +102,14 @@ pub fn memory_serves()
         → IsServed (Some (files shelf)) words (IsReadable shelf) (space shelf)
         (unless_listed out.listed (Some out.room)) }
 {}
+
+/// A drawing has one number of events at a level, and a certificate that proves it there has a
+/// position for each.
+pub fn events_are_counted()
+    ensures one { (d : Plan) (level m n : ℕ)
+        → HasEvents d level m → HasEvents d level n → m ≡ n }
+    ensures positions { (d : Plan) (c : Claims)
+        → Proves d c → HasEvents d c.level (length c.positions) }
+{
+    plane::moves::timetables();
+}

@@ -5,7 +5,7 @@
 //! by word, and what becomes of every file.
 //!
 //! - **What is served.** `compile M`, `check M T C`, `verify M T C` and `trial N C`, which checks a
-//!   large valid delivery that `trial` makes in memory. Every model is cut into
+//!   large valid delivery that is made in memory. Every model is cut into
 //!   tokens, parsed, resolved and laid out; of a model with a fault, the first one is reported with
 //!   its code, line, column and word. Every transfer is read by the layout of its model; where a
 //!   line is at fault, the first one is reported with its code. All values, identifications, IDENT
@@ -30,11 +30,11 @@
 //!   count of faults moves, and the answer is that of an outcome or out of memory. Files and an
 //!   output in memory serve so where they hold the files and have room (`laws::memory_serves`).
 //!
-//! `transfers` reads a transfer in pieces, and `judging` judges them: lines, rows and what is kept
-//! of these. `deciding` fixes the outcome: a status, the lines of the report, and the certificates
-//! where there are any to write. `report` has the lines and their text, and `publishing` writes.
-//! An outcome has one constructor in `outcome`, a line of the report one variant in `report`, an
-//! answer to an area one arm in `area_answers`; filed certificates are judged in `verifying`.
+//! The crate `commands` reads the words, the files and the model. Here `transfers` reads a transfer
+//! in pieces, and `judging` judges them: lines, rows and what is kept of these. `deciding` fixes the
+//! outcome, which the crate `reports` makes and turns into a text: a status, the lines of the
+//! report, and the certificates where there are any to write. `publishing` writes. An answer to an
+//! area has one arm in `area_answers`; filed certificates are judged in `verifying`.
 //!
 //! Cost of `run`: time and memory in proportion to the files, but for the names of a model, the
 //! findings of a transfer and its keys, which take n log n, and for the search of each area or the
@@ -48,29 +48,17 @@
 
 mod area_answers;
 mod area_limits;
-mod area_names;
-mod command;
 mod deciding;
 mod drawings;
-mod files;
 mod judging;
 pub mod laws;
-mod model;
-mod outcome;
 mod publishing;
-mod refusals;
-mod report;
 mod rows;
-mod status;
-mod text;
 mod top;
 mod transfers;
-pub mod trial;
 mod verifying;
-mod word;
 
+pub use commands::{File, Word};
 pub use drawings::drawing;
-pub use files::File;
-pub use status::Status;
+pub use reports::Status;
 pub use top::run;
-pub use word::Word;

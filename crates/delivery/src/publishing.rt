@@ -4,14 +4,14 @@ ghost use Rattle.ports.specs.Faults.{Rose, NoReadFell, CountsStay};
 ghost use Rattle.ports.specs.Output.{Adds, AddsPrefix};
 ghost use Rattle.ports.specs.Rooms.{HasRoom};
 ghost use Rattle.delivery.specs.Effects.{IsBegun, IsFiled};
-ghost use Rattle.delivery.specs.OutcomeViews.{filing_of, outcome_of};
+ghost use Rattle.reports.specs.OutcomeViews.{filing_of, outcome_of};
 ghost use Rattle.delivery.specs.Served.{HasFilingSpace};
 ghost use Rattle.std.specs.Prelude.{Some};
 
-use crate::outcome::{Filing, Outcome};
-use crate::status::Status;
 use certificate::write;
 use ports::{Failed, Shelf, Sink};
+use reports::Status;
+use reports::outcome::{Filing, Outcome};
 
 // Writes certificates to their file.
 fn write_certificates<S: Shelf>(filing: &Filing<'_>, shelf: &mut S) -> Result<(), Failed>

@@ -4,22 +4,22 @@ ghost use Rattle.std.specs.List.{All};
 ghost use Rattle.itf_reader.specs.Forms.{Row as GivenRow};
 ghost use Rattle.table_layout.specs.Valid.{IsValid};
 ghost use Rattle.table_layout.specs.Values.{layout_view};
-ghost use Rattle.delivery.specs.AreaAnswers.{plans};
+ghost use Rattle.reports.specs.AreaKinds.{plans};
 ghost use Rattle.delivery.specs.AreaLimits.{IsSmallPlan};
 ghost use Rattle.delivery.specs.Drawings.{AreDrawings};
 ghost use Rattle.delivery.specs.FiledTexts.{AreVerified, IsVerified};
 ghost use Rattle.delivery.specs.Judging.{AreJudged, IsChecked, objects};
-ghost use Rattle.delivery.specs.OutcomeViews.{outcome_of, target_of};
+ghost use Rattle.reports.specs.OutcomeViews.{outcome_of, target_of};
 ghost use Rattle.delivery.specs.Pieces.{IsJudged};
 
 use crate::area_answers::answers_of;
 use crate::judging::Judged;
-use crate::outcome::{
-    Outcome, Target, area_too_large, areas_outcome, misbuilt, rejected, verified,
-};
 use crate::verifying::verify_areas;
 use plane::Drawing;
 use ports::Memory;
+use reports::outcome::{
+    Outcome, Target, area_too_large, areas_outcome, misbuilt, rejected, verified,
+};
 use std::alloc::Global;
 use table_layout::Layout;
 

@@ -7,16 +7,15 @@ ghost use Rattle.delivery.specs.Answers.{HasCause, Passes, IsAnswer, IsFaultless
 ghost use Rattle.delivery.specs.Certified.{Certifies};
 ghost use Rattle.delivery.specs.Deciding.{Decides};
 ghost use Rattle.delivery.specs.Effects.{HasEffects};
-ghost use Rattle.delivery.specs.Outcomes.{Outcome as AnyOutcome};
+ghost use Rattle.reports.specs.Outcomes.{Outcome as AnyOutcome};
 ghost use Rattle.delivery.specs.Served.{IsServed, AreBelowEnd};
 
 use crate::deciding::decide;
 use crate::laws::{outcomes_are_right, straights_are_decided};
 use crate::publishing::publish;
-use crate::report::report;
-use crate::status::Status;
-use crate::word::Word;
+use commands::Word;
 use ports::{Shelf, Sink};
+use reports::{Status, report};
 use std::alloc::Global;
 
 /// Does what the words ask for, over files by name and an output, and answers with a status whose

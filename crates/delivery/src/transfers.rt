@@ -8,10 +8,10 @@ ghost use Rattle.itf_reader.specs.Names.{form_in};
 ghost use Rattle.table_layout.specs.Valid.{IsValid};
 ghost use Rattle.table_layout.specs.Values.{layout_view};
 ghost use Rattle.delivery.specs.Pieces.{Takes, ArePieces, IsTransfer, IsJudged};
-ghost use Rattle.delivery.specs.Reading.{IsWhole, IsLonger, IsFront, IsEnd};
+ghost use Rattle.commands.specs.Reading.{IsWhole, IsLonger, IsFront, IsEnd};
 
-use crate::files::{File, FileRefusal, buffer};
 use crate::judging::{Judge, Judged};
+use commands::{File, FileRefusal, buffer};
 use itf_reader::Names;
 use ports::{Memory, Shelf};
 use std::alloc::Global;

@@ -5,30 +5,19 @@ ghost use Rattle.certificate.specs.Spelling.{ArePaired, view, views};
 ghost use Rattle.certificate_checker.specs.Verdicts.{IsVerdict};
 ghost use Rattle.plane.specs.Rule.Plans.{plan};
 ghost use Rattle.table_layout.specs.Values.{area_view, layout_view};
-ghost use Rattle.delivery.specs.AreaAnswers.{plans};
+ghost use Rattle.reports.specs.AreaKinds.{plans};
 ghost use Rattle.delivery.specs.AreaCertificates.{IsNamedFor, claims_of};
-ghost use Rattle.delivery.specs.VerificationViews.{verification_of};
+ghost use Rattle.reports.specs.VerificationViews.{verification_of};
 ghost use Rattle.delivery.specs.Verifying.{AreChecked, IsFirstMisnamed, IsLineOf, IsNamedAt};
 ghost use Rattle.delivery.specs.Verifying.{IsVerification, Spells};
 
-use crate::area_names::{table_name, topic_name};
 use certificate::{CertFault, Certificate, read};
 use certificate_checker::{Verdict, check};
 use plane::Drawing;
 use ports::Memory;
+use reports::{Verification, table_name, topic_name};
 use std::alloc::Global;
 use table_layout::{AreaOf, Layout};
-
-/// What a text of certificates proves of the areas of a layout.
-#[derive(Drop)]
-pub enum Verification {
-    /// Each certificate proves the drawing of its area. Their levels, in order.
-    Proved(Vec<u8>),
-    /// The first rule that is broken, by the numbers of the certificate format, with the area's
-    /// number from 0 and the place: of rule 0 a line of the text, counted from 1, of rule 1 the
-    /// area, of the others what the format says.
-    NotProved { area: u32, rule: u8, place: u32 },
-}
 
 // The line of a fault of the text.
 fn line_of(fault: CertFault) -> Result<u32, Memory>

@@ -8,7 +8,7 @@ ghost use Rattle.resolver.specs.Values.{line_of};
 ghost use Rattle.field_values.specs.Places.{place_view};
 ghost use Rattle.plane.specs.Rule.Plans.{plan};
 ghost use Rattle.table_layout.specs.Values.{area_view, areas_view, layout_view};
-ghost use Rattle.delivery.specs.AreaAnswers.{plans};
+ghost use Rattle.reports.specs.AreaKinds.{plans};
 ghost use Rattle.delivery.specs.Drawable.{IsIn};
 ghost use Rattle.delivery.specs.Drawings.{curves_after};
 ghost use Rattle.delivery.specs.KeptDrawings.{AreIn, ArePointsIn, AreDrawable, AreDrawn};

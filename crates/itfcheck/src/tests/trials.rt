@@ -2,7 +2,7 @@
 //! says of small ones by their files and of the largest by its words.
 
 use super::calls::{CHECK, words_of};
-use delivery::trial::{model_text, size_of, transfer_text, trial_of};
+use commands::trial::{model_text, size_of, transfer_text, trial_of};
 use delivery::{Status, run};
 use ports::{MemoryShelf, MemorySink, Shelf};
 use std::alloc::Global;

@@ -2,7 +2,7 @@ use Rattle.std.proofs.Common.{◌≡◌, List, ap, arith, length, rules, subst, 
 use Rattle.std.specs.List.{All, AllByRecursion}
 use Rattle.certificate.specs.declared.notes.Certificate.{Certificate}
 use Rattle.table_layout.specs.declared.layouts.AreaOf.{AreaOf as CodeArea}
-use Rattle.delivery.specs.AreaNames.{HasTitle}
+use Rattle.reports.specs.AreaNames.{HasTitle}
 use Rattle.std.proofs.lemmas.List.{length-map}
 use Rattle.std.proofs.lemmas.Slice.Zip.{either_empty_from_Zip, Zip-more}
 use Rattle.std.specs.Iterator.Adapters.{zip_first, zip_second}
@@ -10,7 +10,7 @@ use Rattle.std.specs.Slice.Iter.{iter_rest}
 use Rattle.certificate.specs.Spelling.{Fits, views}
 use Rattle.plane.specs.Rule.Plans.{plan}
 use Rattle.table_layout.specs.Values.{area_view, areas_view, layout_view}
-use Rattle.delivery.specs.AreaAnswers.{plans}
+use Rattle.reports.specs.AreaKinds.{plans}
 use Rattle.delivery.specs.AnswerViews.{certificates_in}
 use Rattle.delivery.proofs.AnswerLemmas.{both_ended, shorter_both, few_first, few_rest, named_first, named_rest, fit_more, count_more, go_on, all_answered}
 use Rattle.delivery.proofs.NamedAreas.{all_titled, areas_few}

@@ -4,9 +4,9 @@ use Rattle.std.specs.List.{All, AllByRecursion}
 use Rattle.std.specs.Slice.Iter.{iter_rest}
 use Rattle.certificate.specs.Spelling.{Fits, views}
 use Rattle.table_layout.specs.Values.{areas_view, layout_view}
-use Rattle.delivery.specs.AreaAnswers.{plans}
+use Rattle.reports.specs.AreaKinds.{plans}
 use Rattle.delivery.specs.AreaLimits.{IsSmallPlan}
-use Rattle.delivery.specs.AreaNames.{HasTitle}
+use Rattle.reports.specs.AreaNames.{HasTitle}
 use Rattle.delivery.proofs.AnswerLemmas.{GoesOn}
 use Rattle.delivery.proofs.area_answers.answers_of.Given as goal
 

@@ -1,6 +1,6 @@
-use Rattle.delivery.specs.CommandViews.{command_of}
+use Rattle.commands.specs.CommandViews.{command_of}
 use Rattle.delivery.specs.Deciding.{formed}
-use Rattle.delivery.proofs.Steps.{if_ok}
+use Rattle.commands.proofs.Results.{if_ok}
 use Rattle.delivery.proofs.deciding.decide.Goals as goal
 
 pub returns-in-Some-clause-outcome : goal.returns-in-Some-clause-outcome

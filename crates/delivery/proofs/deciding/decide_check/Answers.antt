@@ -1,15 +1,16 @@
 use Rattle.std.proofs.Common.{ℕ, List, [], ◌∷◌, ◌++◌, refl, inr, subst}
 use Rattle.ports.specs.Faults.{Rose, ReadRose}
 use Rattle.table_layout.specs.Values.{layout_view}
-use Rattle.delivery.specs.Commands.{check}
-use Rattle.delivery.specs.CommandViews.{names_of}
-use Rattle.delivery.specs.Gathering.{texts, ReadsAll}
+use Rattle.commands.specs.Commands.{check}
+use Rattle.commands.specs.CommandViews.{names_of}
+use Rattle.commands.specs.Gathering.{texts, ReadsAll}
 use Rattle.delivery.specs.Judging.{IsChecked}
-use Rattle.delivery.specs.Outcomes.{Target}
-use Rattle.delivery.specs.OutcomeViews.{outcome_of}
+use Rattle.reports.specs.Outcomes.{Target}
+use Rattle.reports.specs.OutcomeViews.{outcome_of}
 use Rattle.delivery.specs.Pieces.{IsTransfer}
 use Rattle.delivery.specs.declared.transfers.TransferReading.{TransferReading}
-use Rattle.delivery.proofs.Steps.{if_ok, unread_ends}
+use Rattle.commands.proofs.Results.{if_ok}
+use Rattle.delivery.proofs.Steps.{unread_ends}
 use Rattle.delivery.proofs.deciding.decide_check.Goals as goal
 
 pub checked-requires-clause-text : goal.checked-requires-clause-text

@@ -1,10 +1,11 @@
 use Rattle.std.proofs.Common.{ap, subst}
 use Rattle.ports.specs.Faults.{ReadRose}
 use Rattle.table_layout.specs.Values.{layout_view}
-use Rattle.delivery.specs.Commands.{IsWithin}
-use Rattle.delivery.specs.CommandViews.{command_of}
-use Rattle.delivery.specs.OutcomeViews.{outcome_of}
-use Rattle.delivery.proofs.Steps.{if_ok, compile_ends, trial_ends}
+use Rattle.commands.specs.Commands.{IsWithin}
+use Rattle.commands.specs.CommandViews.{command_of}
+use Rattle.reports.specs.OutcomeViews.{outcome_of}
+use Rattle.commands.proofs.Results.{if_ok}
+use Rattle.delivery.proofs.Steps.{compile_ends, trial_ends}
 use Rattle.delivery.proofs.deciding.decide_compiled.Goals as goal
 
 pub returns-in-Compile-clause-outcome : goal.returns-in-Compile-clause-outcome

@@ -1,13 +1,14 @@
 use Rattle.std.proofs.Common.{ℕ, List, [], ◌∷◌, ◌++◌, refl, inr, subst}
 use Rattle.ports.specs.Faults.{ReadRose}
 use Rattle.table_layout.specs.Values.{layout_view}
-use Rattle.delivery.specs.Commands.{verify}
-use Rattle.delivery.specs.CommandViews.{names_of}
+use Rattle.commands.specs.Commands.{verify}
+use Rattle.commands.specs.CommandViews.{names_of}
 use Rattle.delivery.specs.FiledTexts.{IsVerified}
-use Rattle.delivery.specs.Gathering.{texts, ReadsAll}
-use Rattle.delivery.specs.OutcomeViews.{outcome_of}
-use Rattle.delivery.specs.declared.files.File.TheVariants.{Certificate}
-use Rattle.delivery.proofs.Steps.{if_ok, not_read_ends}
+use Rattle.commands.specs.Gathering.{texts, ReadsAll}
+use Rattle.reports.specs.OutcomeViews.{outcome_of}
+use Rattle.commands.specs.declared.files.File.TheVariants.{Certificate}
+use Rattle.commands.proofs.Results.{if_ok}
+use Rattle.delivery.proofs.Steps.{not_read_ends}
 use Rattle.delivery.proofs.deciding.decide_filed.Goals as goal
 
 pub returns-in-Ok-clause-outcome : goal.returns-in-Ok-clause-outcome

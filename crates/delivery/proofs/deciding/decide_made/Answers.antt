@@ -1,9 +1,9 @@
 use Rattle.std.proofs.Common.{ℕ, List, subst, sym, ◌∙◌}
 use Rattle.ports.specs.Faults.{ReadRose}
-use Rattle.delivery.specs.Commands.{Source}
-use Rattle.delivery.specs.CommandViews.{command_of}
-use Rattle.delivery.specs.Gathering.{Reads, Compiles}
-use Rattle.delivery.proofs.Steps.{if_ok}
+use Rattle.commands.specs.Commands.{Source}
+use Rattle.commands.specs.CommandViews.{command_of}
+use Rattle.commands.specs.Gathering.{Reads, Compiles}
+use Rattle.commands.proofs.Results.{if_ok}
 use Rattle.delivery.proofs.deciding.decide_made.Goals as goal
 
 pub returns-clause-outcome : goal.returns-clause-outcome

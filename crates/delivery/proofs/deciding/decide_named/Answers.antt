@@ -1,13 +1,14 @@
 use Rattle.std.proofs.Common.{ℕ, List, Option, inr, subst, sym}
 use Rattle.ports.specs.Faults.{ReadRose}
 use Rattle.ports.specs.Files.{Files}
-use Rattle.delivery.specs.Commands.{Source}
-use Rattle.delivery.specs.CommandViews.{command_of}
+use Rattle.commands.specs.Commands.{Source}
+use Rattle.commands.specs.CommandViews.{command_of}
 use Rattle.delivery.specs.Ending.{EndsModel}
-use Rattle.delivery.specs.Gathering.{Reads, Compiles}
-use Rattle.delivery.specs.OutcomeViews.{outcome_of}
-use Rattle.delivery.specs.declared.files.File.TheVariants.{Model}
-use Rattle.delivery.proofs.Steps.{if_ok, rose_after, model_on, not_read_ends}
+use Rattle.commands.specs.Gathering.{Reads, Compiles}
+use Rattle.reports.specs.OutcomeViews.{outcome_of}
+use Rattle.commands.specs.declared.files.File.TheVariants.{Model}
+use Rattle.commands.proofs.Results.{if_ok}
+use Rattle.delivery.proofs.Steps.{rose_after, model_on, not_read_ends}
 use Rattle.delivery.proofs.deciding.decide_named.Goals as goal
 
 pub returns-in-Err-clause-outcome : goal.returns-in-Err-clause-outcome

@@ -1,8 +1,8 @@
 use Rattle.std.proofs.Common.{refl, inl, inr, subst}
 use Rattle.table_layout.specs.Values.{layout_view}
-use Rattle.delivery.specs.Gathering.{refused}
-use Rattle.delivery.specs.RefusalViews.{refusal_of, IsModelReading}
-use Rattle.delivery.proofs.Steps.{if_ok}
+use Rattle.commands.specs.Gathering.{refused}
+use Rattle.commands.specs.RefusalViews.{refusal_of, IsModelReading}
+use Rattle.commands.proofs.Results.{if_ok}
 use Rattle.delivery.proofs.deciding.decide_text.Goals as goal
 
 pub returns-in-Laid-clause-outcome : goal.returns-in-Laid-clause-outcome

@@ -1,10 +1,10 @@
 use Rattle.std.proofs.Common.{subst}
 use Rattle.table_layout.specs.Values.{layout_view}
 use Rattle.delivery.specs.Judging.{IsChecked}
-use Rattle.delivery.specs.Outcomes.{Target}
-use Rattle.delivery.specs.OutcomeViews.{outcome_of}
-use Rattle.delivery.specs.TrialFiles.{transfer_text}
-use Rattle.delivery.proofs.Steps.{if_ok}
+use Rattle.reports.specs.Outcomes.{Target}
+use Rattle.reports.specs.OutcomeViews.{outcome_of}
+use Rattle.commands.specs.TrialFiles.{transfer_text}
+use Rattle.commands.proofs.Results.{if_ok}
 use Rattle.delivery.proofs.deciding.decide_trial.Goals as goal
 
 pub checked-requires-clause-text : goal.checked-requires-clause-text

@@ -2,14 +2,15 @@ use Rattle.std.proofs.Common.{ℕ, List, [], ◌∷◌, ◌++◌, Option, inr, s
 use Rattle.ports.specs.Faults.{Rose, ReadRose}
 use Rattle.ports.specs.Files.{Files}
 use Rattle.table_layout.specs.Values.{layout_view}
-use Rattle.delivery.specs.Commands.{verify, certificate_source}
-use Rattle.delivery.specs.CommandViews.{names_of}
+use Rattle.commands.specs.Commands.{verify, certificate_source}
+use Rattle.commands.specs.CommandViews.{names_of}
 use Rattle.delivery.specs.Ending.{EndsAfter}
-use Rattle.delivery.specs.Gathering.{ReadsAll}
-use Rattle.delivery.specs.OutcomeViews.{outcome_of}
+use Rattle.commands.specs.Gathering.{ReadsAll}
+use Rattle.reports.specs.OutcomeViews.{outcome_of}
 use Rattle.delivery.specs.Pieces.{IsTransfer}
 use Rattle.delivery.specs.declared.transfers.TransferReading.{TransferReading}
-use Rattle.delivery.proofs.Steps.{if_ok, rose_after, ends_on, unread_ends}
+use Rattle.commands.proofs.Results.{if_ok}
+use Rattle.delivery.proofs.Steps.{rose_after, ends_on, unread_ends}
 use Rattle.delivery.proofs.deciding.decide_verify.Goals as goal
 
 pub decide_filed-requires : goal.decide_filed-requires

@@ -8,7 +8,7 @@ use Rattle.delivery.proofs.Drawables.{area_is, area_table, forms, there}
 use Rattle.delivery.proofs.KeptAt.{points_here}
 use Rattle.delivery.proofs.KeptPlaces.{drawable_as, drawing_as}
 use Rattle.delivery.proofs.KeptSteps.{table_within}
-use Rattle.delivery.proofs.Steps.{if_ok}
+use Rattle.commands.proofs.Results.{if_ok}
 use Rattle.delivery.proofs.drawings.drawing.Goals as goal
 
 pub line_form-form-requires : goal.line_form-form-requires

@@ -7,7 +7,7 @@ use Rattle.itf_reader.specs.declared.transfer.TableRows.{TableRows}
 use Rattle.delivery.specs.KeptViews.{kept_of}
 use Rattle.delivery.proofs.CurveLemmas.{mapped_at}
 use Rattle.delivery.proofs.KeptSteps.{kept_of_table}
-use Rattle.delivery.proofs.Steps.{if_ok}
+use Rattle.commands.proofs.Results.{if_ok}
 use Rattle.delivery.proofs.drawings.kept_at.Goals as goal
 
 pub of_rows-requires : goal.of_rows-requires

@@ -2,13 +2,13 @@ use Rattle.std.proofs.Common.{List, ap, ◌∙◌, sym, subst, length}
 use Rattle.itf_reader.specs.Refusals.{fault_of}
 use Rattle.plane.specs.declared.drawing.Drawing.{Drawing}
 use Rattle.table_layout.specs.Values.{layout_view}
-use Rattle.delivery.specs.AreaAnswers.{plans}
+use Rattle.reports.specs.AreaKinds.{plans}
 use Rattle.delivery.specs.Drawings.{AreDrawings}
 use Rattle.delivery.specs.FiledTexts.{at_fault, well_formed, faulty, oversized, verified}
-use Rattle.delivery.specs.Outcomes.{rejected}
+use Rattle.reports.specs.Outcomes.{rejected}
 use Rattle.delivery.specs.Pieces.{IsJudged}
 use Rattle.delivery.specs.declared.judging.closing.Judged.{Judged}
-use Rattle.delivery.proofs.Steps.{if_ok}
+use Rattle.commands.proofs.Results.{if_ok}
 use Rattle.delivery.proofs.Zips.{drawn_count}
 use Rattle.delivery.proofs.rows.verified_by.Goals as goal
 

@@ -1,9 +1,9 @@
 use Rattle.std.proofs.Common.{ℕ, ap, ◌∙◌}
 use Rattle.table_layout.specs.Values.{layout_view}
-use Rattle.delivery.specs.AreaAnswers.{plans}
-use Rattle.delivery.specs.Outcomes.{verified}
-use Rattle.delivery.specs.VerificationViews.{verification_of}
-use Rattle.delivery.proofs.Steps.{if_ok}
+use Rattle.reports.specs.AreaKinds.{plans}
+use Rattle.reports.specs.Outcomes.{verified}
+use Rattle.reports.specs.VerificationViews.{verification_of}
+use Rattle.commands.proofs.Results.{if_ok}
 use Rattle.delivery.proofs.rows.verify_drawn.Goals as goal
 
 pub returns : goal.returns

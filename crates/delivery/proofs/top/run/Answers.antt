@@ -1,6 +1,6 @@
 use Rattle.std.proofs.Common.{ℕ, List, Option, inl, inr, length, sym, ◌∙◌, subst}
 use Rattle.std.specs.Prelude.{◌≢◌}
-use Rattle.delivery.specs.declared.status.Status.TheVariants.{WriteFault}
+use Rattle.reports.specs.declared.status.Status.TheVariants.{WriteFault}
 use Rattle.delivery.proofs.Certified.{certifies}
 use Rattle.ports.specs.Faults.{ReadRose}
 use Rattle.ports.specs.Files.{Files}
@@ -8,7 +8,7 @@ use Rattle.ports.specs.Output.{Adds, AddsPrefix}
 use Rattle.ports.specs.Rooms.{HasRoom}
 use Rattle.ports.proofs.Steps.{stay_then}
 use Rattle.delivery.specs.Effects.{IsBegun, IsFiled}
-use Rattle.delivery.specs.OutcomeViews.{outcome_of}
+use Rattle.reports.specs.OutcomeViews.{outcome_of}
 use Rattle.delivery.proofs.Causes.{caused, never_memory, not_write_fault}
 use Rattle.delivery.proofs.Steps.{rose_after, rose_before, decides_on}
 use Rattle.delivery.proofs.Agreement.{exactly}

@@ -1,6 +1,6 @@
 use Rattle.std.proofs.Common.{sym}
 use Rattle.ports.specs.declared.Failed.{Failed}
-use Rattle.delivery.proofs.Pieces.{more}
+use Rattle.commands.proofs.Pieces.{more}
 use Rattle.delivery.proofs.transfers.read_piece.Goals as goal
 
 pub returns-in-Ok-clause-front : goal.returns-in-Ok-clause-front

@@ -4,8 +4,8 @@ use Rattle.ports.specs.Files.{Files}
 use Rattle.ports.proofs.Steps.{stay_none, stay_then, ready_none, ready_then}
 use Rattle.table_layout.specs.Values.{layout_view}
 use Rattle.delivery.specs.Pieces.{Takes}
-use Rattle.delivery.specs.Reading.{IsFront}
-use Rattle.delivery.proofs.Pieces.{start, longer}
+use Rattle.commands.specs.Reading.{IsFront}
+use Rattle.commands.proofs.Pieces.{start, longer}
 use Rattle.delivery.proofs.PieceSteps.{nothing_taken, takes_on, front_length}
 use Rattle.delivery.proofs.transfers.read_pieces.Goals as goal
 

@@ -3,7 +3,7 @@ use Rattle.table_layout.specs.Values.{layout_view}
 use Rattle.delivery.specs.Pieces.{Takes}
 use Rattle.ports.specs.Faults.{CountsStay}
 use Rattle.ports.specs.Rooms.{StaysReady}
-use Rattle.delivery.specs.Reading.{IsFront}
+use Rattle.commands.specs.Reading.{IsFront}
 use Rattle.delivery.proofs.transfers.read_pieces.Given as goal
 
 -- the front of the file was judged

@@ -4,7 +4,7 @@ use Rattle.certificate.specs.Spelling.{view, views}
 use Rattle.certificate.specs.declared.notes.Certificate.{Certificate}
 use Rattle.certificate_checker.specs.Verdicts.{IsVerdict}
 use Rattle.plane.specs.Rule.Plans.{plan}
-use Rattle.delivery.specs.AreaAnswers.{plans}
+use Rattle.reports.specs.AreaKinds.{plans}
 use Rattle.delivery.specs.AreaCertificates.{claims_of}
 use Rattle.delivery.specs.Verifying.{IsProvedAt}
 use Rattle.delivery.proofs.VerifyingLemmas.{broken_here, levels_more, levels_view, one_further, proved_here, whole_take}

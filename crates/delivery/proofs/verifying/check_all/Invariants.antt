@@ -1,6 +1,6 @@
 use Rattle.std.proofs.Common.{◌≡◌, ℕ, ◌<◌, map, take}
 use Rattle.certificate.specs.Spelling.{views}
-use Rattle.delivery.specs.AreaAnswers.{plans}
+use Rattle.reports.specs.AreaKinds.{plans}
 use Rattle.delivery.specs.Verifying.{IsProvedAt}
 use Rattle.delivery.proofs.verifying.check_all.Given as goal
 

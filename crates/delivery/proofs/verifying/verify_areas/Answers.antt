@@ -2,7 +2,7 @@ use Rattle.std.proofs.Common.{List, refl, sym, subst}
 use Rattle.certificate.specs.Spelling.{views}
 use Rattle.certificate.specs.declared.notes.Certificate.{Certificate}
 use Rattle.delivery.specs.Verifying.{Spells, unspelt}
-use Rattle.delivery.proofs.Steps.{if_ok}
+use Rattle.commands.proofs.Results.{if_ok}
 use Rattle.delivery.proofs.VerifyingLemmas.{no_list, bad_line_named}
 use Rattle.delivery.proofs.verifying.verify_areas.Goals as goal
 

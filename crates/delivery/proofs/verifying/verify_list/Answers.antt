@@ -3,10 +3,10 @@ use Rattle.std.proofs.lemmas.List.{length-map}
 use Rattle.certificate.specs.Spelling.{views}
 use Rattle.plane.specs.Rule.Plans.{plan}
 use Rattle.table_layout.specs.Values.{area_view, layout_view}
-use Rattle.delivery.specs.AreaAnswers.{plans}
-use Rattle.delivery.specs.VerificationViews.{verification_of}
+use Rattle.reports.specs.AreaKinds.{plans}
+use Rattle.reports.specs.VerificationViews.{verification_of}
 use Rattle.delivery.specs.Verifying.{misnamed}
-use Rattle.delivery.proofs.Steps.{if_ok}
+use Rattle.commands.proofs.Results.{if_ok}
 use Rattle.delivery.proofs.VerifyingLemmas.{checked_list}
 use Rattle.delivery.proofs.verifying.verify_list.Goals as goal
 

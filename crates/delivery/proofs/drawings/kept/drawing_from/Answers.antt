@@ -5,7 +5,7 @@ use Rattle.table_layout.specs.Values.{area_view, layout_view}
 use Rattle.delivery.specs.KeptRows.{Kept}
 use Rattle.delivery.specs.KeptViews.{kept_of, places_in}
 use Rattle.delivery.proofs.KeptAt.{kept_within, kept_is, one_line, points_here, drawable_here, drawn_here}
-use Rattle.delivery.proofs.Steps.{if_ok}
+use Rattle.commands.proofs.Results.{if_ok}
 use Rattle.delivery.proofs.drawings.kept.drawing_from.Goals as goal
 
 pub bounds-tables-area-2 : goal.bounds-tables-area-2

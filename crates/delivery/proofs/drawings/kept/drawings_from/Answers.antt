@@ -2,7 +2,7 @@ use Rattle.std.proofs.Common.{List, ◌+◌, map, take, sym, subst}
 use Rattle.std.specs.List.{All, AllZip}
 use Rattle.table_layout.specs.Values.{area_view, areas_view, layout_view}
 use Rattle.table_layout.specs.declared.layouts.AreaOf.{AreaOf}
-use Rattle.delivery.specs.AreaAnswers.{plans}
+use Rattle.reports.specs.AreaKinds.{plans}
 use Rattle.delivery.specs.KeptDrawings.{CanBeDrawn, IsDrawnFrom}
 use Rattle.delivery.specs.KeptViews.{places_in}
 use Rattle.delivery.proofs.Zips.{drawn_more}

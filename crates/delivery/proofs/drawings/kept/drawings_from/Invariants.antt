@@ -1,7 +1,7 @@
 use Rattle.std.proofs.Common.{take}
 use Rattle.std.specs.List.{AllZip}
 use Rattle.table_layout.specs.Values.{areas_view, layout_view}
-use Rattle.delivery.specs.AreaAnswers.{plans}
+use Rattle.reports.specs.AreaKinds.{plans}
 use Rattle.delivery.specs.KeptDrawings.{IsDrawnFrom}
 use Rattle.delivery.specs.KeptViews.{places_in}
 use Rattle.delivery.proofs.drawings.kept.drawings_from.Given as goal

@@ -5,7 +5,7 @@ use Rattle.itf_reader.specs.Layouts.{form_of}
 use Rattle.table_layout.specs.Values.{areas_view, layout_view}
 use Rattle.table_layout.specs.declared.layouts.AreaOf.{AreaOf as CodeArea}
 use Rattle.ident_refs.specs.FedRows.{fed_keys}
-use Rattle.delivery.specs.AreaAnswers.{plans}
+use Rattle.reports.specs.AreaKinds.{plans}
 use Rattle.delivery.specs.Judging.{lines_of, findings}
 use Rattle.delivery.specs.KeptDrawings.{has_kept_large}
 use Rattle.delivery.specs.KeptRows.{all_found, places_of, transfer_so_far}

@@ -1,0 +1,99 @@
+// The words of the command line.
+ghost use Rattle.std.specs.Prelude.{◌≡◌, IfSome, IfNone, List, ℕ};
+ghost use Rattle.commands.specs.Commands.{FileNames as AnyNames, is_file_name};
+ghost use Rattle.commands.specs.Commands.{IsSpelled, IsCompile, IsCommand, IsUsage};
+ghost use Rattle.commands.specs.CommandViews.{names_of, command_of as command_view};
+
+use crate::trial::{TrialWords, trial_of};
+use crate::word::Word;
+
+/// The names of the model, of the transfer, and of the file of the certificates.
+#[derive(Clone, Copy)]
+pub struct FileNames<'a> {
+    pub model: &'a str,
+    pub transfer: &'a str,
+    pub certificate: &'a str,
+}
+
+/// What the words ask for.
+#[derive(Clone, Copy)]
+pub enum Command<'a> {
+    /// `compile M`: the name of the model.
+    Compile(&'a str),
+    /// `check M T C`: the certificates are written to their file.
+    Check(FileNames<'a>),
+    /// `verify M T C`: the certificates are read from their file.
+    Verify(FileNames<'a>),
+    /// `trial N C`: the files are made, and the certificates written to their file.
+    Trial(TrialWords<'a>),
+}
+
+/// A name of a file is not empty and does not begin with a minus.
+pub fn is_file_name(name: &str) -> bool
+    ensures { result ≡ is_file_name name.now }
+{
+    match name.as_bytes() {
+        [first, ..] => *first != b'-',
+        [] => false,
+    }
+}
+
+// The model that the words ask to compile, if they do.
+fn compile_of(words: &[Word]) -> Option<&str>
+    ensures some { IfSome result (λ model. IsCompile words.now model.now) }
+    ensures none { IfNone result ((model : List ℕ) → IsCompile words.now model → ⊥) }
+{
+    let [command, model] = words else {
+        return None;
+    };
+    let model = model.text();
+    if command.text() == "compile" && is_file_name(model) {
+        Some(model)
+    } else {
+        None
+    }
+}
+
+// The files that the words name after that command, if they do.
+fn files_of<'a>(words: &'a [Word], named: &str) -> Option<FileNames<'a>>
+    ensures some { IfSome result (λ names. IsSpelled named.now words.now (names_of names)) }
+    ensures none { IfNone result ((c : AnyNames) → IsSpelled named.now words.now c → ⊥) }
+{
+    let [command, model, transfer, certificate] = words else {
+        return None;
+    };
+    let names = FileNames {
+        model: model.text(),
+        transfer: transfer.text(),
+        certificate: certificate.text(),
+    };
+    if command.text() == named
+        && is_file_name(names.model)
+        && is_file_name(names.transfer)
+        && is_file_name(names.certificate)
+    {
+        Some(names)
+    } else {
+        None
+    }
+}
+
+/// The command that the words spell; none where they have no right form.
+pub fn command_of(words: &[Word]) -> Option<Command<'_>>
+    ensures command { IfSome result (λ command. IsCommand words.now (command_view command)) }
+    ensures usage { IfNone result (IsUsage words.now) }
+{
+    if let Some(names) = files_of(words, "check") {
+        return Some(Command::Check(names));
+    }
+    if let Some(names) = files_of(words, "verify") {
+        return Some(Command::Verify(names));
+    }
+    if let Some(trial) = trial_of(words) {
+        return Some(Command::Trial(trial));
+    }
+    match compile_of(words) {
+        Some(model) => Some(Command::Compile(model)),
+        None => None,
+    }
+}

@@ -1,8 +1,0 @@
-use Rattle.std.proofs.Common.{◌≡◌, ◌++◌, drop, map}
-use Rattle.table_layout.specs.Values.{tables_view}
-use Rattle.delivery.specs.LineViews.{lines_of}
-use Rattle.delivery.specs.Outcomes.{table_line}
-use Rattle.delivery.proofs.outcome.add_tables.Given as goal
-
-abbrev pub invariant-loop-table : goal.invariant-loop-table
-invariant-loop-table l = lines_of l.lines.items ++ map (table_line l.topics) (tables_view (drop l.table-index l.tables)) ≡ lines_of l.fn.lines.items ++ map (table_line l.topics) (tables_view l.tables)

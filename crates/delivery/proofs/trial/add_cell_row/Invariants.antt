@@ -1,6 +1,0 @@
-use Rattle.std.proofs.Common.{◌≡◌, ◌≤◌, ◌++◌}
-use Rattle.delivery.specs.TrialFiles.{cell, each}
-use Rattle.delivery.proofs.trial.add_cell_row.Given as goal
-
-abbrev pub invariant-loop-i : goal.invariant-loop-i
-invariant-loop-i l = record { text : l.text ≡ l.fn.text ++ each l.i (cell l.n l.j); within : l.i ≤ l.n }

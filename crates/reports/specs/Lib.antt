@@ -1,0 +1,11 @@
+pub mod AreaKinds
+pub mod AreaNames
+pub mod Codes
+pub mod FileRefusals
+pub mod LineViews
+pub mod Lines
+pub mod OutcomeViews
+pub mod Outcomes
+pub mod Statuses
+pub mod VerificationViews
+pub mod Verifications

@@ -1,0 +1,173 @@
+-- Outcomes: what a call answers, reports and writes.
+use Rattle.std.specs.Prelude.{ℕ, if◌then◌else◌, List, [], ◌∷◌, ◌++◌, map, length, Option, Some}
+use Rattle.std.specs.Prelude.{None, slice_index_or}
+use Rattle.std.specs.List.{flat_map}
+use Rattle.plane.specs.Rule.Plans.{Plan}
+use Rattle.certificate.specs.Spelling.{Plain}
+use Rattle.itf_reader.specs.Findings.{Finding}
+use Rattle.itf_reader.specs.Readings.{Structure}
+use Rattle.table_layout.specs.Layouts.{Table, AreaOf, Layout}
+use Rattle.reports.specs.AreaKinds.{has_fault, has_left, proof_answer}
+use Rattle.reports.specs.AreaNames.{topic_name, table_name}
+use Rattle.reports.specs.Lines as lines
+use Rattle.reports.specs.Lines.{Line, line_text}
+use Rattle.commands.specs.ModelTexts.{Refusal}
+use Rattle.reports.specs.Verifications.{Verification, proved, not_proved}
+use Rattle.commands.specs.declared.files.File.{File}
+use Rattle.reports.specs.declared.lines.AreaAnswer.{AreaAnswer}
+use Rattle.reports.specs.declared.lines.AreaAnswer.TheVariants as answer
+use Rattle.reports.specs.declared.lines.Verdict as verdicts
+use Rattle.reports.specs.declared.lines.Verdict.TheVariants as verdict
+use Rattle.reports.specs.declared.status.Status.{Status}
+use Rattle.reports.specs.declared.status.Status.TheVariants as status
+
+-- certificates, and the name of the file that they go to
+pub record Filing : Type 0 where
+  pub name : List ℕ
+  pub certificates : List Plain
+
+-- where certificates go: the name of their file; and for a trial its size, which the report names
+pub record Target : Type 0 where
+  pub name : List ℕ
+  pub trial : Option ℕ
+
+abbrev pub check_target : List ℕ → Target
+check_target name = record { name = name; trial = None }
+
+abbrev pub trial_target : ℕ → List ℕ → Target
+trial_target n name = record { name = name; trial = Some n }
+
+-- a status, the lines of the report, and the certificates where there are any to write
+pub record Outcome : Type 0 where
+  pub status : Status
+  pub lines : List Line
+  pub filing : Option Filing
+
+-- the report: the text of its lines
+abbrev pub report_of : Outcome → List ℕ
+report_of o = flat_map line_text o.lines
+
+-- an outcome that writes no certificates
+abbrev pub reported : Status → List Line → Outcome
+reported s ls = record { status = s; lines = ls; filing = None }
+
+-- ---- each outcome
+-- the words are no command
+abbrev pub usage : Outcome
+usage = reported status.Usage (lines.usage_fault ∷ lines.usage_words ∷ [])
+
+-- a file could not be read
+abbrev pub unread : File → Outcome
+unread f = reported status.ReadFault (lines.unread f ∷ [])
+
+-- a file is longer than its limit
+abbrev pub too_long : File → Outcome
+too_long f = reported status.OverLimit (lines.too_long f ∷ [])
+
+-- an area has more vertices or objects than its limit
+abbrev pub area_too_large : Outcome
+area_too_large = reported status.OverLimit (lines.area_limit ∷ [])
+
+-- the model is refused
+abbrev pub refused : Refusal → Outcome
+refused r = reported status.ModelRefused (lines.model_fault r ∷ [])
+
+-- a table of a layout whose topics have these names
+abbrev pub table_line : List (List ℕ) → Table → Line
+table_line topics t =
+    lines.table (record {
+      topic = slice_index_or topics t.topic [];
+      name = t.name;
+      role = t.role;
+      columns = length t.columns;
+      lines = length t.lines;
+    })
+
+-- the model is compiled to this layout
+abbrev pub compiled : Layout → Outcome
+compiled l =
+    reported status.Accepted
+    (lines.model l.model
+    ∷ (map (table_line l.topics) l.tables
+    ++ (lines.verdict (verdict.Compiled (length l.tables)) ∷ [])))
+
+-- the transfer is no text of the layout: the first line at fault, and its code
+abbrev pub misbuilt : ℕ → Structure → Outcome
+misbuilt n code =
+    reported status.Rejected (lines.structure n code ∷ lines.verdict verdict.Rejected ∷ [])
+
+-- the transfer has these findings
+abbrev pub rejected : List Finding → Outcome
+rejected found =
+    reported status.Rejected (map lines.finding found ++ (lines.verdict verdict.Rejected ∷ []))
+
+-- an area of the layout, and the answer to it
+abbrev pub area_line : Layout → AreaOf → AreaAnswer → Line
+area_line l a x =
+    lines.area (record {
+      topic = topic_name l a;
+      table = table_name l a;
+      attribute = a.name;
+      answer = x;
+    })
+
+abbrev pub area_lines : Layout → List AreaOf → List AreaAnswer → List Line
+area_lines l [] xs = []
+area_lines l (a ∷ as_) [] = []
+area_lines l (a ∷ as_) (x ∷ xs) = area_line l a x ∷ area_lines l as_ xs
+
+-- what a trial of that size reports of an area that is proved: its curves, the events that its
+-- certificate has positions for, and its points
+abbrev pub trial_line : ℕ → AreaAnswer → Plain → List Line
+trial_line n (answer.Proved level curves points) c =
+    lines.trial n curves (length c.positions) points ∷ []
+trial_line n x c = []
+
+abbrev pub size_lines : ℕ → List AreaAnswer → List Plain → List Line
+size_lines n [] cs = []
+size_lines n (x ∷ xs) [] = []
+size_lines n (x ∷ xs) (c ∷ cs) = trial_line n x c ++ size_lines n xs cs
+
+-- nothing where it is no trial
+abbrev pub trial_lines : Option ℕ → List AreaAnswer → List Plain → List Line
+trial_lines None xs cs = []
+trial_lines (Some n) xs cs = size_lines n xs cs
+
+-- the lines of a report and its verdict
+abbrev pub with_verdict : List Line → verdicts.Verdict → List Line
+with_verdict ls v = ls ++ (lines.verdict v ∷ [])
+
+-- so many objects without a finding, and these lines of the areas: the certificates go to the file
+-- of that name
+abbrev pub accepted : List Line → ℕ → List ℕ → List Plain → Outcome
+accepted ls objects name cs =
+    record {
+      status = status.Accepted;
+      lines = with_verdict ls (verdict.Accepted objects);
+      filing = Some (record { name = name; certificates = cs });
+    }
+
+-- So many objects without a finding, and these are the answers to the areas of the layout. One at
+-- fault rejects the transfer, else one that is left leaves it undecided, else it is accepted, with
+-- these certificates for the target.
+abbrev pub areas_outcome : Layout → ℕ → Target → List AreaAnswer → List Plain → Outcome
+areas_outcome l objects target xs cs =
+    if has_fault xs
+    then reported status.Rejected (with_verdict (area_lines l l.areas xs) verdict.Rejected)
+    else if has_left xs
+    then reported status.Undecided (with_verdict (area_lines l l.areas xs) verdict.Undecided)
+    else accepted (area_lines l l.areas xs ++ trial_lines target.trial xs cs) objects target.name cs
+
+-- so many objects, and drawings that are shown to be partitions at these levels
+abbrev pub proof_answers : List Plan → List ℕ → List AreaAnswer
+proof_answers [] levels = []
+proof_answers (d ∷ ds) [] = []
+proof_answers (d ∷ ds) (level ∷ levels) = proof_answer d level ∷ proof_answers ds levels
+
+-- what the filed certificates prove
+abbrev pub verified : Layout → ℕ → List Plan → Verification → Outcome
+verified l objects ds (proved levels) =
+    reported status.Accepted
+    (with_verdict (area_lines l l.areas (proof_answers ds levels)) (verdict.Accepted objects))
+verified l objects ds (not_proved a rule place) =
+    reported status.NotProved (lines.not_proved a rule place ∷ lines.verdict verdict.NotProved ∷ [])

@@ -1,0 +1,37 @@
+//! What a call comes to, and how it is reported.
+//!
+//! An outcome is a status, the lines of a report, and the certificates where there are any to
+//! write. `outcome` makes each of them: wrong words, a file that was not read, a refused model, a
+//! compiled one, a transfer with a line at fault or with findings, the answers to all areas, and
+//! what filed certificates prove. `report` gives the text of an outcome, line by line.
+//!
+//! - **The definitions.** `specs/Outcomes` has the outcomes, `specs/Lines` and `specs/Codes` the
+//!   words of each line, `specs/Statuses` the number of each status. Lines name curves and objects
+//!   by their lines in the transfer, and areas by their topic, table and attribute
+//!   (`specs/AreaNames`).
+//! - **Order of a report.** Findings come first, or one line for each table or area; then the line
+//!   of a trial, if it is one; the verdict is last. A call that could not read or compile has one
+//!   line, and two for wrong words.
+//! - **Areas.** One fault rejects the transfer, else an area that is left makes it undecided, else
+//!   it is accepted.
+//! - **Not here:** which answer an area has, whether certificates prove anything, and the writing.
+//!
+//! The layer above may use the clauses of these calls and the definitions. Cost: time and memory in
+//! proportion to the report, which is made whole, and no memory for a status.
+#![tactic(auto)]
+
+mod area_answers;
+mod area_names;
+mod codes;
+mod lines;
+pub mod outcome;
+mod status;
+mod text;
+mod verification;
+
+pub use area_answers::{Answers, proof_answer};
+pub use area_names::{AreaNames, names_of, table_name, topic_name};
+pub use lines::AreaAnswer;
+pub use status::Status;
+pub use text::report;
+pub use verification::Verification;
