@@ -39,7 +39,7 @@ for name in sys.argv[2:]:
         print(counts[name])
         break
 else:
-    print(0)
+    sys.exit("no count of " + " ".join(sys.argv[2:]))
 PY
 }
 
@@ -75,7 +75,7 @@ for kind in cover arcs; do
     tell "$(search bad.counts)" "$sweep" "the search in all of the bad one"
     python3 "$top/bench/drawings.py" $kind-undecided $size "$work"
     count undecided.counts "$itfcheck" check model transfer certificate
-    tell "$(counted undecided.counts meetings::arcs::arc_meeting area_search::levels::fault_beside_straights)" "$sweep" "bad pairs with a half arc" 0.8
-    tell "$(counted undecided.counts area_search::levels::search_levels)" "$sweep" "bad pairs, points and levels"
+    tell "$(counted undecided.counts meetings::arcs::arc_meeting_among area_search::unsettled::answer_clear)" "$sweep" "bad pairs with a half arc" 0.8
+    tell "$(counted undecided.counts area_search::unsettled::answer_unsettled)" "$sweep" "what follows the levels"
     tell "$(search undecided.counts)" "$sweep" "the undecided search in all"
 done

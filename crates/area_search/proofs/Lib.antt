@@ -28,3 +28,4 @@ pub mod MarkedNumbers
 pub mod PointsOnCurves
 pub mod LevelSearch
 pub mod SetAsideCurves
+pub mod AloneCurves

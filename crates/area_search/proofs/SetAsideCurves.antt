@@ -124,7 +124,7 @@ module _ (d : Plan) (marks : List Bool) (r : Rest) (is : IsRest d marks r) where
         bad = subst (λ (c : Curve). AreBad c (curve e y.a)) x.curve_is (subst (λ (c : Curve). AreBad (curve d i) c) y.curve_is p.bad);
       })
 
-  no_break : ((i j a b : ℕ) → a < length e.curves → b < length e.curves → curve d i ≡ curve e a → curve d j ≡ curve e b → (i ≡ j → ⊥) → (a ≡ b → ⊥) → Breaks d 5 i j → Breaks e 5 a b) → HasNoBreak e
+  pub no_break : ((i j a b : ℕ) → a < length e.curves → b < length e.curves → curve d i ≡ curve e a → curve d j ≡ curve e b → (i ≡ j → ⊥) → (a ≡ b → ⊥) → Breaks d 5 i j → Breaks e 5 a b) → HasNoBreak e
       → (i j : ℕ) → i < j → j < length d.curves → Breaks d 5 i j → mark_of marks i ≡ false → mark_of marks j ≡ false → ⊥
   no_break law none i j o t h u v =
       let x = placed i (omega (arith, o, t)) u in

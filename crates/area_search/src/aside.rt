@@ -1,8 +1,9 @@
 // Curves of a drawing that are set aside, so that of the others nothing has to be searched.
-ghost use Rattle.std.specs.Prelude.{◌≡◌, ◌<◌, ◌≤◌, IfOk, IfSome, OnOk, length};
+ghost use Rattle.std.specs.Prelude.{◌≡◌, ◌<◌, ◌≤◌, IfOk, IfSome, IsTrue, OnOk, length};
 ghost use Rattle.level_breaks.specs.LevelLists.{HasNoBadStraights};
 ghost use Rattle.plane.specs.Rule.Plans.{plan};
 ghost use Rattle.tubes.specs.TubedEdges.{IsFit};
+ghost use Rattle.area_search.specs.Alone.{IsBare};
 ghost use Rattle.area_search.specs.CurvePoints.{IsLeastOf, LiesOnStraight};
 ghost use Rattle.area_search.specs.SetAside.{AreArcMarks, AreAside, IsNumbered};
 
@@ -43,13 +44,14 @@ pub(crate) fn set_aside(
     ensures { IfOk result (λ a. AreAside (plan drawing.now) a.marks.items a.on_others) }
 {
     breaks_have_half_arcs();
-    if has_many_pairs(alloc, drawing)? {
+    let marks = half_arc_marks(alloc, &drawing.curves)?;
+    if has_many_pairs(alloc, drawing, &marks)? {
         if let Some(aside) = few_aside(alloc, drawing)? {
             return Ok(aside);
         }
     }
     Ok(Aside {
-        marks: half_arc_marks(alloc, &drawing.curves)?,
+        marks,
         on_others: on_straight,
     })
 }
@@ -65,7 +67,8 @@ fn few_aside(alloc: Global, drawing: &Drawing) -> Result<Option<Aside>, Memory>
     let mut marks = bare_marks(alloc, drawing)?;
     for _ in 0..ROUNDS {
         let rest = rest_of(alloc, drawing, &marks)?;
-        match settle(alloc, &rest.drawing)? {
+        let firm = vec![in alloc; false; rest.numbers.len()]?;
+        match settle(alloc, &rest.drawing, &firm)? {
             Settling::Settled(on) => {
                 let on_others = numbered(&rest.numbers, on);
                 return Ok(Some(Aside { marks, on_others }));
@@ -78,7 +81,7 @@ fn few_aside(alloc: Global, drawing: &Drawing) -> Result<Option<Aside>, Memory>
 }
 
 /// Marks the curves whose places among the numbers are marked.
-fn mark_near(marks: &mut [bool], numbers: &[u32], near: &[bool])
+pub(crate) fn mark_near(marks: &mut [bool], numbers: &[u32], near: &[bool])
     ensures { length marks.new ≡ length marks.old }
 {
     for place in 0..near.len() {
@@ -123,8 +126,10 @@ fn bare_marks(alloc: Global, drawing: &Drawing) -> Result<Vec<bool>, Memory>
     Ok(marks)
 }
 
-fn is_bare(alloc: Global, curve: &Curve) -> Result<bool, Memory>
+/// Whether the curve is a half arc without a tube at the last level.
+pub(crate) fn is_bare(alloc: Global, curve: &Curve) -> Result<bool, Memory>
     requires { IsFit curve.now }
+    ensures { IfOk result (λ bare. IsTrue bare → IsBare curve.now) }
 {
     if curve.kind == CurveKind::Straight {
         return Ok(false);

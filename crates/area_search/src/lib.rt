@@ -22,15 +22,18 @@
 //!   then the least pair with a half arc, then points on curves (`on_curves`), then the least pair
 //!   that breaks level 5 (`unsettled`). Where half arcs have many others near them, curves that are
 //!   near each other at level 5 are first set aside, until it settles the drawing of the others:
-//!   then only pairs with one of these are tested (`aside`). Of a drawing that a level settles,
-//!   with a complete run of its edges at that level (`finishing`): one replay of the run for the
-//!   places of the points, which say for each whether it lies on a curve, in the tube of a half arc
-//!   or in a cell (`spots`), after which the edges are freed but for what they stand for; one for
-//!   the mesh of its half-edges, after which the events of the run are freed but for their
-//!   positions; the faces of the mesh by what its cells join, and those beside each curve
-//!   (`case_sides`); and links from each half-edge to the border, a tube or a point. What the
-//!   certificate says is what the run, the places, the faces and the links are;
-//!   `certificate_checker` judges it without any of them.
+//!   then only pairs with one of these are tested (`aside`). Where many are set aside, curves that
+//!   break level 5 with no other one are looked for (`alone`), and no pair with one that is found
+//!   is tested for a break.
+//!
+//!   A drawing that a level settles is answered from a complete run of its edges at that level
+//!   (`finishing`): by one replay of the run for the places of the points, which say for each
+//!   whether it lies on a curve, in the tube of a half arc or in a cell (`spots`), after which the
+//!   edges are freed but for what they stand for; by one for the mesh of its half-edges, after
+//!   which the events of the run are freed but for their positions; by the faces of the mesh, which
+//!   its cells join, and those beside each curve (`case_sides`); and by links from each half-edge
+//!   to the border, a tube or a point. What the certificate says is what the run, the places, the
+//!   faces and the links are; `certificate_checker` judges it without any of them.
 //! - **Degenerate cases.** No line, no point, several rings, holes, lines that end inside a region,
 //!   rings that touch in a vertex, equal points and points at vertices are all taken.
 //! - **Not here:** names of areas, lines of the transfer, and the text of a certificate.
@@ -42,9 +45,11 @@
 //! the straights, the tubes of level 5, and curves set aside times the curves, points and groups of
 //! edges that begin within their boxes. Set aside are all half arcs; or, where these have more than
 //! some 32 others near them on the average, those without which level 5 settles the drawing, if up
-//! to eight times two sweeps of its edges find them.
+//! to eight times two sweeps of its edges find them. Where more than some 32 of these are near each
+//! curve, up to 24 times two sweeps more.
 #![tactic(auto)]
 
+mod alone;
 mod aside;
 mod bad_edges;
 mod by_sweep;
@@ -72,6 +77,7 @@ mod settled_runs;
 mod settling;
 mod sides;
 mod spots;
+mod standing;
 mod unsettled;
 mod writing;
 

@@ -17,7 +17,7 @@ use super::numbers::mark;
 use super::points::OnCurve;
 use super::settled_runs::settled_facings;
 use super::spots::first_spot_on;
-use line_sweep::{SweepRefusal, Swept, clashing, sweep};
+use line_sweep::{BadEdges, SweepRefusal, Swept, clashing, sweep};
 use plane::Drawing;
 use ports::Memory;
 use std::alloc::Global;
@@ -34,21 +34,27 @@ pub(crate) enum Settling {
     Unsettled,
 }
 
-/// What the last level shows of a drawing, by a sweep of its edges. The only error is out of
+/// What the last level shows of a drawing, by a sweep of its edges. Of two curves that are near
+/// each other those are marked that are not firm, or one, where both are. The only error is out of
 /// memory.
-pub(crate) fn settle(alloc: Global, drawing: &Drawing) -> Result<Settling, Memory>
+pub(crate) fn settle(alloc: Global, drawing: &Drawing, firm: &[bool]) -> Result<Settling, Memory>
     requires { length (plan drawing.now).curves ≤ 16000000 }
     ensures { IfOk result (IsSettling (plan drawing.now)) }
 {
     tubes::laws::few_edges();
     match edge_list(alloc, drawing, 5)? {
-        Some(list) => settle_list(alloc, drawing, list),
+        Some(list) => settle_list(alloc, drawing, list, firm),
         None => Ok(Settling::Unsettled),
     }
 }
 
 /// The same, with the edges.
-fn settle_list(alloc: Global, drawing: &Drawing, list: EdgeList) -> Result<Settling, Memory>
+fn settle_list(
+    alloc: Global,
+    drawing: &Drawing,
+    list: EdgeList,
+    firm: &[bool],
+) -> Result<Settling, Memory>
     requires few { length list.edges.items < 2 ^ 31 }
     requires list { IsTubedList (plan drawing.now) 5 list }
     requires usable { AreUsable (plan drawing.now) list.edges.items }
@@ -57,28 +63,26 @@ fn settle_list(alloc: Global, drawing: &Drawing, list: EdgeList) -> Result<Settl
     match sweep(alloc, &list.edges) {
         Ok(swept) => settle_run(alloc, drawing, list, &swept),
         Err(SweepRefusal::Bad { first, second }) => {
-            near_edges(alloc, drawing, &list, first, second)
+            near_edges(alloc, drawing, &list, firm, BadEdges { first, second })
         }
         Err(SweepRefusal::Memory) => Err(Memory),
     }
 }
 
-/// The curves of edges that are bad, those of these two among them.
+/// The curves of edges that are bad, by these two and others.
 fn near_edges(
     alloc: Global,
     drawing: &Drawing,
     list: &EdgeList,
-    first: u32,
-    second: u32,
+    firm: &[bool],
+    known: BadEdges,
 ) -> Result<Settling, Memory>
     requires few { length list.now.edges.items < 2 ^ 31 }
     requires usable { AreUsable (plan drawing.now) list.now.edges.items }
     ensures { IfOk result (IsSettling (plan drawing.now)) }
 {
     let curves = curve_numbers(alloc, &list.owners)?;
-    let mut near = clashing(alloc, &list.edges, &curves, drawing.curves.len())?;
-    mark(&mut near, &curves, first as usize);
-    mark(&mut near, &curves, second as usize);
+    let near = clashing(alloc, &list.edges, &curves, firm, known)?;
     Ok(Settling::Near(near))
 }
 

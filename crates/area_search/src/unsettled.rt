@@ -9,6 +9,7 @@ ghost use Rattle.area_search.specs.SetAside.{AreAside};
 ghost use Rattle.area_search.specs.declared.kinds.AreaAnswer.TheVariants.{Fault};
 ghost use Rattle.area_search.specs.declared.kinds.AreaFinding.TheVariants.{Meeting};
 
+use super::alone::alone_curves;
 use super::aside::{Aside, set_aside};
 use super::kinds::{AreaAnswer, AreaFinding};
 use super::on_curves::{first_on_curve, first_on_straight};
@@ -81,6 +82,7 @@ fn answer_clear(
 
 /// The same, where no two curves are bad.
 fn answer_good(alloc: Global, drawing: &Drawing, aside: &Aside) -> Result<AreaAnswer, Memory>
+    requires few { length (plan drawing.now).curves ≤ 16000000 }
     requires unsettled { AreClear (plan drawing.now) → IsUnsettled (plan drawing.now) }
     requires pairs { HasNoBadPair (plan drawing.now) }
     requires aside { AreAside (plan drawing.now) aside.now.marks.items aside.now.on_others }
@@ -97,13 +99,15 @@ fn answer_good(alloc: Global, drawing: &Drawing, aside: &Aside) -> Result<AreaAn
 
 /// The first pair that breaks the last level, where no curve is at fault.
 fn first_undecided(alloc: Global, drawing: &Drawing, marks: &[bool]) -> Result<AreaAnswer, Memory>
+    requires few { length (plan drawing.now).curves ≤ 16000000 }
     requires size { length marks.now ≡ length drawing.now.curves.items }
     requires marked { AreBreaksMarked (plan drawing.now) 5 marks.now }
     requires clear { AreClear (plan drawing.now) }
     requires unsettled { IsUnsettled (plan drawing.now) }
     ensures { IfOk result (IsAnswer (plan drawing.now)) }
 {
-    match first_break_among(alloc, drawing, 5, marks)? {
+    let alone = alone_curves(alloc, drawing, marks)?;
+    match first_break_among(alloc, drawing, 5, marks, &alone)? {
         Some(pair) => Ok(AreaAnswer::Undecided {
             first: pair.first,
             second: pair.second,

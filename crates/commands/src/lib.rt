@@ -1,9 +1,10 @@
 //! What a call is asked for: the words of a command, the files that it reads, the model among them,
 //! and the files of a trial, which are made in memory.
 //!
-//! - **Words.** `command_of` gives the one command that the words spell: `compile M`, `check M T C`,
-//!   `verify M T C` or `trial N C`. Names of files are not empty and do not begin with a minus, and
-//!   N is a number from 1 to 500 without sign or leading zero. All other words spell none.
+//! - **Words.** `command_of` gives the one command that the words spell: `compile M`,
+//!   `check M T C`, `verify M T C` or `trial N C`. Names of files are not empty and do not begin
+//!   with a minus, and N is a number from 1 to 500 without sign or leading zero. All other words
+//!   spell none.
 //! - **Files.** `read_file` reads a file whole, in pieces of 65,536 bytes, and refuses one past its
 //!   limit: 4,194,304 bytes for a model, 268,435,456 for a transfer, 1,073,741,824 for
 //!   certificates. It fails only where a count of faults rose, and not where the file is readable.

@@ -35,9 +35,9 @@ Passes held counted words test =
 -- Accepted: the model has no fault; for `check` and `trial`, every object meets the declarations of
 -- its table, no AREA is over its limit, and the drawing of each is a partition; for `verify`, the
 -- filed certificates prove that, too.
--- Rejected: a line of the transfer is at fault, or the objects have findings; for `check` and
--- `trial`, or they have none, no AREA is over its limit, and the drawing of one has a fault, so
--- that it is no partition.
+-- Rejected: a line of the transfer is at fault, or the objects have findings; or, for `check` and
+-- `trial`, they have none, no AREA is over its limit, and the drawing of one has a fault, so that
+-- it is no partition.
 -- Undecided: for `check` and `trial`, every object meets the declarations of its table, no AREA is
 -- over its limit, and no level settles the drawing of some AREA, as two of its curves show, of
 -- which one is a half arc; each other drawing is such a one or a partition. So it never comes where

@@ -31,8 +31,8 @@
 //!   output in memory serve so where they hold the files and have room (`laws::memory_serves`).
 //!
 //! The crate `commands` reads the words, the files and the model. Here `transfers` reads a transfer
-//! in pieces, and `judging` judges them: lines, rows and what is kept of these. `deciding` fixes the
-//! outcome, which the crate `reports` makes and turns into a text: a status, the lines of the
+//! in pieces, and `judging` judges them: lines, rows and what is kept of these. `deciding` fixes
+//! the outcome, which the crate `reports` makes and turns into a text: a status, the lines of the
 //! report, and the certificates where there are any to write. `publishing` writes. An answer to an
 //! area has one arm in `area_answers`; filed certificates are judged in `verifying`.
 //!

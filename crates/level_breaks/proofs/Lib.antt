@@ -15,3 +15,4 @@ pub mod BrokenPairs
 pub mod PairBreaks
 pub mod FirstBreaks
 pub mod SameCurves
+pub mod AloneMarks

@@ -1,5 +1,5 @@
 -- The tubes, boxes and marks of the curves of a drawing.
-use Rattle.std.specs.Prelude.{◌≡◌, ℕ, ◌<◌, ◌⊎◌, Bool, true, Option, Some, None, List, length}
+use Rattle.std.specs.Prelude.{◌≡◌, ℕ, ◌<◌, ◌⊎◌, Bool, true, false, Option, Some, None, List, length}
 use Rattle.std.specs.Prelude.{slice_index_or, IfSome}
 use Rattle.plane.specs.Rule.BadPairs.{AreBad}
 use Rattle.plane.specs.Rule.Plans.{IsStraight, Plan, curve}
@@ -57,6 +57,12 @@ HasNoBadStraights d =
 abbrev pub AreBreaksMarked : Plan → ℕ → List Bool → Type 0
 AreBreaksMarked d level marked =
     (i j : ℕ) → i < j → j < length d.curves → Breaks d level i j → IsOneMarked marked i j
+
+-- Of the curves that are marked none breaks the level with another curve.
+abbrev pub AreAlone : Plan → ℕ → List Bool → Type 0
+AreAlone d level marked =
+    (i j : ℕ) → i < j → j < length d.curves → Breaks d level i j
+    → (mark_of marked i ≡ false) × (mark_of marked j ≡ false)
 
 -- The pair of two curves, or the one curve named twice; neither of them is less.
 pub record IsLesser (pair : Option NearPair) (bare : Option ℕ) (r : LevelBreak) : Type 0 where

@@ -2,11 +2,13 @@
 ghost use Rattle.std.specs.Prelude.{◌≡◌, ◌↔◌, ◌≤◌, ℕ, ◌<◌, Some, None, IfOk, IfSome, IsTrue};
 ghost use Rattle.std.specs.Prelude.{length};
 ghost use Rattle.plane.specs.Rule.Plans.{plan};
+ghost use Rattle.near_pairs.specs.Boxes.{IsOneMarked, mark_of};
 ghost use Rattle.near_pairs.specs.LeastPairs.{IsLeastPair};
 ghost use Rattle.tubes.specs.Settled.{AreTubesAt, Breaks, IsFirstBreak, IsSettledAt};
 ghost use Rattle.level_breaks.specs.GroupBreaks.{AreBreaking, AreBroken, HasEdges, OneIsUnderChord};
 ghost use Rattle.level_breaks.specs.Groups.{AreGroups};
-ghost use Rattle.level_breaks.specs.LevelLists.{AreBreaksMarked, HasNoBadStraights, IsLesser};
+ghost use Rattle.level_breaks.specs.LevelLists.{AreAlone, AreBreaksMarked, HasNoBadStraights};
+ghost use Rattle.level_breaks.specs.LevelLists.{IsLesser};
 
 use super::chords::is_under_chord;
 use super::groups::Group;
@@ -26,6 +28,7 @@ struct BreakTest<'a> {
     level: u8,
     tubes: &'a [Option<Tube>],
     boxes: &'a [Reach],
+    alone: &'a [bool],
 }
 
 impl<'a> BreakTest<'a> {
@@ -55,20 +58,41 @@ impl<'a> PairTest for BreakTest<'a> {
     ghost use Rattle.std.specs.Prelude.{◌<◌, ◌≤◌, length};
     ghost use Rattle.plane.specs.Rule.Plans.{plan};
     ghost use Rattle.tubes.specs.Settled.{AreTubesAt, Breaks};
-    ghost use Rattle.level_breaks.specs.LevelLists.{AreBoxesTo};
+    ghost use Rattle.level_breaks.specs.LevelLists.{AreAlone, AreBoxesTo};
 
     ghost can_test = { λ s i j. (i < j) × (j < length s.drawing.now.curves.items) × (s.level ≤ 5)
         × AreTubesAt (plan s.drawing.now) s.level s.tubes.now
         × AreBoxesTo s.drawing.now.curves.items s.tubes.now
-        (length s.drawing.now.curves.items) s.boxes.now };
+        (length s.drawing.now.curves.items) s.boxes.now
+        × AreAlone (plan s.drawing.now) s.level s.alone.now };
 
     ghost sought = { λ s i j. Breaks (plan s.drawing.now) s.level i j };
 
     fn is_sought(&self, first: u32, second: u32) -> bool {
+        if one_is_marked(self.alone, first, second) {
+            return false;
+        }
         let one = self.group(first);
         let other = self.group(second);
         plane::settled::own_edges_of_tubes();
         are_breaking(&one, &other)
+    }
+}
+
+/// Whether one of the two numbers is marked.
+fn one_is_marked(marks: &[bool], first: u32, second: u32) -> bool
+    ensures { IsTrue result → IsOneMarked marks.now first second }
+{
+    is_marked(marks, first) || is_marked(marks, second)
+}
+
+/// The mark of a number, none after the last one.
+fn is_marked(marks: &[bool], number: u32) -> bool
+    ensures { result ≡ mark_of marks.now number }
+{
+    match marks.get(number as usize) {
+        Some(mark) => *mark,
+        None => false,
     }
 }
 
@@ -128,20 +152,23 @@ pub fn first_break(
 {
     plane::rule::edges_of_straights();
     let marks = half_arc_marks(alloc, &drawing.curves)?;
-    first_break_among(alloc, drawing, level, &marks)
+    first_break_among(alloc, drawing, level, &marks, &[])
 }
 
-/// The same of a drawing in which of each two curves that break the level one is marked: only pairs
-/// with a marked curve are tested.
+/// The same of a drawing in which of each two curves that break the level one is marked, and
+/// neither is marked as alone: only pairs with a marked curve and without one that is alone are
+/// tested. A list of no marks says that no curve is known to be alone.
 pub fn first_break_among(
     alloc: Global,
     drawing: &Drawing,
     level: u8,
     marked: &[bool],
+    alone: &[bool],
 ) -> Result<Option<LevelBreak>, Memory>
     requires level { level ≤ 5 }
     requires size { length marked.now ≡ length drawing.now.curves.items }
     requires marked { AreBreaksMarked (plan drawing.now) level marked.now }
+    requires alone { AreAlone (plan drawing.now) level alone.now }
     ensures settled { IfOk result (λ r. r ≡ None → IsSettledAt (plan drawing.now) level) }
     ensures breaks { IfOk result (λ r. IfSome r (λ p.
         IsFirstBreak (plan drawing.now) level p.first p.second)) }
@@ -150,7 +177,7 @@ pub fn first_break_among(
     plane::settled::own_edges_of_tubes();
     tubes::laws::edges_of_tubed_drawing();
     let tubes = level_tubes(alloc, drawing, level)?;
-    let pair = first_pair(alloc, drawing, level, &tubes, marked)?;
+    let pair = first_pair(alloc, drawing, level, &tubes, marked, alone)?;
     let bare = first_bare(&drawing.curves, &tubes);
     Ok(lesser(pair, bare))
 }
@@ -162,11 +189,13 @@ fn first_pair(
     level: u8,
     tubes: &[Option<Tube>],
     marked: &[bool],
+    alone: &[bool],
 ) -> Result<Option<NearPair>, Memory>
     requires level { level ≤ 5 }
     requires tubes { AreTubesAt (plan drawing.now) level tubes.now }
     requires size { length marked.now ≡ length drawing.now.curves.items }
     requires marked { AreBreaksMarked (plan drawing.now) level marked.now }
+    requires alone { AreAlone (plan drawing.now) level alone.now }
     ensures some { IfOk result (λ r. IfSome r (λ p. IsLeastPair
         (Breaks (plan drawing.now) level) (length drawing.now.curves.items) p)) }
     ensures none { IfOk result (λ r. r ≡ None → (i j : ℕ) → i < j
@@ -179,6 +208,7 @@ fn first_pair(
         level,
         tubes,
         boxes: &boxes,
+        alone,
     };
     least(alloc, &boxes, marked, &test)
 }

@@ -3,8 +3,8 @@
 //! - **What it answers.** `first_break`: the least two curves that break the level, by the first
 //!   number, then by the second; a half arc that has no tube at the level breaks it alone, and is
 //!   named twice. None exactly where the level settles the drawing. `first_break_among`: the same
-//!   where each pair that breaks the level has one of some curves. `breaks_level`: whether two
-//!   curves, given by their numbers, break the level.
+//!   where each pair that breaks the level has one of some curves, and none of those that are known
+//!   to be alone. `breaks_level`: whether two curves, given by their numbers, break the level.
 //! - **The rule that it serves.** A level settles a drawing where every two edges that stand for
 //!   its curves meet in common ends alone, corners of tubes are their own, and nothing enters a
 //!   tube (`IsSettledAt` and `Breaks` of `tubes`). No two curves break a level that settles the
@@ -12,8 +12,8 @@
 //!   level is a half arc (`laws::undecided_has_half_arc`), and straights alone are settled at level
 //!   0 (`laws::straights_are_settled`).
 //! - **What it asks for.** No two straights of the drawing are bad. So pairs of straights are not
-//!   tested. `first_break_among` asks that no pair breaks the level of which neither curve is
-//!   marked, and tests no such pair. `breaks_level` asks for no more than two curves.
+//!   tested. `first_break_among` asks that each pair that breaks the level has a marked curve and
+//!   none that is alone; it tests no other pair. `breaks_level` asks for no more than two curves.
 //! - **How.** Two curves break a level exactly where one of three things holds: two of their edges,
 //!   one of each curve, meet badly; an edge of one of them ends in the tube of the other, at no end
 //!   of that curve; or one of them is a straight between the ends of the other, a half arc whose
@@ -31,7 +31,7 @@
 //!
 //! Cost: the tubes of the level; then half arcs times the curves that begin within their boxes
 //! along x, or the other way round, and for those whose boxes share a place boxes of halves of
-//! their parts, as many as it takes to give the curves apart, and at most the product of their
+//! their parts, as many as it takes to tell the curves apart, and at most the product of their
 //! parts, as for curves that run along each other closer than a part is long. A box of n parts
 //! reads the corners of n parts. Memory: 32 bytes for each corner pair of a tube (32 K bytes
 //! with K = 2^(level + 1) bays), a `Tube` and 65 bytes a curve; comparing takes none.

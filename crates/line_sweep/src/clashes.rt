@@ -13,11 +13,14 @@ use ports::Memory;
 use std::alloc::Global;
 use straight_predicates::{Meet, Row, Timetable, Turn, cut, meet, turn_over};
 
-/// The groups of edges by the numbers of the edges, and a mark for each group.
+/// The groups of edges by the numbers of the edges, which groups are firm, a mark for each, and the
+/// event at which its first edge starts, as far as the sweep has come.
 #[derive(Drop)]
 struct Marks<'a> {
     groups: &'a [u32],
+    firm: &'a [bool],
     marks: Vec<bool>,
+    since: Vec<u32>,
 }
 
 impl<'a> Marks<'a> {
@@ -26,6 +29,13 @@ impl<'a> Marks<'a> {
     fn has(&self, edge: u32) -> bool {
         match self.groups.get(edge as usize) {
             Some(group) => matches!(self.marks.get(*group as usize), Some(true)),
+            None => false,
+        }
+    }
+
+    fn is_firm(&self, edge: u32) -> bool {
+        match self.groups.get(edge as usize) {
+            Some(group) => matches!(self.firm.get(*group as usize), Some(true)),
             None => false,
         }
     }
@@ -39,28 +49,89 @@ impl<'a> Marks<'a> {
             }
         }
     }
+
+    /// The event at which the group of the edge starts; it is later than all others where none of
+    /// its edges has started.
+    fn start(&self, edge: u32) -> u32 {
+        match self.groups.get(edge as usize) {
+            Some(group) => match self.since.get(*group as usize) {
+                Some(event) => *event,
+                None => u32::MAX,
+            },
+            None => u32::MAX,
+        }
+    }
+
+    /// Notes that edges start at the event.
+    fn note(&mut self, edges: &[u32], event: u32)
+        ensures { length self.new.marks.items ≡ length self.old.marks.items }
+    {
+        for edge in edges {
+            if let Some(group) = self.groups.get(*edge as usize) {
+                if let Some(since) = self.since.get_mut(*group as usize) {
+                    *since = event.min(*since);
+                }
+            }
+        }
+    }
+
+    /// Marks those of the groups of two edges that are not firm, or, if both are, the one that
+    /// starts later.
+    fn set_looser(&mut self, first: u32, second: u32)
+        ensures { length self.new.marks.items ≡ length self.old.marks.items }
+    {
+        match (self.is_firm(first), self.is_firm(second)) {
+            (false, false) => {
+                self.set(first);
+                self.set(second);
+            }
+            (false, true) => self.set(first),
+            (true, false) => self.set(second),
+            (true, true) => self.set(self.later(first, second)),
+        }
+    }
+
+    fn later(&self, first: u32, second: u32) -> u32 {
+        if self.start(first) > self.start(second) {
+            first
+        } else {
+            second
+        }
+    }
 }
 
-/// Marks for so many groups of edges: those of two edges that a sweep finds to be bad. It goes on
-/// without the edges of marked groups; so where few groups are in the way of each other, a sweep of
-/// the others will most often find nothing bad. No clause says that: who needs it sweeps them.
-/// `groups` has the group of each edge. The only error is out of memory. It takes the time of a
-/// sweep, and at each event that marks a group a pass over the live list.
+/// Two edges that are bad.
+#[derive(Clone, Copy)]
+pub struct BadEdges {
+    pub first: u32,
+    pub second: u32,
+}
+
+/// Marks for groups of edges that are in the way of others: of two edges that a sweep finds to be
+/// bad, or that are known to be, the groups that are not firm, or where both are firm the one that
+/// starts later. The sweep goes on without the edges of marked groups; so where few groups
+/// are in the way of each other, a sweep of the others will most often find nothing bad. No clause
+/// says that: who needs it sweeps them. `groups` has the group of each edge, and `firm` which
+/// groups are. The only error is out of memory. It takes the time of a sweep, and at each event
+/// that marks a group a pass over the live list.
 pub fn clashing(
     alloc: Global,
     edges: &[Edge],
     groups: &[u32],
-    count: usize,
+    firm: &[bool],
+    known: BadEdges,
 ) -> Result<Vec<bool>, Memory>
     requires few { length edges.now < 2 ^ 31 }
     requires sorted { AreSorted edges.now }
     requires close { AreAllClose edges.now }
-    ensures { IfOk result (λ marks. length marks.items ≡ count) }
+    ensures { IfOk result (λ marks. length marks.items ≡ length firm.now) }
 {
     let table = Timetable::new(alloc, edges)?;
     let mut marks = Marks {
         groups,
-        marks: vec![in alloc; false; count]?,
+        firm,
+        marks: vec![in alloc; false; firm.len()]?,
+        since: vec![in alloc; u32::MAX; firm.len()]?,
     };
     let mut live = Row::new(alloc);
     let mut room = Vec::new(alloc);
@@ -69,6 +140,9 @@ pub fn clashing(
         if pass(edges, &table, event, &mut live, &mut marks, &mut room)? {
             drop_marked(edges, &mut live, &marks, &mut all, &mut room)?;
         }
+    }
+    if !marks.has(known.first) && !marks.has(known.second) {
+        marks.set_looser(known.first, known.second);
     }
     Ok(marks.marks)
 }
@@ -93,14 +167,15 @@ fn pass(
     ensures marks { length marks.new.marks.items ≡ length marks.old.marks.items }
 {
     let at = table.at(event);
+    let starting = table.starting(event);
+    marks.note(starting, event);
     let from = cut(live, edges, at);
     let upto = block_end(live, edges, at, from);
     let through = upto < live.len() && goes_through(edges, live.get(upto), at);
     if through {
-        marks.set(live.get(upto));
-        marks.set(edge_of_event(edges, table, event));
+        marks.set_looser(live.get(upto), edge_of_event(edges, table, event));
     }
-    unmarked(table.starting(event), marks, room)?;
+    unmarked(starting, marks, room)?;
     live.replace(from, upto - from, room)?;
     let bad = mark_neighbours(edges, live, from, room.len(), marks);
     Ok(through || bad)
@@ -144,8 +219,7 @@ fn mark_neighbours(
     let mut any = false;
     for below in from.saturating_sub(1)..from.saturating_add(count) {
         if let Some((lower, upper)) = bad_neighbours(edges, live, below) {
-            marks.set(lower);
-            marks.set(upper);
+            marks.set_looser(lower, upper);
             any = true;
         }
     }

@@ -14,8 +14,9 @@
 //!   ends within 2^41 of each other in each coordinate.
 //! - **Degenerate cases.** Upright edges, edges of one line, equal edges, many edges in one point,
 //!   edges that begin where others end or on others, and no edge at all are all taken.
-//! - **Edges in the way.** `clashing` goes on behind two bad edges, without those of their groups,
-//!   and marks these groups, for whoever sweeps the others. It promises nothing of the marks.
+//! - **Edges in the way.** `clashing` goes on behind two bad edges, without those of a group of
+//!   theirs or of both, and marks these groups, for whoever sweeps the others. It promises nothing
+//!   of the marks.
 //! - **Not here:** no faces, no half-edges and no points but the edges' ends.
 //!
 //! Cost: O((m + events) log m) for m edges, and what the live list and the keys of the open cells
@@ -35,7 +36,7 @@ mod kinds;
 mod state;
 mod sweeping;
 
-pub use clashes::clashing;
+pub use clashes::{BadEdges, clashing};
 pub use events::{EndingBlock, Event, Events};
 pub use kinds::{Cell, CellEdge, SweepRefusal, Swept};
 pub use sweeping::sweep;

@@ -86,13 +86,13 @@ pub fn arc_meeting_among(
     }
 }
 
-/// Whether many pairs with a half arc would have to be looked at, by their boxes
+/// Whether many pairs with a marked curve would have to be looked at, by their boxes
 /// (`near_pairs::are_many`). No answer rests on it. The only error is out of memory.
-pub fn has_many_pairs(alloc: Global, drawing: &Drawing) -> Result<bool, Memory> {
-    let curves = drawing.curves.as_slice();
-    let reaches = reaches(alloc, curves)?;
-    let marks = half_arc_marks(alloc, curves)?;
-    are_many(alloc, &reaches, &marks)
+pub fn has_many_pairs(alloc: Global, drawing: &Drawing, marked: &[bool]) -> Result<bool, Memory>
+    requires { length marked.now ≡ length drawing.now.curves.items }
+{
+    let reaches = reaches(alloc, &drawing.curves)?;
+    are_many(alloc, &reaches, marked)
 }
 
 fn has_half_arc(curves: &[Curve]) -> bool

@@ -19,7 +19,7 @@ pub enum Status {
     ReadFault,
     /// A file or the report could not be written.
     WriteFault,
-    /// A file is longer than its limit.
+    /// A file or an area is larger than its limit.
     OverLimit,
     /// Out of memory. Nothing was written.
     Memory,

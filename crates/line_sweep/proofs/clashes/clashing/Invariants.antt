@@ -5,5 +5,5 @@ use Rattle.line_sweep.proofs.clashes.clashing.Given as goal
 abbrev pub invariant-loop-event : goal.invariant-loop-event
 invariant-loop-event l = record {
   known : AreBelow (length l.edges) l.live;
-  size : length l.marks.marks.items ≡ l.count;
+  size : length l.marks.marks.items ≡ length l.firm;
 }

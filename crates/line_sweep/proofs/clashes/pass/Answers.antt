@@ -15,14 +15,14 @@ goes_through-through-requires-clause-close c = subst (IsCloseToAll c.args.edges.
 pub mark_neighbours-bad-requires-clause-known : goal.mark_neighbours-bad-requires-clause-known
 mark_neighbours-bad-requires-clause-known c =
     replaced (length c.args.edges.now) c.args.live.now c.replace.new.self c.deref.result.now c.cut-from.result (c.cut-from.result + (c.block_end-upto.result - c.cut-from.result)) c.in_ok-replace.ensures.values c.requires.known
-    (λ e h. starting_below c.args.edges.now (table_of c.args.table.now) c.args.event c.requires.table c.requires.event e (subst (Has e) c.starting.ensures (c.in_ok-unmarked.ensures e (subst (Has e) c.deref.ensures.value h))))
+    (λ e h. starting_below c.args.edges.now (table_of c.args.table.now) c.args.event c.requires.table c.requires.event e (subst (Has e) c.starting-starting.ensures (c.in_ok-unmarked.ensures e (subst (Has e) c.deref.ensures.value h))))
 
 pub returns-then-through-2-clause-known : goal.returns-then-through-2-clause-known
 returns-then-through-2-clause-known c =
     replaced (length c.args.edges.now) c.args.live.now c.replace.new.self c.deref.result.now c.cut-from.result (c.cut-from.result + (c.block_end-upto.result - c.cut-from.result)) c.in_ok-replace.ensures.values c.requires.known
-    (λ e h. starting_below c.args.edges.now (table_of c.args.table.now) c.args.event c.requires.table c.requires.event e (subst (Has e) c.starting.ensures (c.in_ok-unmarked.ensures e (subst (Has e) c.deref.ensures.value h))))
+    (λ e h. starting_below c.args.edges.now (table_of c.args.table.now) c.args.event c.requires.table c.requires.event e (subst (Has e) c.starting-starting.ensures (c.in_ok-unmarked.ensures e (subst (Has e) c.deref.ensures.value h))))
 
 pub returns-else-through-2-clause-known : goal.returns-else-through-2-clause-known
 returns-else-through-2-clause-known c =
     replaced (length c.args.edges.now) c.args.live.now c.replace.new.self c.deref.result.now c.cut-from.result (c.cut-from.result + (c.block_end-upto.result - c.cut-from.result)) c.in_ok-replace.ensures.values c.requires.known
-    (λ e h. starting_below c.args.edges.now (table_of c.args.table.now) c.args.event c.requires.table c.requires.event e (subst (Has e) c.starting.ensures (c.in_ok-unmarked.ensures e (subst (Has e) c.deref.ensures.value h))))
+    (λ e h. starting_below c.args.edges.now (table_of c.args.table.now) c.args.event c.requires.table c.requires.event e (subst (Has e) c.starting-starting.ensures (c.in_ok-unmarked.ensures e (subst (Has e) c.deref.ensures.value h))))

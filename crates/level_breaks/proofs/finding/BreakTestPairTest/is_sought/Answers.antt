@@ -2,7 +2,14 @@ use Rattle.std.proofs.Common.{arith}
 use Rattle.plane.specs.Rule.Plans.{plan}
 use Rattle.tubes.specs.TubedEdges.{drawn_bays}
 use Rattle.level_breaks.proofs.PairBreaks.{breaks_is, listed_at, placed}
+use Rattle.level_breaks.proofs.AloneMarks.{alone_is_sought}
 use Rattle.level_breaks.proofs.finding.BreakTestPairTest.is_sought.Goals as goal
+
+pub returns-then-one_is_marked : goal.returns-then-one_is_marked
+returns-then-one_is_marked c =
+    let s = c.args.self.now in
+    let r = c.requires in
+    alone_is_sought (plan s.drawing.now) s.level c.args.first c.args.second s.alone.now r.0 r.1 r.5 (c.one_is_marked.ensures c.if-one_is_marked.true)
 
 pub are_breaking-requires : goal.are_breaking-requires
 are_breaking-requires c = λ eg eh.
