@@ -122,6 +122,12 @@ for radius in range(11, 91, 2):
     at, side = (499, 1) if radius % 4 == 3 else (501, -1)
     SPIRAL += "ARCP %d.000 %d.000\nLIPT %d.000 500.000\n" % (at, 500 + side * radius, at - side * radius)
 SPIRAL += "ELIN\n"
+# circles round it, each nearer to the next one than the tubes of the last level are wide
+RINGED = ""
+for number in range(24):
+    to, back = "%.3f" % (700 + 0.02 * number), "%.3f" % (300 - 0.02 * number)
+    RINGED += "OBJE %d\nSTPT %s 500.000\nARCP 500.000 %s\nLIPT %s 500.000\nARCP 500.000 %s\nLIPT %s 500.000\nELIN\n" % (
+        number + 10, to, to, back, back, to)
 
 
 def transfer(lines, parcels):
@@ -149,6 +155,7 @@ CHECKS = [
      transfer(SPIRAL + FORKED.replace("500.000 500.000", "300.000 100.000").replace("506.000 502.000", "306.000 102.000")
               .replace("510.000 510.000", "310.000 110.000").replace("512.000 504.000", "312.000 104.000")
               .replace("520.000 520.000", "320.000 120.000"), ""), None, 2),
+    ("circles near each other round the spiral, which is alone", "check", MODEL, transfer(SPIRAL + RINGED, ""), None, 2),
     ("two lines that meet", "check", MODEL, CROSSED, None, 1),
     ("wrong rows", "check", MODEL, WRONG, None, 1),
     ("a transfer that ends too soon", "check", MODEL, SQUARE[:150], None, 1),

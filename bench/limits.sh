@@ -213,6 +213,22 @@ for count in (25, 100, 400, 1600):
         print("    %.1f times the time of a quarter as many" % (got[2] / smaller))
     smaller = got[2]
 
+# ---- and circles of which the outer half are nearer to each other than tubes are wide
+
+smaller = None
+for count in (100, 400, 1600):
+    radii = [1000 + 20 * k for k in range(count // 2)] + [200000 + 20 * k for k in range(count // 2)]
+    circles = [[(x + r, y), (b"ARCP", (x, y + r)), (b"LIPT", (x - r, y)), (b"ARCP", (x, y - r)), (b"LIPT", (x + r, y))]
+               for r in radii]
+    delivery(circles, [(x, y)] + [(x + r + 10, y) for r in radii[:-1]])
+    got = run("check", "M", "T", "C")
+    if got[1] != 2:
+        sys.exit("%d circles of which half are near each other are not undecided" % count)
+    tell("transfer", "%d circles about one place, half of them near each other" % count, os.path.getsize("T"), got, EMPTY, ORDINARY)
+    if smaller:
+        print("    %.1f times the time of a quarter as many" % (got[2] / smaller))
+    smaller = got[2]
+
 # ---- points in tubes at level 5
 
 RADIUS, LEAVES = 100000, 4000
