@@ -171,9 +171,10 @@ fn pass(
     marks.note(starting, event);
     let from = cut(live, edges, at);
     let upto = block_end(live, edges, at, from);
-    let through = upto < live.len() && goes_through(edges, live.get(upto), at);
+    let own = edge_of_event(edges, table, event);
+    let through = upto < live.len() && !marks.has(own) && goes_through(edges, live.get(upto), at);
     if through {
-        marks.set_looser(live.get(upto), edge_of_event(edges, table, event));
+        marks.set_looser(live.get(upto), own);
     }
     unmarked(starting, marks, room)?;
     live.replace(from, upto - from, room)?;
