@@ -17,7 +17,7 @@ use ports::Memory;
 use std::alloc::Global;
 
 /// How often a drawing is looked at before curves that are alone are given up.
-const ROUNDS: u32 = 24;
+const ROUNDS: u32 = 96;
 
 /// Marks for curves that break the last level with no other one; no marks where few pairs have a
 /// curve that is set aside, or where such curves are not found. The only error is out of memory. It

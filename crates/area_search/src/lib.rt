@@ -46,7 +46,7 @@
 //! edges that begin within their boxes. Set aside are all half arcs; or, where these have more than
 //! some 32 others near them on the average, those without which level 5 settles the drawing, if up
 //! to eight times two sweeps of its edges find them. Where more than some 32 of these are near each
-//! curve, up to 24 times two sweeps more.
+//! curve, up to 96 times two sweeps more.
 #![tactic(auto)]
 
 mod alone;
