@@ -9,7 +9,9 @@ the same tasks would take on two processors and on four: not seen but computed, 
 processor, those with the longest way to the end first, as `rt ci` takes them, and without the
 memory that it plans. Its status is that of the gate.
 
-usage: bench/gate.py
+usage: bench/gate.py [PROCESSORS]
+
+With PROCESSORS the gate has the first so many of this machine's processors, and no other one.
 """
 import collections
 import os
@@ -91,6 +93,9 @@ def on_processors(number, below, minutes):
 
 
 def main():
+    if len(sys.argv) > 1:
+        allowed = sorted(os.sched_getaffinity(0))[: int(sys.argv[1])]
+        os.sched_setaffinity(0, allowed)
     below = crates()
     minutes, clock, status = gate()
     print("%-20s %8s %8s %8s %8s" % ("crate", *KINDS, "all"))
@@ -99,7 +104,7 @@ def main():
         print("%-20s %8.1f %8.1f %8.1f %8.1f" % (name, *(minutes[name, kind] for kind in KINDS), sums[name]))
     parts = [sum(minutes[name, kind] for name in below) for kind in KINDS]
     print("%-20s %8.1f %8.1f %8.1f %8.1f" % ("all", *parts, sum(parts)))
-    print("%.0f minutes of the clock" % clock)
+    print("%.0f minutes of the clock on %d processors" % (clock, len(os.sched_getaffinity(0))))
     for number in (2, 4):
         print("on %d processors, computed: %.0f minutes" % (number, on_processors(number, below, minutes)))
     sys.exit(status)

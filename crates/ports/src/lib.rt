@@ -28,7 +28,8 @@
 //!
 //! Cost: `MemoryShelf` finds a file in time linear in the number of files; a read copies what it
 //! gives; an append is amortised linear in the bytes added. `RealShelf` opens the file anew for
-//! each call. `Bytes` and a `Name` take 16 bytes; only more than 14 bytes have a block of their own.
+//! each call. `Bytes` and a `Name` take 16 bytes; only more than 14 bytes have a block of their
+//! own.
 #![tactic(auto)]
 
 mod bytes;

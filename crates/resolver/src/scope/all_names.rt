@@ -5,9 +5,9 @@ use ili_grammar::Ident;
 use ports::Key;
 use std::hash::{BuildHasher, DefaultHasher, Hash};
 
-/// Makes the hashes of the names of a list. Each begins with all of the names, so that it changes
-/// where any of them does: nobody can choose names that have one hash, though the file is theirs
-/// and the hash is known.
+/// Makes the hashes of the names of a list. Each begins with all of the names, so that every choice
+/// of a name changes the hashes of all: names that have one hash cannot be collected beforehand,
+/// though the file is its author's and the hash is known. No clause speaks of that.
 #[derive(Clone, Copy)]
 pub struct AllNames {
     hasher: DefaultHasher,
