@@ -65,6 +65,25 @@ def one_name(size):
     return head + "".join(many(size, head, tail, lambda n: "  Same: DATE;\n")) + tail
 
 
+def enumeration(size):
+    """A domain of as many elements as there are attributes that name it."""
+    head = "TRANSFER One;\nDOMAIN\nE = (e"
+    table = ");\nMODEL M\nTOPIC T =\nTABLE A =\n"
+    tail = "NO IDENT\nEND A;\nEND T.\n" + TAIL
+    elements = many(size // 2, head, table, lambda n: f",e{n}")
+    text = head + "".join(elements) + table
+    return text + "".join(many(size - len(text), "", tail, lambda n: f"  A{n}: E;\n")) + tail
+
+
+def helper_tables(size):
+    """Tables, each of whose attributes gives it a helper table."""
+    head = "TRANSFER One;\nDOMAIN\nP = COORD2 0 0 9 9;\n"
+    head += "L = AREA WITH (STRAIGHTS) VERTEX P WITHOUT OVERLAPS > 1;\nMODEL M\nTOPIC T =\n"
+    tail = "END T.\n" + TAIL
+    line = lambda n: f"TABLE T{n} =\n  A: L;\n  B: L;\nNO IDENT\nEND T{n};\n"
+    return head + "".join(many(size, head, tail, line)) + tail
+
+
 def tables(size):
     """Tables of one attribute, each named in the next by a reference."""
     head = "TRANSFER One;\nMODEL M\nTOPIC T =\nTABLE T0 =\n  First: DATE;\nNO IDENT\nEND T0;\n"
@@ -79,6 +98,8 @@ kinds = [
     ("a circle of domains", cycle),
     ("attributes of one name", one_name),
     ("tables", tables),
+    ("attributes of one enumeration", enumeration),
+    ("helper tables", helper_tables),
 ]
 for number, (name, kind) in enumerate(kinds):
     for megabytes in (1, 2, 4):

@@ -61,12 +61,12 @@ bounded_inside above t a b = record {
 }
 
 -- ---- what a name or a type stands for
-pub name_small : (s : Scope) (name : List ℕ) (m : meanings.Meaning) → option_map meaning_of (Some m) ≡ meaning s name → IsBoundedScope s → IsSmallType (type_of m.kind.now)
+pub name_small : (s : Scope) (name : List ℕ) (m : meanings.Meaning) → option_map meaning_of (Some m) ≡ meaning s name → IsBoundedScope s → IsSmallType (type_of m.counted.kind.now)
 name_small s name m e b =
     let k : IfSome (meaning s name) (λ f. IsBounded f.kind) = meaning_kept IsBounded s name b.above.each b.own.each in
     (subst (λ (o : Option Meaning). IfSome o (λ f. IsBounded f.kind)) (sym e) k).numbers
 
-pub type_bounded : (s : Scope) (t : TypeSyntax) (m : meanings.Meaning) → option_map meaning_of (Some m) ≡ meant s t → IsBoundedScope s → IsBounded t → IsBounded (type_of m.kind.now)
+pub type_bounded : (s : Scope) (t : TypeSyntax) (m : meanings.Meaning) → option_map meaning_of (Some m) ≡ meant s t → IsBoundedScope s → IsBounded t → IsBounded (type_of m.counted.kind.now)
 type_bounded s t m e b k = subst (λ (o : Option Meaning). IfSome o (λ f. IsBounded f.kind)) (sym e) (meant_kept IsBounded s t b.above.each b.own.each k)
 
 pub scope_bounded : (s : Scope) (t : TypeSyntax) (m : meanings.Meaning) → option_map meaning_of (Some m) ≡ meant s t → IsBoundedScope s → IsBoundedScope (scope_of m.scope)

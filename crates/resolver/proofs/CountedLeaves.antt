@@ -1,11 +1,13 @@
 -- The leaves of enumerations, one element after the other.
-use Rattle.std.proofs.Common.{◌≡◌, ℕ, ◌+◌, ◌≤◌, ◌<◌, List, length, drop, get_or, max, arith, refl, ap}
+use Rattle.std.proofs.Common.{◌≡◌, ℕ, ◌+◌, ◌≤◌, ◌<◌, List, length, drop, get_or, max, arith, ap, sym, subst}
 use Rattle.ili_grammar.specs.declared.syntax.Element as element
 use Rattle.ili_grammar.specs.declared.syntax.Element.TheViews.{out-Element}
-use Rattle.ili_grammar.specs.Syntax.{Element, an_element, Elements, no_elements, and_element}
-use Rattle.ili_grammar.specs.Limits.{element_names, elements_names}
+use Rattle.ili_grammar.specs.Syntax.{Element, an_element, Elements, no_elements, and_element, TypeSyntax, Enumeration}
+use Rattle.ili_grammar.specs.Limits.{element_names, elements_names, type_names}
 use Rattle.ili_grammar.specs.Values.{element_of, elements_of}
-use Rattle.resolver.specs.Numbers.{leaves, leaves_in}
+use Rattle.resolver.specs.Models.{form}
+use Rattle.resolver.specs.Numbers.{counted_leaves, leaves, leaves_in}
+use Rattle.resolver.specs.Resolved as resolved
 use Rattle.resolver.proofs.Folds.{list_from}
 use Rattle.resolver.proofs.Types.{element_out}
 
@@ -23,19 +25,12 @@ pub leaves_behind : (i : ℕ) (xs read : List element.Element) (x : element.Elem
     → leaves (elements_of (drop i xs)) ≡ leaves_in (element_of x) + leaves (elements_of (drop (i + 1) xs))
 leaves_behind i xs read x r lt at = ap (λ (l : List element.Element). leaves (elements_of l)) (list_from i xs read x r lt at)
 
-pub names_behind : (i : ℕ) (xs read : List element.Element) (x : element.Element) → read ≡ xs → i < length read → x ≡ get_or read i x
-    → elements_names (elements_of (drop i xs)) ≡ element_names (element_of x) + elements_names (elements_of (drop (i + 1) xs))
-names_behind i xs read x r lt at = ap (λ (l : List element.Element). elements_names (elements_of l)) (list_from i xs read x r lt at)
-
--- the parts of an element have no more names than the element
-pub few_parts : (e : element.Element) → element_names (element_of e) ≤ 4194304 → elements_names (elements_of (out-Element e).parts.items) ≤ 4194304
-few_parts e h =
-    let named : element_names (element_of e) ≡ 1 + elements_names (elements_of (out-Element e).parts.items) = ap (λ (x : Element). element_names x) (element_out e) in
-    omega arith
-
 -- the leaves of an element, its parts counted
 pub leaves_out : (e : element.Element) → leaves_in (element_of e) ≡ max 1 (leaves (elements_of (out-Element e).parts.items))
 leaves_out e = ap (λ (x : Element). leaves_in x) (element_out e)
 
-pub few_first : (i : ℕ) (xs : List element.Element) (x : element.Element) → elements_names (elements_of (drop i xs)) ≤ 4194304 → i < length xs → x ≡ get_or xs i x → element_names (element_of x) ≤ 4194304
-few_first i xs x h lt at = omega (arith, names_behind i xs xs x refl lt at)
+-- an enumeration with few names has the leaves that were counted
+pub counted_form : (t : TypeSyntax) (es : Elements) (n : ℕ) → t ≡ Enumeration es → n ≡ counted_leaves t → type_names t ≤ 4194304 → resolved.Enumeration n ≡ form t
+counted_form t es n e counted few =
+    subst (λ (k : TypeSyntax). n ≡ counted_leaves k → type_names k ≤ 4194304 → resolved.Enumeration n ≡ form k) (sym e)
+    (λ c f. ap (λ (m : ℕ). resolved.Enumeration m) (omega (arith, c, f, leaves_named es))) counted few

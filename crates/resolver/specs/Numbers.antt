@@ -1,10 +1,10 @@
 -- Bounds and overlaps at a scale: in units of the last of so many decimals.
-use Rattle.std.specs.Prelude.{ℕ, ◌+◌, ◌-◌, ◌*◌, ◌/◌, ◌^◌, max, ℤ, pos, negsuc, neg_ℤ, ◌-ℤ◌, int_lt}
+use Rattle.std.specs.Prelude.{ℕ, ◌+◌, ◌-◌, ◌*◌, ◌/◌, ◌^◌, min, max, ℤ, pos, negsuc, neg_ℤ, ◌-ℤ◌, int_lt}
 use Rattle.std.specs.Prelude.{int_le, unsigned_abs, nat_le, Bool, false, ◌&&◌, ◌||◌, ◌==◌, List, []}
 use Rattle.std.specs.Prelude.{◌∷◌}
 use Rattle.ili_grammar.specs.Syntax.{Decimal, Span, TypeSyntax, Coord2, Coord3, Dim1, Dim2, Radians}
-use Rattle.ili_grammar.specs.Syntax.{Grads, Degrees, Range, Element, an_element, Elements}
-use Rattle.ili_grammar.specs.Syntax.{no_elements, and_element}
+use Rattle.ili_grammar.specs.Syntax.{Grads, Degrees, Range, Enumeration, Element, an_element}
+use Rattle.ili_grammar.specs.Syntax.{Elements, no_elements, and_element}
 
 -- the bounds that are written in a type
 abbrev pub spans : TypeSyntax → List Span
@@ -74,3 +74,8 @@ abbrev mutual
 
   pub leaves_in : Element → ℕ
   leaves_in (an_element n es) = max 1 (leaves es)
+
+-- the leaves of a type as far as 32 bits count, none where it is no enumeration
+abbrev pub counted_leaves : TypeSyntax → ℕ
+counted_leaves (Enumeration es) = min (leaves es) (2 ^ 32 - 1)
+counted_leaves _ = 0

@@ -24,4 +24,4 @@ topic_scope_of s =
     }
 
 abbrev pub meaning_of : meanings.Meaning → Meaning
-meaning_of m = record { scope = scope_of m.scope; kind = type_of m.kind.now }
+meaning_of m = record { scope = scope_of m.scope; kind = type_of m.counted.kind.now }

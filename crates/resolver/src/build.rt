@@ -1,7 +1,6 @@
 // What a model without fault stands for.
 mod attributes;
 mod forms;
-mod leaves;
 mod line_forms;
 mod topics;
 mod values;

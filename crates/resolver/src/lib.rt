@@ -42,13 +42,17 @@
 //!   first counts; a chain of names may end at no type, by an unknown name or on a cycle.
 //!
 //! Cost: names are looked up in maps; the ends of chains of names take 22 passes over the domains
-//! of a topic, each in proportion to their number.
+//! of a topic, each in proportion to their number; the leaves of a domain are counted once. The
+//! rest is in proportion to the text, but for the attributes of a domain's lines: each attribute
+//! of that domain copies them, so that a model may take time and memory with the square of its
+//! text, some 310 bytes for each attribute of each copy.
 #![tactic(auto)]
 
 mod build;
 mod earliest;
 mod faults;
 mod laws;
+mod leaves;
 mod models;
 mod numbers;
 mod resolving;

@@ -6,6 +6,7 @@ ghost use Rattle.resolver.specs.DomainScopes.{domains_above, steps_above, StepsF
 
 pub mod aliases;
 pub mod all_names;
+pub mod counted_type;
 pub mod declared;
 pub mod domain_scope;
 pub mod name_index;
@@ -13,6 +14,7 @@ pub mod named;
 pub mod topic_scope;
 
 use aliases::alias_of;
+use counted_type::CountedType;
 use domain_scope::DomainScope;
 use ili_grammar::{Content, TypeSyntax};
 use name_index::NameIndex;
@@ -32,7 +34,7 @@ pub struct Scope<'s, 'a> {
 #[derive(Clone, Copy)]
 pub struct Meaning<'s, 'a> {
     pub scope: Scope<'s, 'a>,
-    pub kind: &'a TypeSyntax,
+    pub counted: CountedType<'a>,
 }
 
 impl<'s, 'a> Scope<'s, 'a> {
@@ -82,17 +84,18 @@ impl<'s, 'a> Scope<'s, 'a> {
     // What a type outside the topics stands for, where it is no name alone.
     fn resolve_type_outside(
         domains: &'s DomainScope<'a>,
-        kind: &'a TypeSyntax,
+        counted: CountedType<'a>,
     ) -> Option<Meaning<'s, 'a>>
         requires { StepsFrom [] domains.now }
         ensures { option_map meaning_of result
-            ≡ written (λ _. None) (outside (domains_in domains.now)) (type_of kind.now) }
+            ≡ written (λ _. None) (outside (domains_in domains.now))
+            (type_of counted.entry.kind.now) }
     {
-        match alias_of(kind) {
+        match alias_of(counted.kind) {
             Some(_) => None,
             None => Some(Meaning {
                 scope: Scope::outside(domains),
-                kind,
+                counted,
             }),
         }
     }
@@ -103,8 +106,8 @@ impl<'s, 'a> Scope<'s, 'a> {
         ensures { option_map meaning_of result
             ≡ meaning_outside (domains_in domains.now) name.now }
     {
-        let kind = domains.target(name)?;
-        Scope::resolve_type_outside(domains, kind)
+        let target = domains.target(name)?;
+        Scope::resolve_type_outside(domains, target)
     }
 
     // What a name that is declared further out stands for.
@@ -116,14 +119,17 @@ impl<'s, 'a> Scope<'s, 'a> {
     }
 
     // What a type here stands for, where its name, if it is one alone, is declared further out.
-    fn resolve_end(&self, kind: &'a TypeSyntax) -> Option<Meaning<'s, 'a>>
+    fn resolve_end(&self, counted: CountedType<'a>) -> Option<Meaning<'s, 'a>>
         ensures { option_map meaning_of result
             ≡ written (meaning_outside (scope_of self.now).above) (scope_of self.now)
-            (type_of kind.now) }
+            (type_of counted.entry.kind.now) }
     {
-        match alias_of(kind) {
+        match alias_of(counted.kind) {
             Some(name) => self.resolve_above(name.text.bytes()),
-            None => Some(Meaning { scope: *self, kind }),
+            None => Some(Meaning {
+                scope: *self,
+                counted,
+            }),
         }
     }
 
@@ -134,8 +140,8 @@ impl<'s, 'a> Scope<'s, 'a> {
         if self.is_above(name) {
             return self.resolve_above(name);
         }
-        let kind = self.own.target(name)?;
-        self.resolve_end(kind)
+        let target = self.own.target(name)?;
+        self.resolve_end(target)
     }
 
     /// What a type stands for.
@@ -144,7 +150,10 @@ impl<'s, 'a> Scope<'s, 'a> {
     {
         match alias_of(kind) {
             Some(name) => self.resolve_name(name.text.bytes()),
-            None => Some(Meaning { scope: *self, kind }),
+            None => Some(Meaning {
+                scope: *self,
+                counted: CountedType::written(kind),
+            }),
         }
     }
 

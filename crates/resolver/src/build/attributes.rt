@@ -5,7 +5,7 @@ ghost use Rattle.ili_grammar.specs.Values.{attribute_of, attributes_of, content_
 ghost use Rattle.ili_grammar.specs.Values.{type_of, line_of};
 ghost use Rattle.resolver.specs.Limits.{AreBounded, IsBounded, IsBoundedAttribute};
 ghost use Rattle.resolver.specs.Limits.{IsBoundedContent, IsBoundedScope};
-ghost use Rattle.resolver.specs.ScopeViews.{scope_of};
+ghost use Rattle.resolver.specs.ScopeViews.{meaning_of, scope_of};
 ghost use Rattle.resolver.specs.Models.{places, line_attribute, line_attributes, line_form};
 ghost use Rattle.resolver.specs.Models.{line_part, type_form, content_form};
 ghost use Rattle.resolver.specs.Models.{attribute, attributes};
@@ -18,8 +18,8 @@ use super::forms::form;
 use super::line_forms::line_form;
 use super::values::{places, table_number, value};
 use crate::models::{Attribute, AttributeForm, Form, LineForm, LinePart, Places};
-use crate::scope::Scope;
 use crate::scope::name_index::NameIndex;
+use crate::scope::{Meaning, Scope};
 use ili_grammar::{AttributeSyntax, Content, Ident, IdentList, LineSyntax, TypeSyntax};
 use ports::{Memory, Name};
 use std::alloc::Global;
@@ -115,20 +115,20 @@ fn boundary<'a>(
     Ok((lines, part))
 }
 
-// What the type of an attribute of that name stands for, in the scope where it is written.
-fn type_form<'a>(
+// The form of an attribute of that name, by what its type stands for.
+fn type_form(
     alloc: Global,
-    scope: &Scope<'_, 'a>,
     name: &Ident,
     optional: bool,
-    kind: &'a TypeSyntax,
+    meaning: &Meaning<'_, '_>,
 ) -> Result<AttributeForm, Memory>
-    requires scope { IsBoundedScope (scope_of scope.now) }
-    requires kind { IsBounded (type_of kind.now) }
-    ensures { IfOk result (λ f. resolved_content f
-        ≡ type_form name.now.text optional (scope_of scope.now) (type_of kind.now)) }
+    requires scope { IsBoundedScope (meaning_of meaning.now).scope }
+    requires kind { IsBounded (meaning_of meaning.now).kind }
+    ensures { IfOk result (λ f. resolved_content f ≡ type_form name.now.text optional
+        (meaning_of meaning.now).scope (meaning_of meaning.now).kind) }
 {
-    match kind {
+    let scope = &meaning.scope;
+    match meaning.counted.kind {
         TypeSyntax::Polyline(line) => {
             let lines = line_form(alloc, scope, name, optional, line)?;
             Ok(AttributeForm::Polyline(lines))
@@ -141,7 +141,7 @@ fn type_form<'a>(
             let (lines, part) = boundary(alloc, scope, name, optional, line)?;
             Ok(AttributeForm::Area(lines, part))
         }
-        _ => Ok(AttributeForm::Value(form(kind))),
+        _ => Ok(AttributeForm::Value(form(&meaning.counted))),
     }
 }
 
@@ -161,7 +161,7 @@ fn content_form<'a>(
 {
     match content {
         Content::Value(kind) => match scope.resolve_type(kind) {
-            Some(meaning) => type_form(alloc, &meaning.scope, name, optional, meaning.kind),
+            Some(meaning) => type_form(alloc, name, optional, &meaning),
             None => Ok(AttributeForm::Value(Form::Date)),
         },
         Content::Reference(table) => {

@@ -7,11 +7,11 @@ ghost use Rattle.resolver.specs.Numbers.{in_units, is_long, most_decimals, scale
 ghost use Rattle.resolver.specs.Models.{limits, no_limits, window, block, text_length, form};
 ghost use Rattle.resolver.specs.Values.{limits_of, window_of, block_of, form_of};
 
-use super::leaves::leaves;
 use crate::models::{Block, Form, Limits, Window};
 use crate::numbers::{
     has_long_bound, in_units, is_reversed, is_text_length, scale2, scale3, span_scale,
 };
+use crate::scope::counted_type::CountedType;
 use ili_grammar::{Corners2, Corners3, Decimal, Span, TypeSyntax};
 
 /// Bounds where a rule on them is broken.
@@ -100,12 +100,12 @@ fn text_length(number: Decimal) -> u32
 }
 
 /// What a type stands for, where it is no line and no name.
-pub fn form(kind: &TypeSyntax) -> Form
-    requires numbers { IsSmallType (type_of kind.now) }
-    requires names { type_names (type_of kind.now) ≤ 4194304 }
-    ensures { form_of result ≡ form (type_of kind.now) }
+pub fn form(counted: &CountedType<'_>) -> Form
+    requires numbers { IsSmallType (type_of counted.now.kind.now) }
+    requires names { type_names (type_of counted.now.kind.now) ≤ 4194304 }
+    ensures { form_of result ≡ form (type_of counted.now.kind.now) }
 {
-    match kind {
+    match counted.kind {
         TypeSyntax::Coord2(corners) => Form::Coord2(window(*corners)),
         TypeSyntax::Coord3(corners) => Form::Coord3(block(*corners)),
         TypeSyntax::Dim1(span) => Form::Dim1(range(*span)),
@@ -117,7 +117,7 @@ pub fn form(kind: &TypeSyntax) -> Form
         TypeSyntax::Text(length) => Form::Text(text_length(*length)),
         TypeSyntax::HAlignment => Form::HAlignment,
         TypeSyntax::VAlignment => Form::VAlignment,
-        TypeSyntax::Enumeration(elements) => Form::Enumeration(leaves(elements)),
+        TypeSyntax::Enumeration(_) => Form::Enumeration(counted.leaves()),
         _ => Form::Date,
     }
 }

@@ -96,7 +96,7 @@ fn vertices_of(scope: &Scope<'_, '_>, vertex: &Ident) -> Vertices
         (vertex_kind (meaning (scope_of scope.now) vertex.now.text)) }
 {
     match scope.resolve_name(vertex.text.bytes()) {
-        Some(meaning) => vertices_in(meaning.kind),
+        Some(meaning) => vertices_in(meaning.counted.kind),
         None => vertices_nowhere(),
     }
 }

@@ -47,7 +47,7 @@ pub fn value<'a>(scope: &Scope<'_, 'a>, content: &'a Content) -> Form
 {
     match content {
         Content::Value(kind) => match scope.resolve_type(kind) {
-            Some(meaning) => form(meaning.kind),
+            Some(meaning) => form(&meaning.counted),
             None => Form::Date,
         },
         Content::Reference(name) => Form::Reference(table_number(scope, name.text.bytes())),

@@ -11,6 +11,7 @@ use super::lines::stands_for_boundary;
 use crate::earliest::Earliest;
 use crate::faults::ModelCode;
 use crate::scope::Scope;
+use crate::scope::all_names::AllNames;
 use ili_grammar::{AttributeSyntax, Ident, TableSyntax};
 use indexmap::IndexSet;
 use ports::{Memory, Name};
@@ -26,10 +27,10 @@ pub fn helper_name(alloc: Global, table: &[u8], attribute: &[u8]) -> Result<Name
     Name::new(alloc, &name)
 }
 
-// Reports a name of a table that stands among the earlier ones.
+// Reports a table name that an earlier table or helper table has.
 #[tactic(auto, using(crate::proofs::Keys::key_told))]
 fn check_key<'a>(
-    names: &mut IndexSet<Name>,
+    names: &mut IndexSet<Name, AllNames>,
     key: Name,
     name: &'a Ident,
     earliest: &mut Earliest<'a>,
@@ -49,7 +50,7 @@ fn check_helper<'a>(
     scope: &Scope<'_, 'a>,
     table: &'a Ident,
     attribute: &'a AttributeSyntax,
-    names: &mut IndexSet<Name>,
+    names: &mut IndexSet<Name, AllNames>,
     earliest: &mut Earliest<'a>,
 ) -> Result<(), Memory>
     ensures { OnOk result (Declares earliest.old earliest.new (keys names.old) (keys names.new)
@@ -67,7 +68,7 @@ fn check_helpers<'a>(
     alloc: Global,
     scope: &Scope<'_, 'a>,
     table: &'a TableSyntax,
-    names: &mut IndexSet<Name>,
+    names: &mut IndexSet<Name, AllNames>,
     earliest: &mut Earliest<'a>,
 ) -> Result<(), Memory>
     ensures { OnOk result (Declares earliest.old earliest.new (keys names.old) (keys names.new)
@@ -86,7 +87,7 @@ fn check_table_name<'a>(
     alloc: Global,
     scope: &Scope<'_, 'a>,
     table: &'a TableSyntax,
-    names: &mut IndexSet<Name>,
+    names: &mut IndexSet<Name, AllNames>,
     earliest: &mut Earliest<'a>,
 ) -> Result<(), Memory>
     ensures { OnOk result (Declares earliest.old earliest.new (keys names.old) (keys names.new)
@@ -107,7 +108,7 @@ pub fn check_table_names<'a>(
     ensures { OnOk result (Reports earliest.old earliest.new
         (twice [] (flat_map (table_entries (scope_of scope.now)) (tables_of tables.now)))) }
 {
-    let mut names = IndexSet::new(alloc);
+    let mut names = IndexSet::with_hasher(alloc, AllNames::of_tables(tables));
     for table in tables {
         check_table_name(alloc, scope, table, &mut names, earliest)?;
     }

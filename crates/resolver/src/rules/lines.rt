@@ -74,7 +74,7 @@ pub fn stands_for_line<'a>(scope: &Scope<'_, 'a>, content: &'a Content) -> bool
 {
     scope
         .resolve_value(content)
-        .is_some_and(|meaning| is_line(meaning.kind))
+        .is_some_and(|meaning| is_line(meaning.counted.kind))
 }
 
 /// Whether an attribute is a line that gives its table a helper table.
@@ -83,5 +83,5 @@ pub fn stands_for_boundary<'a>(scope: &Scope<'_, 'a>, content: &'a Content) -> b
 {
     scope
         .resolve_value(content)
-        .is_some_and(|meaning| is_boundary(meaning.kind))
+        .is_some_and(|meaning| is_boundary(meaning.counted.kind))
 }

@@ -65,7 +65,14 @@ fn check_vertex<'a>(
 {
     check_type_name(scope, vertex, earliest);
     if let Some(meaning) = scope.resolve_name(vertex.text.bytes()) {
-        check_vertex_type(meaning.kind, owner, shape, vertex, overlap, earliest);
+        check_vertex_type(
+            meaning.counted.kind,
+            owner,
+            shape,
+            vertex,
+            overlap,
+            earliest,
+        );
     }
 }
 

@@ -8,25 +8,31 @@ ghost use Rattle.resolver.specs.Scopes.{longest};
 ghost use Rattle.resolver.specs.Indexed.{idents};
 ghost use Rattle.resolver.specs.NameIndexes.{names_in, names_if};
 ghost use Rattle.resolver.specs.Aliases.{step_in, StepsWithin, IsJump};
+ghost use Rattle.resolver.specs.Numbers.{counted_leaves};
 ghost use Rattle.resolver.specs.Steps.{domains_at, step_of, steps_of};
 
 use super::aliases::{alias_of, cyclic, targets};
+use super::counted_type::CountedType;
 use super::name_index::NameIndex;
 use crate::earliest::Earliest;
 use crate::faults::ModelCode;
+use crate::leaves::domain_leaves;
 use ili_grammar::{DomainSyntax, Ident, TypeSyntax};
 use ports::Memory;
 use std::alloc::Global;
 
-/// Domains in the order of the text, the step from each to the one whose name is its type, and
-/// the last domain of the chain of such steps.
+/// Domains in the order of the text, the leaves of the type of each, the step from each to the one
+/// whose name is its type, and the last domain of the chain of such steps.
 #[derive(Drop)]
 pub struct DomainScope<'a> {
     domains: Vec<&'a DomainSyntax>,
+    leaves: Vec<u32>,
     names: NameIndex<'a>,
     steps: Vec<Option<usize>>,
     targets: Vec<usize>,
     ghost named: { names_in names ≡ domain_names (domains_at domains.items) },
+    ghost counted: { leaves.items
+        ≡ map (λ d. counted_leaves (type_of d.now.kind)) domains.items },
     ghost long: { length steps.items ≡ length domains.items },
     ghost within: { (i k : ℕ) → step_in steps.items i ≡ Some k → k < length steps.items },
     ghost landed: { IsJump (step_in steps.items) longest (length steps.items) targets.items },
@@ -100,15 +106,24 @@ fn aliases(
 }
 
 // The type of the last domain of another's chain.
-fn target_type<'a>(domains: &[&'a DomainSyntax], targets: &[usize], place: usize) -> &'a TypeSyntax
+fn target_type<'a>(
+    domains: &[&'a DomainSyntax],
+    leaves: &[u32],
+    targets: &[usize],
+    place: usize,
+) -> CountedType<'a>
+    requires counted { leaves.now ≡ map (λ d. counted_leaves (type_of d.now.kind)) domains.now }
     requires place { place < length targets.now }
     requires end { slice_index targets.now place < length domains.now }
     ensures { option_map (λ d. d.kind)
         (slice_get (domains_at domains.now) (slice_index targets.now place))
-        ≡ Some (type_of result.now) }
+        ≡ Some (type_of result.kind.now) }
 {
     let end = targets[place];
-    &domains[end].kind
+    CountedType {
+        kind: &domains[end].kind,
+        leaves: Some(leaves[end]),
+    }
 }
 
 impl<'a> DomainScope<'a> {
@@ -128,9 +143,11 @@ impl<'a> DomainScope<'a> {
         ensures steps { IfOk result (StepsFrom (texts (names_if above.entry))) }
     {
         let names = name_index(alloc, &domains)?;
+        let leaves = domain_leaves(alloc, &domains)?;
         let (steps, targets) = aliases(alloc, above, &names, &domains)?;
         Ok(DomainScope {
             domains,
+            leaves,
             names,
             steps,
             targets,
@@ -145,13 +162,13 @@ impl<'a> DomainScope<'a> {
     }
 
     /// The type at the end of the chain of the domain of that name.
-    pub fn target(&self, name: &[u8]) -> Option<&'a TypeSyntax>
-        ensures { option_map (λ k. type_of k.now) result
+    pub fn target(&self, name: &[u8]) -> Option<CountedType<'a>>
+        ensures { option_map (λ t. type_of t.kind.now) result
             ≡ option_and_then (target_in self.now)
             (place name.now (names_of (domains_in self.now))) }
     {
         let place = self.names.place(name)?;
-        Some(target_type(&self.domains, &self.targets, place))
+        Some(target_type(&self.domains, &self.leaves, &self.targets, place))
     }
 
     /// The domains in the order of the text.
