@@ -1,4 +1,4 @@
-// Curves of a drawing that are set aside, so that of the others nothing has to be searched.
+// Curves that are set aside: the last level settles the drawing of the others.
 ghost use Rattle.std.specs.Prelude.{◌≡◌, ◌<◌, ◌≤◌, IfOk, IfSome, IsTrue, OnOk, length};
 ghost use Rattle.level_breaks.specs.LevelLists.{HasNoBadStraights};
 ghost use Rattle.plane.specs.Rule.Plans.{plan};

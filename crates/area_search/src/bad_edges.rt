@@ -45,7 +45,7 @@ fn curve_at(owners: &[Owner], edge: u32) -> u32
     owners[edge as usize].curve
 }
 
-/// The same by the two curves.
+/// What the two curves show, whose edges are bad.
 fn shown_by_curves(drawing: &Drawing, pair: CurvePair) -> Shown
     requires { AreOfDrawing (plan drawing.now) (Some pair) }
     ensures { (level : ℕ) → (IsSettledAt (plan drawing.now) level → ⊥)
@@ -58,8 +58,8 @@ fn shown_by_curves(drawing: &Drawing, pair: CurvePair) -> Shown
     }
 }
 
-/// The same, where they are bad: these two, or of a drawing of few curves no more than that it is
-/// at fault, since its least pair is looked for among all pairs.
+/// What two bad curves show: they are named, or of a drawing of few curves no more is said than
+/// that it is at fault, since its least pair is looked for among all pairs.
 fn shown_by_bad(drawing: &Drawing, pair: CurvePair) -> Shown
     requires { IsBadPair (plan drawing.now) pair.first pair.second }
     ensures { (level : ℕ) → IsShown (plan drawing.now) level result }

@@ -53,7 +53,8 @@ pub(crate) fn answer_by_sweep(alloc: Global, drawing: &Drawing, level: u8) -> Re
     }
 }
 
-/// The same, with the edges of the level. Of two that are bad, the curves are tested.
+/// What the level shows of the drawing, by its edges. Where two of them are bad, their curves are
+/// tested.
 fn answer_list(alloc: Global, drawing: &Drawing, level: u8, list: EdgeList) -> Result<Shown, Memory>
     requires low { level ≤ 5 }
     requires least { SettlesNoneBelow (plan drawing.now) level }
@@ -74,7 +75,7 @@ fn answer_list(alloc: Global, drawing: &Drawing, level: u8, list: EdgeList) -> R
     }
 }
 
-/// The same, where no two edges of the level are bad.
+/// What the level shows of the drawing, where no two of its edges are bad.
 fn answer_swept(
     alloc: Global,
     drawing: &Drawing,

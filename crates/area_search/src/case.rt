@@ -13,7 +13,7 @@ pub(crate) struct Case<'a> {
     pub facings: &'a [Facing],
 }
 
-/// The same with the edges and their complete run.
+/// Such a drawing with its edges at the level and their complete run.
 #[derive(Drop)]
 pub(crate) struct SweptCase<'a> {
     pub drawing: &'a Drawing,

@@ -73,7 +73,7 @@ pub(crate) fn spots_of_run(
     spots_at(alloc, &swept_case)
 }
 
-/// The same, where no point lies on a curve.
+/// The answer to the drawing of the case, where no point lies on a curve.
 fn answer_placed(
     alloc: Global,
     case: &Case,
@@ -104,7 +104,8 @@ fn cells_alone(swept: Swept) -> Vec<Cell>
     swept.cells
 }
 
-/// The same, with the mesh of the run and its faces, the cells, and the positions of the events.
+/// The answer to the drawing of the case, by the mesh of its run with the faces, the cells, and
+/// the positions of the events.
 fn answer_outlined(
     alloc: Global,
     case: &Case,

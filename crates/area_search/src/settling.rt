@@ -48,7 +48,7 @@ pub(crate) fn settle(alloc: Global, drawing: &Drawing, firm: &[bool]) -> Result<
     }
 }
 
-/// The same, with the edges.
+/// What the edges of the last level show of the drawing.
 fn settle_list(
     alloc: Global,
     drawing: &Drawing,
@@ -95,7 +95,7 @@ fn curve_numbers(alloc: Global, owners: &[Owner]) -> Result<Vec<u32>, Memory> {
     Ok(curves)
 }
 
-/// The same, with a complete run of the edges.
+/// What a complete run of the edges of the last level shows of the drawing.
 fn settle_run(
     alloc: Global,
     drawing: &Drawing,

@@ -61,7 +61,7 @@ fn point_on_straight(
     first_on_straight(alloc, drawing, &straights, &swept)
 }
 
-/// The same, where no two straights are bad.
+/// The answer to the drawing, where no two straights are bad.
 fn answer_clear(
     alloc: Global,
     drawing: &Drawing,
@@ -80,7 +80,7 @@ fn answer_clear(
     }
 }
 
-/// The same, where no two curves are bad.
+/// The answer to the drawing, where no two curves are bad.
 fn answer_good(alloc: Global, drawing: &Drawing, aside: &Aside) -> Result<AreaAnswer, Memory>
     requires few { length (plan drawing.now).curves ≤ 16000000 }
     requires unsettled { AreClear (plan drawing.now) → IsUnsettled (plan drawing.now) }

@@ -40,7 +40,7 @@ pub struct Certificate {
     pub table: Name,
     pub attribute: Name,
     pub level: u8,
-    /// For each event the place of its edges in the live list.
+    /// For each event how many edges of the live list are below those that end there.
     pub positions: Vec<u32>,
     /// Two notes for each edge: of its half-edge below, then of that above. A last note without a
     /// partner is in no text.

@@ -209,7 +209,7 @@ fn broken_by(case: &Case, stop: Stop) -> Result<Verdict, Memory>
     }
 }
 
-/// Nothing is replayed yet. What the replay needs is taken here.
+/// The state before the first event, with the memory that is known beforehand.
 fn begin(alloc: Global, case: &Case, of: &EdgeEvents) -> Result<State, Memory>
     requires fit { IsFit case.now }
     requires of { AreEventsOf (judged case.now).edges (judged case.now).table of.now.low.items

@@ -45,8 +45,8 @@ pub struct Spot {
     pub number: u32,
 }
 
-/// The points by x, then y, of which so many were passed, and the least number of one that was not
-/// where it is placed; that is the number of points where there was none.
+/// The points by x, then y; the first of them that was not passed yet; and the least number of a
+/// point that is not where the certificate places it, or the number of points where there is none.
 #[derive(Drop)]
 pub struct Placing {
     pub spots: Vec<Spot>,

@@ -54,7 +54,7 @@ fn product(a: i64, b: i64) -> i128
     i128::from(a) * i128::from(b)
 }
 
-// Equality as the definition has it, by two comparisons.
+// Whether two numbers are equal, which the definition says by two comparisons.
 fn are_equal(a: i128, b: i128) -> bool
     ensures { result ≡ is_same a b }
 {

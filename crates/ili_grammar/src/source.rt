@@ -21,19 +21,19 @@ pub struct Source<'a> {
     ghost short: { IsTrue (are_short text.now tokens.now) },
 }
 
-/// What must come, as far as it gives the code of a fault.
+/// What is expected at a place; it decides the code of the fault there.
 #[derive(Clone, Copy)]
 pub enum Wanted {
     Free,
     LineForm,
     EndName,
     Value,
-    /// A part might be opened, were it not too deep.
+    /// A part that would be nested too deeply.
     Shallower,
     Other,
 }
 
-/// So many Enumerations and LINEATTR parts may enclose a place.
+/// The greatest number of enumerations and LINEATTR parts that are nested in each other.
 pub const DEEPEST: u32 = 32;
 
 /// Adds items to a list.

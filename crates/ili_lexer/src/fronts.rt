@@ -143,7 +143,7 @@ fn number(text: &[u8]) -> Front
     if whole == 0 {
         return mark(text);
     }
-    let decimals = decimals_behind(&text[sign + whole..]);
+    let decimals = decimals_after(&text[sign + whole..]);
     if decimals > 9 || whole + decimals > 18 {
         return Front::LongNumber;
     }
@@ -170,7 +170,7 @@ fn digits_of(text: &[u8]) -> usize
 }
 
 // The number of digits after a full stop at the front.
-fn decimals_behind(text: &[u8]) -> usize
+fn decimals_after(text: &[u8]) -> usize
     ensures within { result ≤ length text.now }
     ensures length { result ≡ decimals_of text.now }
 {

@@ -7,7 +7,7 @@ use itf_lines::Field;
 pub enum VertexKind {
     /// It begins a stroke.
     Start,
-    /// By a straight, or as the end of an arc.
+    /// The end of a straight or of an arc.
     Straight,
     /// It lies on an arc that ends at the next vertex.
     OnArc,

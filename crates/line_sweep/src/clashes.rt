@@ -1,4 +1,4 @@
-// Groups of edges that are in the way of a sweep.
+// Groups of edges without which a sweep can go on.
 ghost use Rattle.std.specs.Prelude.{◌≡◌, ℕ, ◌^◌, ◌<◌, IfOk, OnOk, length};
 ghost use Rattle.plane.specs.Lists.{Has};
 ghost use Rattle.plane.specs.Runs.Timetables.{IsTimetable};
@@ -77,7 +77,7 @@ impl<'a> Marks<'a> {
 
     /// Marks those of the groups of two edges that are not firm, or, if both are, the one that
     /// starts later.
-    fn set_looser(&mut self, first: u32, second: u32)
+    fn mark_not_firm(&mut self, first: u32, second: u32)
         ensures { length self.new.marks.items ≡ length self.old.marks.items }
     {
         match (self.is_firm(first), self.is_firm(second)) {
@@ -107,13 +107,13 @@ pub struct BadEdges {
     pub second: u32,
 }
 
-/// Marks for groups of edges that are in the way of others: of two edges that a sweep finds to be
-/// bad, or that are known to be, the groups that are not firm, or where both are firm the one that
-/// starts later. The sweep goes on without the edges of marked groups; so where few groups
-/// are in the way of each other, a sweep of the others will most often find nothing bad. No clause
-/// says that: who needs it sweeps them. `groups` has the group of each edge, and `firm` which
-/// groups are. The only error is out of memory. It takes the time of a sweep, and at each event
-/// that marks a group a pass over the live list.
+/// Marks groups of edges that have bad edges: of two edges that a sweep finds to be bad, or that
+/// are known to be, the groups that are not firm, or where both are firm the one that starts later.
+/// The sweep goes on without the edges of marked groups; so where few groups have edges that are
+/// bad with each other, a sweep of the others will most often find nothing bad. No clause says
+/// that: who needs it sweeps them. `groups` has the group of each edge, and `firm` says which
+/// groups are only marked for another firm one. The only error is out of memory. It takes the time
+/// of a sweep, and at each event that marks a group a pass over the live list.
 pub fn clashing(
     alloc: Global,
     edges: &[Edge],
@@ -142,7 +142,7 @@ pub fn clashing(
         }
     }
     if !marks.has(known.first) && !marks.has(known.second) {
-        marks.set_looser(known.first, known.second);
+        marks.mark_not_firm(known.first, known.second);
     }
     Ok(marks.marks)
 }
@@ -174,7 +174,7 @@ fn pass(
     let own = edge_of_event(edges, table, event);
     let through = upto < live.len() && !marks.has(own) && goes_through(edges, live.get(upto), at);
     if through {
-        marks.set_looser(live.get(upto), own);
+        marks.mark_not_firm(live.get(upto), own);
     }
     unmarked(starting, marks, room)?;
     live.replace(from, upto - from, room)?;
@@ -220,7 +220,7 @@ fn mark_neighbours(
     let mut any = false;
     for below in from.saturating_sub(1)..from.saturating_add(count) {
         if let Some((lower, upper)) = bad_neighbours(edges, live, below) {
-            marks.set_looser(lower, upper);
+            marks.mark_not_firm(lower, upper);
             any = true;
         }
     }

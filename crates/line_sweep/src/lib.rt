@@ -14,9 +14,9 @@
 //!   ends within 2^41 of each other in each coordinate.
 //! - **Degenerate cases.** Upright edges, edges of one line, equal edges, many edges in one point,
 //!   edges that begin where others end or on others, and no edge at all are all taken.
-//! - **Edges in the way.** `clashing` goes on behind two bad edges, without those of a group of
-//!   theirs or of both, and marks these groups, for whoever sweeps the others. It promises nothing
-//!   of the marks.
+//! - **Groups of bad edges.** `clashing` continues past two bad edges: it leaves out all edges of
+//!   the group of one or of both, and marks these groups, for whoever sweeps the others. It
+//!   promises nothing of the marks.
 //! - **Not here:** no faces, no half-edges and no points but the edges' ends.
 //!
 //! Cost: O((m + events) log m) for m edges, and what the live list and the keys of the open cells
@@ -24,7 +24,8 @@
 //! entries of 4 and of 8 bytes, beside those that come and go, however many edges are live, and
 //! passes over the blocks before its place, of which there are at most m / 2,048 + 1. On maps some
 //! hundreds of edges are live, in one block. The answer takes 8 bytes an edge, 40 an event and 12 a
-//! cell; it keeps the timetable of the edges, and no list for an event.
+//! cell; it keeps the timetable of the edges, and no list for an event. `clashing` takes that time,
+//! and for each event at which it marks a group a pass over the live list.
 #![tactic(auto)]
 
 mod blocks;

@@ -17,7 +17,7 @@ use std::alloc::Global;
 
 /// The least pair that the test seeks, by its first number, then by its second; None exactly where
 /// it seeks no pair. The numbers are those of the boxes, of which some are marked. Only pairs of
-/// which one is marked and whose boxes share a place are tested: the caller owes that the test
+/// which one is marked and whose boxes share a place are tested: the caller must know that the test
 /// seeks no other pair. The only error is out of memory. It takes the time of the marked boxes
 /// times those that begin within their extents along x, and the other way round, beside two sorts;
 /// and 32 bytes for each box.

@@ -1,4 +1,4 @@
-//! What a call comes to, and how it is reported.
+//! The outcome of a call, and the text of its report.
 //!
 //! An outcome is a status, the lines of a report, and the certificates where there are any to
 //! write. `outcome` makes each of them: wrong words, a file that was not read, a refused model, a

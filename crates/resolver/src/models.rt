@@ -32,7 +32,7 @@ pub struct Block {
     pub z: Limits,
 }
 
-/// What a value may be, where it is no line.
+/// What a column may hold.
 #[derive(Clone, Copy)]
 pub enum Form {
     Range(Limits),

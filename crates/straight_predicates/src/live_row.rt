@@ -56,7 +56,7 @@ impl<T: Copy> Row<T> {
         self.blocks[spot.block].values()[spot.offset]
     }
 
-    /// Writes `count` values from a place on over those of another list.
+    /// Copies `count` values from the place `from` on into another list, whose values go.
     pub fn copy_part(&self, from: usize, count: usize, into: &mut Vec<T>) -> Result<(), Memory>
         requires { from + count ≤ length self.now }
         ensures { OnOk result (into.new.items ≡ take count (drop from self.now)) }

@@ -45,7 +45,8 @@ pub fn start<T: Copy>(blocks: &[Block<T>], block: usize) -> usize
     place
 }
 
-/// Puts values in the place of `count` others, from `from` on. After `Memory` it holds any values.
+/// Puts values in the place of `count` others, from `from` on. After `Memory` its contents are
+/// unspecified.
 pub fn replace<T: Copy>(
     alloc: Global,
     blocks: &mut Vec<Block<T>>,

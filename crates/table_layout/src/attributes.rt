@@ -88,8 +88,9 @@ fn add_line(alloc: Global, attribute: &Attribute, lines: &mut Vec<LineForm>) -> 
     Ok(())
 }
 
-/// Where the attribute stands, with so many columns in all, and so many columns and lines before
-/// it; a SURFACE nowhere.
+/// The place of an attribute in IDENT lists, with `all` columns in the table, and `column` columns
+/// and `line` lines before it: its column, or for a POLYLINE `all` and its line; none for a
+/// SURFACE.
 pub fn place(attribute: &Attribute, all: u32, column: u32, line: u32) -> Option<u32>
     requires { all + line ≤ 4294967295 }
     ensures { result ≡ place_of all column line (attribute_of attribute.now) }

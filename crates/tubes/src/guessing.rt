@@ -33,8 +33,8 @@ pub fn hypotenuse(x: u64, y: u64) -> u64 {
     root
 }
 
-/// About the count of a span, less 4 and 0 where that is less. The height h of the circle over a
-/// chord of the length l has h (diameter - h) = l² / 4.
+/// An estimate of the count of a span less 4, at least 0. The height h of the circle over a chord
+/// of the length l has h (diameter - h) = l² / 4.
 pub fn guess(diameter: u64, length: u64) -> u32
     requires { length < 2 ^ 29 }
     ensures { result < 2 ^ 26 }

@@ -38,8 +38,7 @@ fn product(a: i64, b: i64) -> i64
     a * b
 }
 
-/// The mean of start and end, and from there n parts of `turned` of which `length` are the whole,
-/// rounded down. The dividend is below 2^61.
+/// `(start + end) / 2 + n * turned / length`, rounded down once. The dividend is below 2^61.
 pub fn moved(start: i64, end: i64, turned: i64, length: i64, n: i64) -> i64
     requires start { IsWithin (2 ^ 61) start }
     requires end { IsNear (2 ^ 28) start end }

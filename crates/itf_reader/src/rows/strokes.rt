@@ -77,7 +77,7 @@ pub fn is_bad_arc(s: &ReadVertex, m: &ReadVertex, e: &ReadVertex) -> bool
     is_on_arc(m.kind) && is_no_arc(s.at, m.at, e.at)
 }
 
-// Each arc is one.
+// Each vertex on an arc makes an arc with the vertices before and after it.
 #[tactic(auto, using(crate::proofs::Arcs::few_are_arcs))]
 fn are_arcs(vertices: &[ReadVertex]) -> bool
     ensures { result ≡ are_arcs (vertices_view vertices.now) }

@@ -77,7 +77,7 @@ fn line_attributes<'a>(
     Ok(done)
 }
 
-// What the lines of a boundary have of their own.
+// What the LINEATTR part of a boundary stands for.
 fn line_part<'a>(
     alloc: Global,
     scope: &Scope<'_, 'a>,

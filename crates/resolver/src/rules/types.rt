@@ -76,7 +76,7 @@ fn check_vertex<'a>(
     }
 }
 
-// Reports an attribute of a line that is a line.
+// Reports an attribute of LINEATTR whose type is a line.
 #[tactic(auto, using(crate::proofs::Types::attribute_out))]
 fn check_line_attribute<'a>(
     scope: &Scope<'_, 'a>,
@@ -90,7 +90,7 @@ fn check_line_attribute<'a>(
     earliest.report(line, ModelCode::LineAttr, &attribute.name);
 }
 
-// Reports each attribute of a line that is a line.
+// Reports each attribute of LINEATTR whose type is a line.
 fn check_line_attributes<'a>(
     scope: &Scope<'_, 'a>,
     attributes: &'a [AttributeSyntax],
