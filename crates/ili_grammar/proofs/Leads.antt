@@ -12,7 +12,7 @@ use Rattle.ili_lexer.specs.declared.tokens.Mark.TheVariants as marks
 use Rattle.ili_lexer.specs.declared.keywords.Keyword as keyword
 use Rattle.ili_grammar.specs.Tokens.{Kind}
 use Rattle.ili_grammar.specs.Kinds.{same_kind, Not, Off}
-use Rattle.ili_grammar.specs.Steps.{NoWord, Leads, kind_at, leads_with, scales_here}
+use Rattle.ili_grammar.specs.Steps.{NoWord, Leads, leads_with, scales_here}
 use Rattle.ili_grammar.specs.Codes.{begins_with_s}
 use Rattle.std.proofs.lemmas.Bool.Decides.{nat_tests}
 use Rattle.ili_grammar.proofs.SameKind.{same_is}
@@ -51,14 +51,8 @@ unfolding toks
 length-toks text ts = length_behind text None ts
 
 -- ---- one token
-pub kind_here : (text : List ℕ) (ts : List Token) (i : ℕ) (d : Token) → i < length ts → kind_at (drop i (toks text ts)) ≡ Some (kind_of (get_or ts i d).kind)
-kind_here text ts i d h = ap kind_at (leads text ts i d h)
-
 pub none_left : (text : List ℕ) (ts : List Token) (i : ℕ) → length ts ≤ i → drop i (toks text ts) ≡ []
 none_left text ts i h = drop_all i (toks text ts) (omega (arith, length-toks text ts))
-
-pub kind_none : (text : List ℕ) (ts : List Token) (i : ℕ) → length ts ≤ i → kind_at (drop i (toks text ts)) ≡ None
-kind_none text ts i h = ap kind_at (none_left text ts i h)
 
 pub leads_kind : (text : List ℕ) (ts : List Token) (i : ℕ) (d : Token) (k : kind.Kind) → i < length ts → (get_or ts i d).kind ≡ k → Leads (kind_of k) (drop i (toks text ts)) (drop (i + 1) (toks text ts))
 leads_kind text ts i d k h e =

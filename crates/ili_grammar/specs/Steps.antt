@@ -43,10 +43,6 @@ abbrev pub leads_with : Kind → List Tok → Bool
 leads_with k [] = false
 leads_with k (tok h i ∷ r) = same_kind k h
 
-abbrev pub kind_at : List Tok → Option Kind
-kind_at [] = None
-kind_at (tok k i ∷ r) = Some k
-
 -- the fault says where a run of the machine stopped, and with which code; out of memory says
 -- nothing
 abbrev pub IsReportedBy : List Tok → Outcome → fault.SyntaxFault → Type 0

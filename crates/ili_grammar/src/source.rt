@@ -96,27 +96,15 @@ impl Wanted {
 impl<'a> Source<'a> {
     ghost use Rattle.std.specs.Prelude.{◌+◌, ◌-◌, ◌<◌, ℕ, take, drop, IfOk, IfSome, None};
     ghost use Rattle.std.specs.Prelude.{MatchBool, ⊤};
-    ghost use Rattle.std.specs.Option.{option_map};
     ghost use Rattle.ili_grammar.specs.Kinds.{Not};
     ghost use Rattle.ili_grammar.specs.Machine.{want, maybe_explanation, first_content, content};
     ghost use Rattle.ili_grammar.specs.Tokens.{name, number, word, FREE, OPTIONAL};
     ghost use Rattle.ili_grammar.specs.Types.{IsExplained};
     ghost use Rattle.ili_grammar.specs.Slices.{bytes_of, word_of};
     ghost use Rattle.ili_grammar.specs.Values.{ident_of, decimal_of};
-    ghost use Rattle.ili_grammar.specs.Steps.{all, rest, Leads, LeadsName, LeadsNumber, kind_at};
+    ghost use Rattle.ili_grammar.specs.Steps.{all, rest, Leads, LeadsName, LeadsNumber};
     ghost use Rattle.ili_grammar.specs.Steps.{leads_with, code_here, scales_here, is_plain};
     ghost use Rattle.ili_grammar.specs.Steps.{Refuses, Goes, past, NoWord, IsFaultAt};
-
-    /// The kind of a token, if there is one.
-    pub fn kind(&self, at: usize) -> Option<Kind>
-        ensures { kind_at (rest self.now at) ≡ option_map kind_of result }
-    {
-        if at < self.tokens.len() {
-            Some(self.tokens[at].kind)
-        } else {
-            None
-        }
-    }
 
     /// Whether a token is of this kind.
     pub fn is(&self, at: usize, kind: Kind) -> bool

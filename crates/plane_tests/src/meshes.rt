@@ -1,9 +1,10 @@
 // What a caller concludes from the clauses of `Mesh` alone. Meshes of whole drawings, with faces
 // and links, are those of the accepted rows of `worked_rows`, whose certificates show them.
 ghost use Rattle.std.specs.Prelude.{◌≡◌, ℕ, ◌+◌, ◌-◌, IfOk, ◌<◌, length, slice_index};
+ghost use Rattle.half_edges.specs.Meshes.{with_edge, without_edges};
 ghost use Rattle.half_edges.specs.Stars.{IsStar, IsLoose};
 
-use half_edges::{HalfEdgeId, Mesh, VertexId};
+use half_edges::{FaceId, HalfEdgeId, Mesh, VertexId};
 use ports::Memory;
 use std::alloc::Global;
 
@@ -38,4 +39,26 @@ fn bend(alloc: Global) -> Result<Mesh, Memory>
 #[test]
 fn callers_know_what_comes_next(rt: HostRuntime) {
     assert!(rt; bend(rt.alloc()).is_ok());
+}
+
+// One edge, whose half-edge 0 begins at its high end.
+fn one_edge(alloc: Global) -> Result<Mesh, Memory>
+    ensures { IfOk result (λ mesh. mesh ≡ with_edge (without_edges 2) 0 1) }
+{
+    let mut mesh = Mesh::new(alloc, 2)?;
+    mesh.add_edge(VertexId(0), VertexId(1))?;
+    Ok(mesh)
+}
+
+// Where the half-edge 0 begins, and whether both half-edges may have one face, or one each.
+fn ends_and_faces(alloc: Global) -> Result<(VertexId, bool, bool), Memory> {
+    let mesh = one_edge(alloc)?;
+    let one = mesh.faces_agree(&[FaceId(3), FaceId(3)]);
+    let two = mesh.faces_agree(&[FaceId(3), FaceId(4)]);
+    Ok((mesh.origin(HalfEdgeId(0)), one, two))
+}
+
+#[test]
+fn an_edge_alone_has_one_face(rt: HostRuntime) {
+    assert!(rt; matches!(ends_and_faces(rt.alloc()), Ok((VertexId(1), true, false))));
 }
