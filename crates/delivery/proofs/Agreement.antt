@@ -10,12 +10,12 @@ use Rattle.table_layout.specs.Layouts.{Layout}
 use Rattle.commands.specs.declared.files.File.{File}
 use Rattle.reports.specs.declared.status.Status.{Status}
 use Rattle.reports.specs.declared.status.Status.TheVariants.{ReadFault, WriteFault}
-use Rattle.delivery.specs.Answers.{AgreeFilings, Agree, AgreeUnlessUnread, Answers, IsStopped, IsAnswer}
+use Rattle.delivery.specs.Answers.{GathersFor, Passes, AgreeFilings, Agree, AgreeUnlessUnread, Answers, IsStopped, IsAnswer}
 use Rattle.delivery.specs.AreaAnswers.{AreAnswers}
 use Rattle.delivery.specs.Verifying.{IsVerification}
 use Rattle.plane.specs.Rule.Plans.{Plan}
 use Rattle.delivery.proofs.Windows.{same_drawings}
-use Rattle.commands.specs.Commands.{Command, Source, from_file, made, compile, check, verify, trial, limit_of, model_of, further_files}
+use Rattle.commands.specs.Commands.{Command, Source, from_file, made, compile, check, verify, trial, limit_of, model_of, further_files, IsCommand}
 use Rattle.delivery.specs.Deciding.{Decides, formless, formed}
 use Rattle.delivery.specs.FiledTexts as filed_texts
 use Rattle.delivery.specs.FiledTexts.{AreVerified, IsRowsVerified, IsVerified}
@@ -125,6 +125,38 @@ module _ (files : Files) (far near : List ℕ → Type 0) where
   same_gathered c g h r k =
       same_read (model_of c) g h (λ text. Compiles (Some files) far c text g) (λ text. Compiles (Some files) near c text h)
       (λ text p q. same_compiled c text g h p q) r k
+
+-- ---- what passes a test and what else is read
+-- the texts that were read pass it
+abbrev PassesIn : (Command → Layout → List (List ℕ) → Type 0) → Command → Gathered → Type 0
+PassesIn P c (gathering.texts l ts) = P c l ts
+PassesIn P c _ = ⊥
+
+module _ (P : Command → Layout → List (List ℕ) → Type 0) (files : Files) (far near : List ℕ → Type 0) (words : List (List ℕ)) (p : Passes (Some files) far words P) where
+  reads_too : (h : Gathered) (c : Command) → IsCommand words c → Gathers (Some files) near c h → IsUnread h ⊎ PassesIn P c h
+  reads_too h c i k =
+      let e = one_command words p.0 c p.3 i in
+      let g = gathering.texts p.1 p.2 in
+      elim (same_gathered files far near c g h (subst (λ (x : Command). Gathers (Some files) far x g) e p.4) k) as (λ z. IsUnread h ⊎ PassesIn P c h) [
+        | inl u ↦ absurd u
+        | inr n ↦ elim n as (λ z. IsUnread h ⊎ PassesIn P c h) [
+          | inl u ↦ inl u
+          | inr r ↦ inr (subst (PassesIn P c) r (subst (λ (x : Command). PassesIn P x g) e p.5))
+        ]
+      ]
+
+  -- two tests that are passed are passed by the same texts
+  pub both_pass : (Q : Command → Layout → List (List ℕ) → Type 0) → Passes (Some files) near words Q → (c : Command) × (l : Layout) × (ts : List (List ℕ)) × P c l ts × Q c l ts
+  both_pass Q q = elim (reads_too (gathering.texts q.1 q.2) q.0 q.3 q.4) as (λ z. (c : Command) × (l : Layout) × (ts : List (List ℕ)) × P c l ts × Q c l ts) [
+    | inl u ↦ absurd u
+    | inr r ↦ (q.0, q.1, q.2, r, q.5)
+  ]
+
+  pub never_refused : (r : Refusal) → GathersFor (Some files) near words (gathering.refused r) → ⊥
+  never_refused r k = elim (reads_too (gathering.refused r) k.0 k.1 k.2) as (λ z. ⊥) [ inl u ↦ u | inr n ↦ n ]
+
+  pub never_too_long : (f : File) → GathersFor (Some files) near words (gathering.too_long f) → ⊥
+  never_too_long f k = elim (reads_too (gathering.too_long f) k.0 k.1 k.2) as (λ z. ⊥) [ inl u ↦ u | inr n ↦ n ]
 
 -- ---- outcomes of what is read agree
 differ : true ≡ false → ⊥

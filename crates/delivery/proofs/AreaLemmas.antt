@@ -148,6 +148,10 @@ any_here P a as_ h = (0, a, omega arith, refl, h)
 any_there : (P : AreaOf → Type 0) (a : AreaOf) (as_ : List AreaOf) → Any P as_ → Any P (a ∷ as_)
 any_there P a as_ h = (suc h.0, h.1, (let n = h.2 in omega (arith, n)), h.3, h.4)
 
+-- what holds of all areas holds of the one that there is
+pub both_at : (P Q : AreaOf → Type 0) (as_ : List AreaOf) → All P as_ → Any Q as_ → (a : AreaOf) × P a × Q a
+both_at P Q as_ s h = (h.1, subst P h.3 (s h.0 h.1 h.2), h.4)
+
 -- ---- what answers say of their areas
 module _ (laws : AreaLaws) (l : Layout) (rows : List (List Row)) where
   some_faulty : (as_ : List AreaOf) (ds : List Plan) (xs : List AreaAnswer) (cs : List Plain) → AllZip (IsDrawing l rows) as_ ds → AreAnswers l as_ ds xs cs → has_fault xs ≡ true → Any (IsDrawn l rows IsFaultyPlan) as_
@@ -216,15 +220,16 @@ module _ (l : Layout) (rows : List (List Row)) where
   parted_all = parted_from l.areas
 
   -- no drawing of straights is undecided
-  pub straights_decided : HaveStraightLines l rows → AreLeftAreas l rows → ⊥
-  straights_decided s h =
-      let k = h.0.0 in
-      let a = h.0.1 in
-      let lines : AreAllStraight (area_curves l rows a) = subst (λ (b : AreaOf). AreAllStraight (area_curves l rows b)) h.0.3 (s k a h.0.2) in
-      none h.0.4.0 (subst AreAllStraight (sym h.0.4.1.curves) lines) h.0.4.2
+  pub straight_area_decided : (a : AreaOf) → AreAllStraight (area_curves l rows a) → IsDrawn l rows IsUndecidedPlan a → ⊥
+  straight_area_decided a s h = none h.0 (subst AreAllStraight (sym h.1.curves) s) h.2
     where
       none : (d : Plan) → AreStraights d → IsUndecidedPlan d → ⊥
       none d s u = elim u.half_arc as (λ z. ⊥) [ inl n ↦ no_half_arc d u.first s n | inr n ↦ no_half_arc d u.second s n ]
+
+  pub straights_decided : HaveStraightLines l rows → AreLeftAreas l rows → ⊥
+  straights_decided s h =
+      let b = both_at (λ a. AreAllStraight (area_curves l rows a)) (IsDrawn l rows IsUndecidedPlan) l.areas s h.0 in
+      straight_area_decided b.0 b.1 b.2
 
 -- what is reported of answers, by whether one is a fault and whether one is left
 abbrev pub outcome_by : Layout → ℕ → Target → List AreaAnswer → List Plain → Bool → Bool → Outcome

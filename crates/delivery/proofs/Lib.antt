@@ -21,6 +21,7 @@ pub mod ServedLemmas
 pub mod Steps
 pub mod StraightAreas
 pub mod StrokeSteps
+pub mod ValidInput
 pub mod Verifications
 pub mod VerifyingLemmas
 pub mod Windows

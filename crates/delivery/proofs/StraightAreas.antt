@@ -1,5 +1,5 @@
 -- Where all lines of areas are straights, no call leaves anything undecided.
-use Rattle.std.proofs.Common.{◌≡◌, ℕ, List, [], ◌∷◌, Option, Some, subst, inl, inr}
+use Rattle.std.proofs.Common.{◌≡◌, ℕ, List, [], ◌∷◌, Option, Some, subst}
 use Rattle.std.specs.Prelude.{◌≢◌}
 use Rattle.ports.specs.Files.{Files}
 use Rattle.itf_reader.proofs.Readings.{one_transfer}
@@ -9,14 +9,11 @@ use Rattle.delivery.specs.Causes.{HasStraightAreas, LeavesUndecided}
 use Rattle.delivery.specs.Answers.{HasCause, Passes}
 use Rattle.delivery.specs.AreaAnswers.{HaveStraightLines}
 use Rattle.commands.specs.Commands.{Command, compile, check, verify, trial}
-use Rattle.commands.specs.Gathering as gathering
-use Rattle.commands.specs.Gathering.{Gathered, Gathers}
 use Rattle.delivery.specs.Judging.{lines_of}
 use Rattle.reports.specs.declared.status.Status.{Status}
 use Rattle.reports.specs.declared.status.Status.TheVariants.{Undecided}
-use Rattle.delivery.proofs.Agreement.{same_gathered}
+use Rattle.delivery.proofs.Agreement.{both_pass}
 use Rattle.delivery.proofs.AreaLemmas.{straights_decided}
-use Rattle.commands.proofs.OneCommand.{one_command}
 
 none_in : (c : Command) (l : Layout) (ts : List (List ℕ)) → HasStraightAreas c l ts → LeavesUndecided c l ts → ⊥
 none_in (compile m) l ts s h = h
@@ -28,23 +25,10 @@ none_in (trial n v) l [] s h = s
 none_in (trial n v) l (text ∷ []) s h = straights_decided l h.0 (subst (HaveStraightLines l) (one_transfer (form_of l) (lines_of l text).lines s.0 h.0 s.1.1 h.1.1) s.2) h.4
 none_in (trial n v) l (t ∷ u ∷ ts) s h = h
 
--- all lines of areas are straights in the texts that were read
-abbrev AreStraightIn : Command → Gathered → Type 0
-AreStraightIn c (gathering.texts l ts) = HasStraightAreas c l ts
-AreStraightIn c _ = ⊥
-
 pub none_left : (files : Files) (far near : List ℕ → Type 0) (words : List (List ℕ)) → Passes (Some files) far words HasStraightAreas → Passes (Some files) near words LeavesUndecided → ⊥
 none_left files far near words p q =
-    let e = one_command words p.0 q.0 p.3 q.3 in
-    let g = gathering.texts p.1 p.2 in
-    let h = gathering.texts q.1 q.2 in
-    elim (same_gathered files far near q.0 g h (subst (λ (x : Command). Gathers (Some files) far x g) e p.4) q.4) as (λ z. ⊥) [
-      | inl u ↦ u
-      | inr n ↦ elim n as (λ z. ⊥) [
-        | inl u ↦ u
-        | inr r ↦ none_in q.0 q.1 q.2 (subst (AreStraightIn q.0) r (subst (λ (x : Command). AreStraightIn x g) e p.5)) q.5
-      ]
-    ]
+    let b = both_pass HasStraightAreas files far near words p LeavesUndecided q in
+    none_in b.0 b.1 b.2 b.3 b.4
 
 -- an answer that has its cause is not that something is undecided
 pub decided : (held : Option Files) (counted : List ℕ → Type 0) (words : List (List ℕ)) (s : Status) → HasCause held counted words s

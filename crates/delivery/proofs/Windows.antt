@@ -49,7 +49,7 @@ one_window : (ls : List LineForm) (v w : Window2) → HasWindow ls v → HasWind
 one_window [] v w h k = same_window v w (h.0 ∙ sym k.0) (h.1 ∙ sym k.1)
 one_window (l ∷ ls) v w h k = same_window v w (h.low ∙ sym k.low) (h.high ∙ sym k.high)
 
-one_drawing : (l : Layout) (rows : List (List Row)) (a : AreaOf) (d e : Plan) → IsDrawing l rows a d → IsDrawing l rows a e → d ≡ e
+pub one_drawing : (l : Layout) (rows : List (List Row)) (a : AreaOf) (d e : Plan) → IsDrawing l rows a d → IsDrawing l rows a e → d ≡ e
 one_drawing l rows a d e h k =
     let w : d.window ≡ e.window = one_window (lines_in (slice_get l.tables a.lines)) d.window e.window h.window k.window in
     let c : d.curves ≡ e.curves = h.curves ∙ sym k.curves in

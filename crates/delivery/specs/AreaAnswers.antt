@@ -1,5 +1,5 @@
 -- What is answered to the areas of a layout.
-use Rattle.std.specs.Prelude.{◌≡◌, ◌⊎◌, ℕ, pos, List, [], ◌∷◌, ◌++◌, get_or}
+use Rattle.std.specs.Prelude.{◌≡◌, ◌≤◌, ◌⊎◌, ℕ, pos, List, [], ◌∷◌, ◌++◌, get_or}
 use Rattle.std.specs.List.{All, Any}
 use Rattle.certificate.specs.Spelling.{Plain}
 use Rattle.itf_reader.specs.Forms.{Row}
@@ -7,6 +7,7 @@ use Rattle.table_layout.specs.Layouts.{AreaOf, Layout}
 use Rattle.plane.specs.Rule.Partition.{IsPartition}
 use Rattle.plane.specs.Rule.Plans.{Plan, curve, IsHalfArc}
 use Rattle.tubes.specs.DrawnEdges.{AreAllStraight}
+use Rattle.tubes.specs.Settled.{IsSettledAt}
 use Rattle.area_search.specs.Answers as search
 use Rattle.area_search.specs.declared.kinds.AreaAnswer.TheVariants as found
 use Rattle.area_search.specs.declared.kinds.AreaFinding.{AreaFinding}
@@ -100,3 +101,17 @@ AreLeftAreas l rows =
 -- all lines of areas are straights
 abbrev pub HaveStraightLines : Layout → List (List Row) → Type 0
 HaveStraightLines l rows = All (λ a. AreAllStraight (area_curves l rows a)) l.areas
+
+-- some level settles the drawing
+abbrev pub IsSettledPlan : Plan → Type 0
+IsSettledPlan d = (level : ℕ) × (level ≤ 5) × IsSettledAt d level
+
+-- all lines of the area are straights, or some level settles its drawing
+abbrev pub IsSettledArea : Layout → List (List Row) → AreaOf → Type 0
+IsSettledArea l rows a =
+    AreAllStraight (area_curves l rows a) ⊎ IsDrawn l rows IsSettledPlan a
+
+-- the drawing of each area is a partition, and of each one all lines are straights or some level
+-- settles it
+abbrev pub AreSettledPartitions : Layout → List (List Row) → Type 0
+AreSettledPartitions l rows = ArePartedAreas l rows × All (IsSettledArea l rows) l.areas

@@ -4,7 +4,7 @@ use Rattle.itf_reader.specs.Forms.{Row}
 use Rattle.itf_reader.specs.Readings.{Structure}
 use Rattle.table_layout.specs.Layouts.{Layout}
 use Rattle.delivery.specs.AreaAnswers.{HasFaultyArea, ArePartedAreas, AreLeftAreas}
-use Rattle.delivery.specs.AreaAnswers.{HaveStraightLines}
+use Rattle.delivery.specs.AreaAnswers.{HaveStraightLines, AreSettledPartitions}
 use Rattle.delivery.specs.AreaLimits.{has_too_large}
 use Rattle.commands.specs.Commands.{Command, compile, check, verify, trial}
 use Rattle.delivery.specs.FiledTexts.{IsVerified}
@@ -115,3 +115,11 @@ IsOversized (verify c) l (text ∷ filed ∷ []) = HasLargeArea l text
 IsOversized (verify c) l ts = ⊥
 IsOversized (trial n c) l (text ∷ []) = HasLargeArea l text
 IsOversized (trial n c) l ts = ⊥
+
+-- ---- valid input
+-- What Accepted says of the texts; and for `check` and `trial` of each AREA all lines are straights
+-- or some level settles its drawing.
+abbrev pub IsValidInput : Command → Layout → List (List ℕ) → Type 0
+IsValidInput (check c) l (text ∷ []) = HasSoundRows l text (AreSettledPartitions l)
+IsValidInput (trial n c) l (text ∷ []) = HasSoundRows l text (AreSettledPartitions l)
+IsValidInput c l ts = Accepts c l ts

@@ -1,5 +1,5 @@
 // Laws of outcomes.
-ghost use Rattle.std.specs.Prelude.{◌≡◌, ℕ, List, [], length, Option, Some, IsSome};
+ghost use Rattle.std.specs.Prelude.{◌≡◌, ◌⊎◌, ℕ, List, [], length, Option, Some, IsSome};
 ghost use Rattle.std.specs.FinMap as map;
 ghost use Rattle.std.specs.List.{All};
 ghost use Rattle.certificate.specs.Spelling.{Plain, spelling};
@@ -15,8 +15,8 @@ ghost use Rattle.ports.specs.MemoryFiles.{files, room, listed, space, IsReadable
 ghost use Rattle.ports.specs.MemoryOutput.{Output};
 ghost use Rattle.ports.specs.declared.memory_shelf.MemoryShelf.{MemoryShelf};
 ghost use Rattle.itf_reader.specs.Forms.{Row};
-ghost use Rattle.delivery.specs.Causes.{HasStraightAreas};
-ghost use Rattle.delivery.specs.Answers.{AgreeUnlessUnread, HasCause, Passes};
+ghost use Rattle.delivery.specs.Causes.{HasStraightAreas, IsValidInput};
+ghost use Rattle.delivery.specs.Answers.{AgreeUnlessUnread, HasCause, IsStopped, Passes};
 ghost use Rattle.delivery.specs.AreaAnswers.{AreLeftAreas, HaveStraightLines};
 ghost use Rattle.delivery.specs.Certified.{AreCertified};
 ghost use Rattle.delivery.specs.Deciding.{Decides};
@@ -24,6 +24,7 @@ ghost use Rattle.delivery.specs.FiledTexts.{IsVerified};
 ghost use Rattle.reports.specs.Outcomes.{Outcome};
 ghost use Rattle.delivery.specs.Served.{IsServed};
 ghost use Rattle.delivery.specs.TrialCounts.{HasEvents};
+ghost use Rattle.reports.specs.declared.status.Status.{Status};
 ghost use Rattle.reports.specs.declared.status.Status.TheVariants.{Accepted, Undecided};
 ghost use Rattle.delivery.specs.Verifying.{IsVerification};
 ghost use Rattle.reports.specs.Verifications.{Verification, proved};
@@ -91,6 +92,19 @@ pub fn straights_are_decided()
         → Passes (Some files) (ReadRose before after) words HasStraightAreas
         → HasCause (Some files) (ReadRose from upto) words Undecided → ⊥ }
 {}
+
+/// Valid input is the cause of one answer, Accepted; the call may also say that a file could not be
+/// read or written, or that memory ran out. Input is valid where a cause of Accepted holds of it,
+/// and for `check` and `trial` where all lines of each area are straights or some level settles its
+/// drawing.
+pub fn valid_is_accepted()
+    ensures { (files : Files) (before after from upto : List ℕ → ℕ) (words : List (List ℕ))
+        (status : Status) → Passes (Some files) (ReadRose before after) words IsValidInput
+        → HasCause (Some files) (ReadRose from upto) words status
+        → (status ≡ Accepted) ⊎ IsStopped status }
+{
+    verifications_agree();
+}
 
 /// Files and an output in memory serve a call where none of their calls is listed, the files to be
 /// read are held, and there is room for what is written.

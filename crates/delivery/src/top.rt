@@ -2,8 +2,9 @@
 ghost use Rattle.std.specs.Prelude.{◌≡◌, ◌≢◌, ◌≤◌, ◌⊎◌, Some};
 ghost use Rattle.ports.specs.Faults.{Rose, NoReadFell, ReadRose, CountsStay};
 ghost use Rattle.ports.specs.Files.{Files};
-ghost use Rattle.delivery.specs.Causes.{HasStraightAreas};
+ghost use Rattle.delivery.specs.Causes.{HasStraightAreas, IsValidInput};
 ghost use Rattle.delivery.specs.Answers.{HasCause, Passes, IsAnswer, IsFaultless, IsComplete};
+ghost use Rattle.delivery.specs.Answers.{IsStopped};
 ghost use Rattle.delivery.specs.Certified.{Certifies};
 ghost use Rattle.delivery.specs.Deciding.{Decides};
 ghost use Rattle.delivery.specs.Effects.{HasEffects};
@@ -11,7 +12,7 @@ ghost use Rattle.reports.specs.Outcomes.{Outcome as AnyOutcome};
 ghost use Rattle.delivery.specs.Served.{IsServed, AreBelowEnd};
 
 use crate::deciding::decide;
-use crate::laws::{outcomes_are_right, straights_are_decided};
+use crate::laws::{outcomes_are_right, straights_are_decided, valid_is_accepted};
 use crate::publishing::publish;
 use commands::Word;
 use ports::{Shelf, Sink};
@@ -36,6 +37,11 @@ pub fn run<S: Shelf, K: Sink>(alloc: Global, words: &[Word], shelf: &mut S, out:
     ensures decided { (files : Files) → S.held shelf.old ≡ Some files
         → Passes (Some files) (ReadRose (S.read_faults shelf.old) (S.read_faults shelf.new))
         words.now HasStraightAreas → result ≢ Status.Undecided }
+
+    // Valid input is accepted, unless a read or a write failed or the call ran out of memory.
+    ensures valid { (files : Files) → S.held shelf.old ≡ Some files
+        → Passes (Some files) (ReadRose (S.read_faults shelf.old) (S.read_faults shelf.new))
+        words.now IsValidInput → (result ≡ Status.Accepted) ⊎ IsStopped result }
 
     // After an accepted check or trial the file of the certificates holds a list that shows by
     // itself that the areas are partitions.
@@ -89,6 +95,7 @@ pub fn run<S: Shelf, K: Sink>(alloc: Global, words: &[Word], shelf: &mut S, out:
 {
     outcomes_are_right();
     straights_are_decided();
+    valid_is_accepted();
     let Ok(outcome) = decide(alloc, words, shelf) else {
         return Status::Memory;
     };

@@ -14,6 +14,7 @@ use Rattle.delivery.proofs.Steps.{rose_after, rose_before, decides_on}
 use Rattle.delivery.proofs.Agreement.{exactly}
 use Rattle.delivery.proofs.ServedLemmas.{not_rose, same_space}
 use Rattle.delivery.proofs.StraightAreas.{decided}
+use Rattle.delivery.proofs.ValidInput.{accepted}
 use Rattle.delivery.proofs.top.run.Goals as goal
 
 pub returns-clause-exact : goal.returns-clause-exact
@@ -45,6 +46,13 @@ returns-clause-decided g c =
     (ReadRose (g.S.Shelf.read_faults c.args.shelf.now) (g.S.Shelf.read_faults c.publish.new.shelf))
     c.args.words.now c.publish.result (returns-clause-cause g c)
     (λ files. c.straights_are_decided.ensures.calls files (g.S.Shelf.read_faults c.args.shelf.now) (g.S.Shelf.read_faults c.publish.new.shelf) (g.S.Shelf.read_faults c.args.shelf.now) (g.S.Shelf.read_faults c.publish.new.shelf) c.args.words.now)
+
+pub returns-clause-valid : goal.returns-clause-valid
+returns-clause-valid g c =
+    accepted (g.S.Shelf.held c.args.shelf.now)
+    (ReadRose (g.S.Shelf.read_faults c.args.shelf.now) (g.S.Shelf.read_faults c.publish.new.shelf))
+    c.args.words.now c.publish.result (returns-clause-cause g c)
+    (λ files. c.valid_is_accepted.ensures files (g.S.Shelf.read_faults c.args.shelf.now) (g.S.Shelf.read_faults c.publish.new.shelf) (g.S.Shelf.read_faults c.args.shelf.now) (g.S.Shelf.read_faults c.publish.new.shelf) c.args.words.now c.publish.result)
 
 pub returns-clause-certified : goal.returns-clause-certified
 returns-clause-certified g c =

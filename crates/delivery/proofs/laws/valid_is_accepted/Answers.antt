@@ -1,0 +1,7 @@
+use Rattle.ports.specs.Faults.{ReadRose}
+use Rattle.delivery.proofs.ValidInput.{valid_accepted}
+use Rattle.delivery.proofs.laws.valid_is_accepted.Goals as goal
+
+pub returns : goal.returns
+returns c files before after from upto words status p =
+    valid_accepted c.verifications_agree.ensures files (ReadRose before after) (ReadRose from upto) words p status
