@@ -28,9 +28,11 @@ IsFiled None old new = new ≡ old
 IsFiled (Some f) old new = Puts old f.name (λ file. spelling f.certificates) new
 
 -- What a call does that does not run out of memory. `wrote`: a failed write of a file was counted.
+-- `served o`: the files to be read can be read, and there is room for what the outcome o writes.
+-- `stays`: no count of faults moved.
 pub record HasEffects (held : Option Files) (counted : List ℕ → Type 0) (words : List (List ℕ))
-    (status : Status) (new : Option Files) (wrote : Type 0)
-    (before after : Option (List ℕ)) : Type 0 where
+    (status : Status) (new : Option Files) (wrote : Type 0) (before after : Option (List ℕ))
+    (served : Outcome → Type 0) (stays : Type 0) : Type 0 where
   -- the words and the files have an outcome
   pub outcome : Outcome
   pub decided : Decides held counted words outcome
@@ -45,3 +47,5 @@ pub record HasEffects (held : Option Files) (counted : List ℕ → Type 0) (wor
   -- output gained a byte
   pub filed : (status ≢ WriteFault) ⊎ ((wrote → ⊥) ⊎ (after ≢ before))
       → IsFiled outcome.filing held new
+  -- no count moved where the files can be read and there is room for what this outcome writes
+  pub unmoved : served outcome → stays

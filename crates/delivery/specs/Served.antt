@@ -27,11 +27,23 @@ abbrev pub HasFilingSpace : (List ℕ → Option ℕ) → Option Filing → Type
 HasFilingSpace space None = ⊤
 HasFilingSpace space (Some f) = HasRoom (length (spelling f.certificates)) (space f.name)
 
+-- the files that the words name to be read can be read
+abbrev pub AreReadableFor : List (List ℕ) → (List ℕ → Type 0) → Type 0
+AreReadableFor words readable = (c : Command) → IsCommand words c → HasReadableFiles readable c
+
+-- The files to be read can be read, and there is space for the certificates of this outcome and, in
+-- the output, for its report.
+pub record IsServedFor (words : List (List ℕ)) (readable : List ℕ → Type 0)
+    (space : List ℕ → Option ℕ) (output : Option ℕ) (o : Outcome) : Type 0 where
+  pub files : AreReadableFor words readable
+  pub certificates : HasFilingSpace space o.filing
+  pub report : HasRoom (length (report_of o)) output
+
 -- The files to be read can be read, and for every outcome of the words and the files there is space
 -- for its certificates and, in the output, for its report.
 pub record IsServed (held : Option Files) (words : List (List ℕ)) (readable : List ℕ → Type 0)
     (space : List ℕ → Option ℕ) (output : Option ℕ) : Type 0 where
-  pub files : (c : Command) → IsCommand words c → HasReadableFiles readable c
+  pub files : AreReadableFor words readable
   pub certificates : (o : Outcome) → Decides held (λ name. ⊥) words o
       → HasFilingSpace space o.filing
   pub report : (o : Outcome) → Decides held (λ name. ⊥) words o

@@ -22,7 +22,7 @@ ghost use Rattle.delivery.specs.Certified.{AreCertified};
 ghost use Rattle.delivery.specs.Deciding.{Decides};
 ghost use Rattle.delivery.specs.FiledTexts.{IsVerified};
 ghost use Rattle.reports.specs.Outcomes.{Outcome};
-ghost use Rattle.delivery.specs.Served.{IsServed};
+ghost use Rattle.delivery.specs.Served.{IsServed, IsServedFor};
 ghost use Rattle.delivery.specs.TrialCounts.{HasEvents};
 ghost use Rattle.reports.specs.declared.status.Status.{Status};
 ghost use Rattle.reports.specs.declared.status.Status.TheVariants.{Accepted, Undecided};
@@ -107,9 +107,16 @@ pub fn valid_is_accepted()
 }
 
 /// Files and an output in memory serve a call where none of their calls is listed, the files to be
-/// read are held, and there is room for what is written.
+/// read are held, and there is room for what is written: for what one outcome writes, or whatever
+/// outcome the words and the files have.
 pub fn memory_serves()
-    ensures { (shelf : MemoryShelf) (out : Output) (words : List (List ℕ))
+    ensures one { (shelf : MemoryShelf) (out : Output) (words : List (List ℕ)) (o : Outcome)
+        → listed shelf ≡ [] → out.listed ≡ []
+        → IsServedFor words (λ name. IsSome (map.get (files shelf) name)) (room shelf)
+        (Some out.room) o
+        → IsServedFor words (IsReadable shelf) (space shelf)
+        (unless_listed out.listed (Some out.room)) o }
+    ensures every { (shelf : MemoryShelf) (out : Output) (words : List (List ℕ))
         → listed shelf ≡ [] → out.listed ≡ []
         → IsServed (Some (files shelf)) words (λ name. IsSome (map.get (files shelf) name))
         (room shelf) (Some out.room)

@@ -26,9 +26,11 @@
 //!   without an object are decided; two words may name one file, since all reads come before the
 //!   first write. A vertex at the place before it draws nothing, an arc over three places of one
 //!   straight draws straights, and an area may have no line and no point.
-//! - **Without a fault.** Where the files can be read and there is space for what is written, no
-//!   count of faults moves, and the answer is that of an outcome or out of memory. Files and an
-//!   output in memory serve so where they hold the files and have room (`laws::memory_serves`).
+//! - **Without a fault.** Where the files can be read, no count of faults moves if memory runs out
+//!   or there is room for what is written, the certificates and the report of the outcome that the
+//!   call has; where none was at its last value before, the answer is then that outcome's, or out
+//!   of memory. So it is of files and an output in memory that hold the files and have the room
+//!   (`laws::memory_serves`).
 //!
 //! The crate `commands` reads the words, the files and the model. Here `transfers` reads a transfer
 //! in pieces, and `judging` judges them: lines, rows and what is kept of these. `deciding` fixes

@@ -9,7 +9,7 @@ ghost use Rattle.delivery.specs.Certified.{Certifies};
 ghost use Rattle.delivery.specs.Deciding.{Decides};
 ghost use Rattle.delivery.specs.Effects.{HasEffects};
 ghost use Rattle.reports.specs.Outcomes.{Outcome as AnyOutcome};
-ghost use Rattle.delivery.specs.Served.{IsServed, AreBelowEnd};
+ghost use Rattle.delivery.specs.Served.{IsServed, IsServedFor, AreBelowEnd, AreReadableFor};
 
 use crate::deciding::decide;
 use crate::laws::{outcomes_are_right, straights_are_decided, valid_is_accepted};
@@ -49,12 +49,18 @@ pub fn run<S: Shelf, K: Sink>(alloc: Global, words: &[Word], shelf: &mut S, out:
         (ReadRose (S.read_faults shelf.old) (S.read_faults shelf.new)) words.now
         (S.held shelf.new) }
 
-    // The answer, the output and every file are those of an outcome of the words and the files.
+    // The answer, the output and every file are those of an outcome of the words and the files; and
+    // where the files to be read can be read and there is room for what this outcome writes, no
+    // count of faults moves.
     ensures effects { result ≢ Status.Memory
         → HasEffects (S.held shelf.old)
         (ReadRose (S.read_faults shelf.old) (S.read_faults shelf.new)) words.now result
         (S.held shelf.new) (Rose (S.write_faults shelf.old) (S.write_faults shelf.new))
-        (K.written out.old) (K.written out.new) }
+        (K.written out.old) (K.written out.new)
+        (IsServedFor words.now (S.readable shelf.old) (S.space shelf.old) (K.space out.old))
+        (CountsStay (S.read_faults shelf.old) (S.write_faults shelf.old)
+        (S.read_faults shelf.new) (S.write_faults shelf.new)
+        × (K.faults out.new ≡ K.faults out.old)) }
 
     // Whatever outcome the words and the files have, the answer and the report are those of an
     // outcome that agrees with it, unless a read or a write failed or the call ran out of memory.
@@ -72,14 +78,21 @@ pub fn run<S: Shelf, K: Sink>(alloc: Global, words: &[Word], shelf: &mut S, out:
     ensures memory { result ≡ Status.Memory
         → (S.held shelf.new ≡ S.held shelf.old) × (K.written out.new ≡ K.written out.old) }
 
+    // Out of memory, no count of faults moved either, where the files to be read can be read.
+    ensures counts { result ≡ Status.Memory → AreReadableFor words.now (S.readable shelf.old)
+        → CountsStay (S.read_faults shelf.old) (S.write_faults shelf.old)
+        (S.read_faults shelf.new) (S.write_faults shelf.new)
+        × (K.faults out.new ≡ K.faults out.old) }
+
     // Where no count of faults rose, the answer is that of an outcome, or out of memory.
     ensures complete { IsFaultless (ReadRose (S.read_faults shelf.old) (S.read_faults shelf.new))
         (Rose (S.write_faults shelf.old) (S.write_faults shelf.new))
         (Rose (K.faults out.old) (K.faults out.new))
         → IsComplete (S.held shelf.old) words.now result }
 
-    // Where the files to be read can be read and there is room for what is written, no count of
-    // faults moves, so that the answer is that of an outcome, or out of memory.
+    // Where the files to be read can be read, there is room for whatever outcome the words and the
+    // files have, and no count of faults is at its last value, no count moves, so that the answer
+    // is that of an outcome, or out of memory.
     ensures served { IsServed (S.held shelf.old) words.now (S.readable shelf.old)
         (S.space shelf.old) (K.space out.old)
         → AreBelowEnd (S.read_faults shelf.old) (S.write_faults shelf.old) (K.faults out.old)

@@ -96,6 +96,16 @@ returns-clause-effects g c =
           | inr e ↦ inr e
         ])
       ]);
+      unmoved = λ s.
+          let old = g.S.Shelf.read_faults c.args.shelf.now in
+          let mid = g.S.Shelf.read_faults c.decide.new.shelf in
+          let filing = same_space (g.S.Shelf.space c.args.shelf.now) (g.S.Shelf.space c.decide.new.shelf) c.in-Ok.ensures.ready.space outcome.filing s.certificates in
+          let report = subst (λ (bytes : List ℕ). HasRoom (length bytes) (g.K.Sink.space c.args.out.now)) (sym text) s.report in
+          let wrote = c.publish.ensures.stay filing report in (
+            stay_then old (g.S.Shelf.write_faults c.args.shelf.now) mid (g.S.Shelf.write_faults c.decide.new.shelf) (g.S.Shelf.read_faults c.publish.new.shelf) (g.S.Shelf.write_faults c.publish.new.shelf)
+                (c.in-Ok.ensures.stay s.files) wrote.0,
+            wrote.1,
+          );
     }
 
 pub returns-clause-write : goal.returns-clause-write
@@ -122,7 +132,11 @@ returns-clause-complete g c = λ f. inr (
   ]),
 )
 
+pub returns-clause-counts : goal.returns-clause-counts
+returns-clause-counts g c = λ m. absurd (never_memory (g.S.Shelf.held c.args.shelf.now) (ReadRose (g.S.Shelf.read_faults c.args.shelf.now) (g.S.Shelf.read_faults c.decide.new.shelf)) c.args.words.now (outcome_of c.in-Ok.outcome) c.publish.result c.in-Ok.ensures.outcome c.publish.ensures.status m)
+
 pub returns-clause-served : goal.returns-clause-served
+unfolding returns-clause-effects
 returns-clause-served g c = λ s b.
     let held = g.S.Shelf.held c.args.shelf.now in
     let old = g.S.Shelf.read_faults c.args.shelf.now in
@@ -131,15 +145,13 @@ returns-clause-served g c = λ s b.
     let outcome = outcome_of c.in-Ok.outcome in
     let read = c.in-Ok.ensures.stay s.files in
     let is_so = decides_on held (ReadRose old mid) (λ name. ⊥) (λ name r. not_rose (old name) (mid name) (b.read name) (read.reads name) r) c.args.words.now outcome c.in-Ok.ensures.outcome in
-    let filing = same_space (g.S.Shelf.space c.args.shelf.now) (g.S.Shelf.space c.decide.new.shelf) c.in-Ok.ensures.ready.space outcome.filing (s.certificates outcome is_so) in
-    let report = subst (λ (text : List ℕ). HasRoom (length text) (g.K.Sink.space c.args.out.now)) (sym (c.deref.ensures.value ∙ c.in-Ok-report.ensures)) (s.report outcome is_so) in
-    let wrote = c.publish.ensures.stay filing report in
-    let all = stay_then old (g.S.Shelf.write_faults c.args.shelf.now) mid (g.S.Shelf.write_faults c.decide.new.shelf) new (g.S.Shelf.write_faults c.publish.new.shelf) read wrote.0 in (
-      all,
-      wrote.1,
+    let fixed = never_memory held (ReadRose old mid) c.args.words.now outcome c.publish.result c.in-Ok.ensures.outcome c.publish.ensures.status in
+    let all = (returns-clause-effects g c fixed).unmoved (record { files = s.files; certificates = s.certificates outcome is_so; report = s.report outcome is_so }) in (
+      all.0,
+      all.1,
       returns-clause-complete g c (record {
-        no_read = λ name r. not_rose (old name) (new name) (b.read name) (all.reads name) r;
-        no_write = λ r. not_rose (g.S.Shelf.write_faults c.args.shelf.now) (g.S.Shelf.write_faults c.publish.new.shelf) b.write all.writes r;
-        no_put = λ r. not_rose (g.K.Sink.faults c.args.out.now) (g.K.Sink.faults c.publish.new.out) b.put wrote.1 r;
+        no_read = λ name r. not_rose (old name) (new name) (b.read name) (all.0.reads name) r;
+        no_write = λ r. not_rose (g.S.Shelf.write_faults c.args.shelf.now) (g.S.Shelf.write_faults c.publish.new.shelf) b.write all.0.writes r;
+        no_put = λ r. not_rose (g.K.Sink.faults c.args.out.now) (g.K.Sink.faults c.publish.new.out) b.put all.1 r;
       }),
     )
