@@ -8,7 +8,8 @@ use Rattle.std.proofs.lemmas.List.{length-map}
 use Rattle.table_layout.specs.Layouts.{Column, Table, Layout}
 use Rattle.table_layout.specs.Values.{table_view, tables_view}
 use Rattle.table_layout.specs.declared.layouts.Table.{Table as CodeTable}
-use Rattle.itf_reader.specs.RowReadings.{Cell}
+use Rattle.itf_reader.specs.RowReadings.{Cell, cells_view}
+use Rattle.itf_reader.specs.declared.rows.values.Cell.{Cell as CodeCell}
 use Rattle.itf_reader.specs.ClosedRows.{of_table, by_table_from}
 use Rattle.itf_reader.specs.Findings.{Finding}
 use Rattle.itf_reader.specs.Forms.{Row}
@@ -183,6 +184,24 @@ no_point line cells c a e = ap (λ (ps : List Placed). column_of c.number c.is_a
     by : (b : Bool) → b ≡ true → c.points ≡ (if b then c.points ++ cell_points line (slice_get cells c.number) else c.points)
     by true h = sym (append-nil c.points) ∙ ap (λ (ps : List Placed). c.points ++ ps) e
     by false h = refl
+
+-- the columns of a row of which nothing was read
+no_cell : (line : ℕ) (c : PointColumn) → with_point line [] c ≡ c
+no_cell line c = ap (λ (ps : List Placed). column_of c.number c.is_area ps) (by c.is_area)
+  where
+    by : (b : Bool) → (if b then c.points ++ [] else c.points) ≡ c.points
+    by true = append-nil c.points
+    by false = refl
+
+no_cells : (line : ℕ) (cs : List PointColumn) → cs ≡ map (with_point line []) cs
+no_cells line [] = refl
+no_cells line (c ∷ cs) =
+    ap (λ (d : PointColumn). d ∷ cs) (sym (no_cell line c))
+    ∙ ap (λ (ds : List PointColumn). with_point line [] c ∷ ds) (no_cells line cs)
+
+pub none_read : (line : ℕ) (cells : List CodeCell) (cs : List PointColumn) → length cells ≡ 0 → cs ≡ map (with_point line (cells_view cells)) cs
+none_read line [] cs e = no_cells line cs
+none_read line (c ∷ cells) cs e = absurd (omega (arith, e))
 
 pub kept_set : (g : Kept → Kept) (tables : List TableKept) (place : ℕ) (d new : TableKept) → place < length tables → kept_of new ≡ g (kept_of (get_or tables place d))
     → kept_in (set tables place new) ≡ kept_at place g (kept_in tables)

@@ -110,11 +110,15 @@ fn add_point(line: u32, cells: &[Cell], column: &mut PointColumn) -> Result<(), 
     }
 }
 
-// Adds the points of a row to all columns.
+// Adds the points of a row to all columns. Where nothing was read of the row, since it has a wrong
+// number of words, no column is looked at: columns and such rows can be many.
 fn add_points(line: u32, cells: &[Cell], columns: &mut [PointColumn]) -> Result<(), Memory>
     ensures { OnOk result (point_columns_view columns.new ≡ map
         (with_point line (cells_view cells.now)) (point_columns_view columns.old)) }
 {
+    if cells.is_empty() {
+        return Ok(());
+    }
     for place in 0..columns.len() {
         add_point(line, cells, &mut columns[place])?;
     }
