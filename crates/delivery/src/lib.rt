@@ -38,10 +38,12 @@
 //! report, and the certificates where there are any to write. `publishing` writes. An answer to an
 //! area has one arm in `area_answers`; filed certificates are judged in `verifying`.
 //!
-//! Cost of `run`: time and memory in proportion to the files, but for the names of a model, the
-//! findings of a transfer and its keys, which take n log n, and for the search of each area or the
-//! check of its certificate, which `area_search` and `certificate_checker` say. Of a model its
-//! layout is held while the transfer is read, and its text, which is at most 4,194,304 bytes long.
+//! Cost of `run`: time and memory in proportion to the files, but for what a model's attributes
+//! copy of the lines of domains (`resolver`); for its names, the findings of a transfer and its
+//! keys, which take n log n, and are one for each row and each IDENT list of its table; and for the
+//! search of each area or the check of its certificate, which `area_search` and
+//! `certificate_checker` say. Of a model its layout is held while the transfer is read, and its
+//! text, which is at most 4,194,304 bytes long.
 //! A transfer is read in pieces of 65,536 bytes and never held: each row is judged when it is
 //! closed, and of it stay its findings, 20 bytes and its keys, and where it belongs to an area 24
 //! bytes for each vertex or point. From these the areas are drawn, with 56 bytes for a curve;

@@ -23,7 +23,7 @@ pub struct Judge<'a> {
 }
 
 impl<'a> Judge<'a> {
-    /// In front of the text of a transfer of that layout.
+    /// Before the first byte of a transfer of that layout.
     pub fn new(alloc: Global, layout: &'a Layout) -> Result<Judge<'a>, Memory>
         requires { IsValid (layout_view layout.now) }
         ensures { IfOk result (IsOpened (layout_view layout.now)) }

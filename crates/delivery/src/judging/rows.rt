@@ -76,7 +76,7 @@ fn add_at(
 }
 
 impl<'a> RowJudge<'a> {
-    /// In front of a text.
+    /// Before the first line of a text.
     pub fn new(alloc: Global, layout: &'a Layout) -> Result<RowJudge<'a>, Memory>
         requires { IsValid (layout_view layout.now) }
         ensures at { IfOk result (λ j. j.feed.at ≡ standing start) }
