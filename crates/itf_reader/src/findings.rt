@@ -19,7 +19,7 @@ pub enum Code {
     Range,
     /// A text of more bytes than its form allows.
     Text,
-    /// No day of a calendar in eight digits.
+    /// Not eight digits with a month from 01 to 12 and a day from 01 to 31.
     Date,
     /// No leaf of the enumeration.
     Enum,
