@@ -14,7 +14,8 @@ DRAWING is a text with a line for each part, in the order of the model:
     H x y x y x y               a half arc, from where to where, and its third point
     P x y                       an object's point
 
-Prints PROVED, or NOTPROVED with the area, the rule and the place.
+tools/curves.py writes such a text of a model and a transfer. Prints PROVED, or NOTPROVED with the
+area, the rule and the place; its status is then 1. It needs tubes.py beside it.
 """
 import re
 import sys
@@ -493,6 +494,7 @@ def main():
     with open(sys.argv[2], "rb") as file:
         broken = verify(areas, file.read())
     print("PROVED" if broken is None else "NOTPROVED %d %d %d" % broken)
+    sys.exit(broken is not None)
 
 
 if __name__ == "__main__":
