@@ -9,7 +9,8 @@ use Rattle.plane.specs.Runs.Moves.{Fit, Move, live_from, steps_from}
 use Rattle.plane.specs.Runs.Steps.{Run}
 use Rattle.half_edges.specs.HalfEdges.{HalfEdges, next_of, size}
 use Rattle.event_mesh.specs.Turned.{IsTurned}
-use Rattle.faces.specs.Joined.{Across as IsAcross, AreKnown, AtBorder, IsBetween, Joined, highest, lowest, over_of, under_of, same as joined_same, onward, back, across, outside as joined_outside}
+use Rattle.faces.specs.Joined.{Across as IsAcross, AreKnown, AtBorder, IsBetween, Joined, highest, lowest, same as joined_same, onward, back, across, outside as joined_outside}
+use Rattle.half_edges.specs.HalfEdges.{over_of, under_of}
 use Rattle.faces.specs.Labels.{AreFaces}
 use Rattle.area_search.proofs.PlaneLaws.{across_gap, below_number, border_touches, gap_across, half_number, next_has, next_is, number_below, number_half, run_leaves_none, touches_border}
 

@@ -3,7 +3,8 @@ use Rattle.std.proofs.Common.{◌≡◌, ◌⊎◌, inl, inr, ℕ, zero, suc, �
 use Rattle.std.proofs.lemmas.Bool.{cases_lt}
 use Rattle.std.proofs.lemmas.List.{length-map}
 use Rattle.std.specs.List.{flat_map}
-use Rattle.faces.specs.Joined.{AtBorder, highest, lowest, over_of, under_of}
+use Rattle.faces.specs.Joined.{AtBorder, highest, lowest}
+use Rattle.half_edges.specs.HalfEdges.{over_of, under_of}
 use Rattle.plane.specs.CurveRuns.FacedTubes.{faced, on_one_side, tube_tag}
 use Rattle.plane.specs.CurveRuns.TubedRuns as runs
 use Rattle.plane.specs.Faces.Halves.{Half, edge_of, number, over, twin, under}

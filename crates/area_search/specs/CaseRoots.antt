@@ -3,7 +3,7 @@
 use Rattle.std.specs.Prelude.{◌≡◌, ◌↔◌, ℕ, zero, suc, ◌<◌, Bool, true, false, List, [], ◌∷◌, ◌++◌}
 use Rattle.std.specs.Prelude.{length, slice_index_or, ⊤}
 use Rattle.std.specs.List.{flat_map}
-use Rattle.faces.specs.Joined.{over_of, under_of}
+use Rattle.half_edges.specs.HalfEdges.{over_of, under_of}
 use Rattle.plane.specs.Runs.Gaps.{Gap}
 use Rattle.tubes.specs.declared.kinds.Facing.{Facing}
 use Rattle.tubes.specs.declared.kinds.Facing.TheVariants as facing

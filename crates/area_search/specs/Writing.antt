@@ -1,6 +1,6 @@
 -- What a certificate is written from: half-edges at the border, and positions.
 use Rattle.std.specs.Prelude.{ℕ, ◌^◌, ◌<◌, Option, Some, None, List, [], ◌∷◌, map, ⊤}
-use Rattle.faces.specs.Joined.{over_of, under_of}
+use Rattle.half_edges.specs.HalfEdges.{over_of, under_of}
 use Rattle.line_sweep.specs.declared.kinds.Cell.{Cell}
 use Rattle.plane.specs.Runs.Gaps.{Gap}
 use Rattle.plane.specs.Runs.Moves.{Move}

@@ -11,7 +11,7 @@ ghost use Rattle.area_search.specs.Writing.{IsSmallCell, cell_roots};
 ghost use Rattle.area_search.specs.declared.case.Spot.TheVariants as spot;
 
 use super::case::Spot;
-use super::writing::{add_border, over, under};
+use super::writing::add_border;
 use half_edges::HalfEdgeId;
 use line_sweep::Cell;
 use ports::Memory;
@@ -149,8 +149,8 @@ fn add_sides(
 {
     let (within, beside) = match facing {
         Facing::Neither => return Ok(()),
-        Facing::Below => (under(edge), over(edge)),
-        Facing::Above => (over(edge), under(edge)),
+        Facing::Below => (HalfEdgeId::under(edge), HalfEdgeId::over(edge)),
+        Facing::Above => (HalfEdgeId::over(edge), HalfEdgeId::under(edge)),
     };
     roots.push(within)?;
     if marked {
@@ -177,10 +177,10 @@ fn add_spot(roots: &mut Vec<HalfEdgeId>, spot: &Spot) -> Result<(), Memory>
 {
     if let Spot::Cell { lower, upper, .. } = spot {
         if let Some(edge) = lower {
-            roots.push(over(*edge))?;
+            roots.push(HalfEdgeId::over(*edge))?;
         }
         if let Some(edge) = upper {
-            roots.push(under(*edge))?;
+            roots.push(HalfEdgeId::under(*edge))?;
         }
     }
     Ok(())

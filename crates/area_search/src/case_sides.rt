@@ -125,8 +125,12 @@ fn face_outside(case: &Case, mesh: &Mesh, edge: u32) -> u32
         (plan case.now.drawing.now) (drawn_bays (plan case.now.drawing.now) case.now.level)
         (edge_at (plan case.now.drawing.now) case.now.level) edge))) }
 {
-    let over = case.facings[edge as usize] == Facing::Below;
-    mesh.face(HalfEdgeId(2 * edge + u32::from(over))).0
+    let outside = if case.facings[edge as usize] == Facing::Below {
+        HalfEdgeId::over(edge)
+    } else {
+        HalfEdgeId::under(edge)
+    };
+    mesh.face(outside).0
 }
 
 /// The face of each point by its spot.
@@ -175,7 +179,7 @@ fn spot_face(case: &Case, mesh: &Mesh, besides: &[Beside], spot: &Spot) -> u32
         Spot::Cell {
             lower: Some(edge),
             ..
-        } => mesh.face(HalfEdgeId(2 * edge + 1)).0,
+        } => mesh.face(HalfEdgeId::over(*edge)).0,
         _ => 0,
     }
 }

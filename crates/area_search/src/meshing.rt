@@ -17,7 +17,7 @@ use half_edges::{HalfEdgeId, Mesh};
 use line_sweep::{Event, Events, Swept};
 use ports::Memory;
 use std::alloc::Global;
-use straight_predicates::Row;
+use straight_predicates::ChunkedList;
 
 /// What a replay notes: by the edges' numbers the events at their low and at their high ends, and
 /// the edges that end, event by event, from below.
@@ -85,7 +85,7 @@ fn note_events(alloc: Global, case: &Case, events: &Events) -> Result<Noted, Mem
     let low = vec![in alloc; 0u32; edges]?;
     let high = vec![in alloc; 0u32; edges]?;
     let ended = Vec::with_capacity(alloc, edges)?;
-    let mut live = Row::new(alloc);
+    let mut live = ChunkedList::new(alloc);
     let mut ending = Vec::new(alloc);
     let mut noted = Noted { low, high, ended };
     for number in 0..events.len() {
@@ -100,7 +100,7 @@ fn note_events(alloc: Global, case: &Case, events: &Events) -> Result<Noted, Mem
 fn note_event(
     number: u32,
     event: &Event<'_>,
-    live: &mut Row<u32>,
+    live: &mut ChunkedList<u32>,
     ending: &mut Vec<u32>,
     noted: &mut Noted,
 ) -> Result<(), Memory>

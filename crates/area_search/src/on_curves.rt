@@ -5,8 +5,9 @@ ghost use Rattle.near_pairs.specs.LeastPairs.{IsLess};
 ghost use Rattle.plane.specs.Rule.Plans.{plan};
 ghost use Rattle.meetings.specs.StraightRuns.{IsClearRun};
 ghost use Rattle.area_search.specs.CurvePoints.{AreCurveBoxes, AreMarkedFrom, AreNumbers};
-ghost use Rattle.area_search.specs.CurvePoints.{ArePointBoxes, IsFirstOn, IsFirstOnCurve, IsLeastOf};
-ghost use Rattle.area_search.specs.CurvePoints.{IsLesserOn, LiesOnMarked, LiesOnStraight};
+ghost use Rattle.area_search.specs.CurvePoints.{ArePointBoxes, IsFirstOn, IsFirstOnCurve};
+ghost use Rattle.area_search.specs.CurvePoints.{IsLeastOf, IsLesserOn, LiesOnMarked};
+ghost use Rattle.area_search.specs.CurvePoints.{LiesOnStraight};
 ghost use Rattle.area_search.specs.SetAside.{AreAside};
 
 use super::aside::Aside;

@@ -26,6 +26,9 @@ pub(crate) fn half_on(curve: &Curve, number: u32, left: bool) -> HalfEdgeId
         → IsOnSide e curve.now number left h → h ≡ result }
     ensures known { result < 2 * (number + 1) }
 {
-    let over = before(curve.from, curve.to) == left;
-    HalfEdgeId(2 * number + u32::from(over))
+    if before(curve.from, curve.to) == left {
+        HalfEdgeId::over(number)
+    } else {
+        HalfEdgeId::under(number)
+    }
 }

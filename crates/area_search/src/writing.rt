@@ -1,7 +1,6 @@
 // The parts of a certificate.
-ghost use Rattle.std.specs.Prelude.{All, ◌≡◌, ◌++◌, ◌^◌, ◌<◌, IfOk, OnOk};
+ghost use Rattle.std.specs.Prelude.{All, ◌≡◌, ◌++◌, IfOk, OnOk};
 ghost use Rattle.std.specs.List.{flat_map};
-ghost use Rattle.faces.specs.Joined.{over_of, under_of};
 ghost use Rattle.line_sweep.specs.Kinds.{gap_of, gaps_of};
 ghost use Rattle.area_search.specs.Writing.{IsSmallCell, cell_roots, positions_of};
 
@@ -27,25 +26,11 @@ fn add_cell(roots: &mut Vec<HalfEdgeId>, cell: &Cell) -> Result<(), Memory>
     ensures { OnOk result (roots.new.items ≡ roots.old.items ++ cell_roots (gap_of cell.now)) }
 {
     match (cell.lower.get(), cell.upper.get()) {
-        (None, Some(edge)) => roots.push(under(edge))?,
-        (Some(edge), None) => roots.push(over(edge))?,
+        (None, Some(edge)) => roots.push(HalfEdgeId::under(edge))?,
+        (Some(edge), None) => roots.push(HalfEdgeId::over(edge))?,
         _ => {}
     }
     Ok(())
-}
-
-pub(crate) fn over(edge: u32) -> HalfEdgeId
-    requires { edge < 2 ^ 31 }
-    ensures { result ≡ over_of edge }
-{
-    HalfEdgeId(2 * edge + 1)
-}
-
-pub(crate) fn under(edge: u32) -> HalfEdgeId
-    requires { edge < 2 ^ 31 }
-    ensures { result ≡ under_of edge }
-{
-    HalfEdgeId(2 * edge)
 }
 
 /// The position of each event.

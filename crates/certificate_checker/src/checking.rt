@@ -34,7 +34,7 @@ use half_edges::HalfEdgeId;
 use plane::{Drawing, Edge, Placed};
 use ports::Memory;
 use std::alloc::Global;
-use straight_predicates::{EdgeEvents, Row, Timetable};
+use straight_predicates::{ChunkedList, EdgeEvents, Timetable};
 use tubes::{EdgeList, edge_list, facings, foreign_corner};
 
 /// Whether the certificate proves the drawing to be a partition, or else the first broken rule and
@@ -220,7 +220,7 @@ fn begin(alloc: Global, case: &Case, of: &EdgeEvents) -> Result<State, Memory>
     let placing = in_order(alloc, case.points)?;
     let marks = no_marks(alloc, case.certificate.notes.len())?;
     let mesh = mesh_of(alloc, case.table.events(), &of.low, &of.high)?;
-    let live = Row::new(alloc);
+    let live = ChunkedList::new(alloc);
     let ending = Vec::new(alloc);
     Ok(State {
         live,

@@ -13,10 +13,10 @@ ghost use Rattle.certificate_checker.specs.Verdicts.{EventBroken};
 use super::case::Case;
 use super::labels::labels_match;
 use plane::{Edge, Point};
-use straight_predicates::{Row, Turn, turn_over};
+use straight_predicates::{ChunkedList, Turn, turn_over};
 
 /// The first of the four rules of the event that is broken, by the live list before it.
-pub fn judge_event(case: &Case, event: u32, live: &Row<u32>) -> Result<(), u8>
+pub fn judge_event(case: &Case, event: u32, live: &ChunkedList<u32>) -> Result<(), u8>
     requires fit { IsFit case.now }
     requires event { event < length (judged case.now).table }
     requires passed { (j : ℕ) → j < event → PassesEvent (judged case.now) j }
@@ -54,7 +54,13 @@ pub fn position_of(case: &Case, event: u32) -> usize
     positions[event as usize] as usize
 }
 
-fn has_block(edges: &[Edge], live: &Row<u32>, at: Point, position: usize, ending: usize) -> bool
+fn has_block(
+    edges: &[Edge],
+    live: &ChunkedList<u32>,
+    at: Point,
+    position: usize,
+    ending: usize,
+) -> bool
     requires known { AreBelow (length edges.now) live.now }
     ensures { IsTrue result ↔ HasBlock (edge_of edges.now) live.now at position ending }
 {
@@ -65,7 +71,7 @@ fn has_block(edges: &[Edge], live: &Row<u32>, at: Point, position: usize, ending
 }
 
 /// Whether the edges at the places from one up to another end at the point.
-fn all_end_at(edges: &[Edge], live: &Row<u32>, from: usize, upto: usize, at: Point) -> bool
+fn all_end_at(edges: &[Edge], live: &ChunkedList<u32>, from: usize, upto: usize, at: Point) -> bool
     requires known { AreBelow (length edges.now) live.now }
     requires order { from ≤ upto }
     requires within { upto ≤ length live.now }
@@ -87,7 +93,13 @@ fn ends_at(edges: &[Edge], edge: u32, at: Point) -> bool
     edges[edge as usize].high == at
 }
 
-fn is_between(edges: &[Edge], live: &Row<u32>, at: Point, position: usize, ending: usize) -> bool
+fn is_between(
+    edges: &[Edge],
+    live: &ChunkedList<u32>,
+    at: Point,
+    position: usize,
+    ending: usize,
+) -> bool
     requires known { AreBelow (length edges.now) live.now }
     requires close { IsCloseToAll edges.now at }
     requires block { position + ending ≤ length live.now }
@@ -99,7 +111,7 @@ fn is_between(edges: &[Edge], live: &Row<u32>, at: Point, position: usize, endin
 }
 
 /// Whether the point is strictly above the edge before the place, where there is one.
-pub fn is_over(edges: &[Edge], live: &Row<u32>, place: usize, at: Point) -> bool
+pub fn is_over(edges: &[Edge], live: &ChunkedList<u32>, place: usize, at: Point) -> bool
     requires known { AreBelow (length edges.now) live.now }
     requires close { IsCloseToAll edges.now at }
     requires place { place ≤ length live.now }
@@ -110,7 +122,7 @@ pub fn is_over(edges: &[Edge], live: &Row<u32>, place: usize, at: Point) -> bool
 }
 
 /// Whether the point is strictly below the edge at the place, where there is one.
-pub fn is_under(edges: &[Edge], live: &Row<u32>, place: usize, at: Point) -> bool
+pub fn is_under(edges: &[Edge], live: &ChunkedList<u32>, place: usize, at: Point) -> bool
     requires known { AreBelow (length edges.now) live.now }
     requires close { IsCloseToAll edges.now at }
     requires place { place ≤ length live.now }

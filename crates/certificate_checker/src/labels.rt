@@ -6,13 +6,13 @@ ghost use Rattle.certificate_checker.specs.Marked.{AreNotes, HasNote};
 ghost use Rattle.certificate_checker.specs.Subjects.{labels_in};
 
 use certificate::HalfNote;
-use straight_predicates::{Row, edge_at, edge_before};
+use straight_predicates::{ChunkedList, edge_at, edge_before};
 
 /// Whether the label over each of the new neighbours is that under the next one: from the edge
 /// before the block over the starting edges to the one after it, with 0 at the border.
 pub fn labels_match(
     notes: &[HalfNote],
-    live: &Row<u32>,
+    live: &ChunkedList<u32>,
     position: usize,
     ending: usize,
     starting: &[u32],

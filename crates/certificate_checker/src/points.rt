@@ -25,7 +25,7 @@ use certificate::{HalfNote, PointPlace};
 use plane::{Edge, Placed, Point};
 use ports::Memory;
 use std::alloc::Global;
-use straight_predicates::{Row, before};
+use straight_predicates::{ChunkedList, before};
 
 fn key(spot: &Spot) -> (i64, i64)
     ensures { result ≡ (spot.now.at.x, spot.now.at.y) }
@@ -70,7 +70,7 @@ fn spots_of(alloc: Global, points: &[Placed]) -> Result<Vec<Spot>, Memory>
 pub fn place_points(
     case: &Case,
     event: u32,
-    live: &Row<u32>,
+    live: &ChunkedList<u32>,
     placing: &mut Placing,
     marks: &mut [bool],
 )
@@ -130,7 +130,7 @@ fn is_later(at: Point, upto: Option<Point>) -> bool
 fn place_point(
     case: &Case,
     event: u32,
-    live: &Row<u32>,
+    live: &ChunkedList<u32>,
     upto: Option<Point>,
     spot: Spot,
     bad: &mut u32,
@@ -190,7 +190,7 @@ fn is_side_labelled(case: &Case, inside: bool, curve: u32, label: u32) -> bool
 fn cell_of(
     case: &Case,
     event: u32,
-    live: &Row<u32>,
+    live: &ChunkedList<u32>,
     upto: Option<Point>,
     spot: Spot,
 ) -> Option<usize>
@@ -235,7 +235,7 @@ fn is_at(at: Point, upto: Option<Point>) -> bool
 }
 
 /// Whether the point is between the edges on both sides of the place, with its label at both.
-fn is_in_cell(case: &Case, live: &Row<u32>, place: usize, spot: Spot) -> bool
+fn is_in_cell(case: &Case, live: &ChunkedList<u32>, place: usize, spot: Spot) -> bool
     requires fit { IsFit case.now }
     requires known { AreBelow (length case.now.edges.now) live.now }
     requires spot { IsPointOf (judged case.now).points spot }

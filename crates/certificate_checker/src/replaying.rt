@@ -17,7 +17,7 @@ use super::state::{Broken, State, Stop};
 use event_mesh::turn_event;
 use half_edges::{HalfEdgeId, Mesh};
 use ports::Memory;
-use straight_predicates::{Row, edge_at, edge_before};
+use straight_predicates::{ChunkedList, edge_at, edge_before};
 
 /// Goes over all events, and names the first one that breaks a rule.
 pub fn replay(case: &Case, state: &mut State) -> Result<(), Stop>
@@ -109,7 +109,13 @@ fn go_on(case: &Case, event: u32, state: &mut State) -> Result<(), Memory>
     Ok(())
 }
 
-fn mark_event(case: &Case, event: u32, live: &Row<u32>, border: &mut [bool], across: &mut [bool])
+fn mark_event(
+    case: &Case,
+    event: u32,
+    live: &ChunkedList<u32>,
+    border: &mut [bool],
+    across: &mut [bool],
+)
     requires fit { IsFit case.now }
     requires event { event < length (judged case.now).table }
     requires passed { (j : ℕ) → j < event → PassesEvent (judged case.now) j }
@@ -137,7 +143,7 @@ fn mark_event(case: &Case, event: u32, live: &Row<u32>, border: &mut [bool], acr
 fn move_event(
     case: &Case,
     event: u32,
-    live: &mut Row<u32>,
+    live: &mut ChunkedList<u32>,
     block: &mut Vec<u32>,
     mesh: &mut Mesh,
     fan: &mut [HalfEdgeId],

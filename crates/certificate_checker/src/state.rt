@@ -6,7 +6,7 @@ ghost use Rattle.certificate_checker.specs.declared.state.Stop.TheVariants.{Memo
 use half_edges::{HalfEdgeId, Mesh};
 use plane::Point;
 use ports::Memory;
-use straight_predicates::Row;
+use straight_predicates::ChunkedList;
 
 /// The rule that is broken, and its place.
 #[derive(Clone, Copy)]
@@ -67,7 +67,7 @@ pub struct Marks {
 /// the marks and the points.
 #[derive(Drop)]
 pub struct State {
-    pub live: Row<u32>,
+    pub live: ChunkedList<u32>,
     pub ending: Vec<u32>,
     pub mesh: Mesh,
     pub fan: Vec<HalfEdgeId>,

@@ -32,7 +32,7 @@ fn write_over(fan: &mut [HalfEdgeId], starting: &[u32])
     ensures { IsOver starting.now fan.new (length starting.now) }
 {
     for (i, e) in starting.iter().enumerate() {
-        fan[i] = HalfEdgeId(2 * *e + 1);
+        fan[i] = HalfEdgeId::over(*e);
     }
 }
 
@@ -46,6 +46,6 @@ fn write_under(fan: &mut [HalfEdgeId], ending: &[u32])
 {
     let size = fan.len();
     for (j, e) in ending.iter().enumerate() {
-        fan[size - 1 - j] = HalfEdgeId(2 * *e);
+        fan[size - 1 - j] = HalfEdgeId::under(*e);
     }
 }

@@ -7,7 +7,8 @@ use Rattle.line_sweep.specs.declared.kinds.Cell.{Cell}
 use Rattle.line_sweep.specs.Kinds.{gap_of, gaps_of}
 use Rattle.line_sweep.proofs.CellGaps.{has_gap, no_cell}
 use Rattle.faces.specs.declared.searching.Search.{Search}
-use Rattle.faces.specs.Joined.{AreKnown, AtBorder, Joined, highest, lowest, outside, over_of, same, under_of}
+use Rattle.faces.specs.Joined.{AreKnown, AtBorder, Joined, highest, lowest, outside, same}
+use Rattle.half_edges.specs.HalfEdges.{over_of, under_of}
 use Rattle.faces.specs.Searching.{HasSearched, IsKept, IsReached, IsSet, IsWaiting, unset}
 use Rattle.faces.proofs.PairCounts.{by_lt}
 use Rattle.faces.proofs.PairRows.{place_of}

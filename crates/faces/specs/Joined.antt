@@ -2,14 +2,7 @@
 use Rattle.std.specs.Prelude.{◌≡◌, ◌⊎◌, ℕ, ◌+◌, ◌*◌, ◌<◌, Option, Some, None, List}
 use Rattle.plane.specs.Lists.{Has}
 use Rattle.plane.specs.Runs.Gaps.{Gap}
-use Rattle.half_edges.specs.HalfEdges.{HalfEdges, size, next_of}
-
--- The half-edges of an edge: the one on its under side, and the one on its upper side.
-abbrev pub under_of : ℕ → ℕ
-under_of e = 2 * e
-
-abbrev pub over_of : ℕ → ℕ
-over_of e = 2 * e + 1
+use Rattle.half_edges.specs.HalfEdges.{HalfEdges, size, next_of, over_of, under_of}
 
 -- Some cell lies between these two edges, None below all and above all.
 abbrev pub HasCell : List Gap → Option ℕ → Option ℕ → Type 0

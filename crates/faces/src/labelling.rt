@@ -11,7 +11,6 @@ ghost use Rattle.faces.specs.Searching.{HasSearched, IsGraph, IsKept, IsNumbered
 use super::graph::{Graph, halves_of};
 use super::labelled::Labelled;
 use super::searching::{Search, UNSET};
-use super::sides::{over, under};
 use super::spreading::spread;
 use half_edges::{FaceId, HalfEdgeId, Mesh};
 use line_sweep::Cell;
@@ -95,8 +94,8 @@ fn reach_side(graph: &Graph, search: &mut Search, cell: &Cell)
         → slice_index search.new.faces.items h ≡ 0 }
 {
     match (cell.lower.get(), cell.upper.get()) {
-        (None, Some(edge)) => search.reach(under(edge), FaceId(0)),
-        (Some(edge), None) => search.reach(over(edge), FaceId(0)),
+        (None, Some(edge)) => search.reach(HalfEdgeId::under(edge), FaceId(0)),
+        (Some(edge), None) => search.reach(HalfEdgeId::over(edge), FaceId(0)),
         _ => {}
     }
 }

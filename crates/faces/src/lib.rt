@@ -32,7 +32,6 @@ mod linking;
 mod partners;
 mod ranks;
 mod searching;
-mod sides;
 mod spreading;
 
 pub use labelled::Labelled;

@@ -9,7 +9,6 @@ ghost use Rattle.faces.specs.Rows.{ArePartners};
 ghost use Rattle.faces.specs.Searching.{HasSearched, IsKept, IsReached, IsWaiting, unset};
 
 use super::partners::Partners;
-use super::sides::{over, under};
 use half_edges::{FaceId, HalfEdgeId, Mesh};
 use line_sweep::Cell;
 use ports::Memory;

@@ -31,6 +31,14 @@ origin_of m h = slice_index m.origin h
 abbrev pub face_of : HalfEdges → ℕ → ℕ
 face_of m h = slice_index m.face h
 
+-- the half-edge under an edge, from its high vertex to its low one; and that over it, from low to
+-- high
+abbrev pub under_of : ℕ → ℕ
+under_of e = 2 * e
+
+abbrev pub over_of : ℕ → ℕ
+over_of e = 2 * e + 1
+
 -- the other half of the same edge: h + 1 where h is even, h - 1 where it is odd
 abbrev pub twin_of : ℕ → ℕ
 twin_of h = h + 1 - 2 * (h % 2)

@@ -1,6 +1,6 @@
 // The numbers of vertices, half-edges and faces, which contracts see as plain numbers.
-ghost use Rattle.std.specs.Prelude.{◌≡◌};
-ghost use Rattle.half_edges.specs.HalfEdges.{twin_of};
+ghost use Rattle.std.specs.Prelude.{◌≡◌, ◌^◌, ◌<◌};
+ghost use Rattle.half_edges.specs.HalfEdges.{over_of, twin_of, under_of};
 
 use std::marker::Model;
 
@@ -33,6 +33,22 @@ impl Model for HalfEdgeId {
 }
 
 impl HalfEdgeId {
+    /// The half-edge of an edge that runs from high to low, with the side below on its left.
+    pub fn under(edge: u32) -> HalfEdgeId
+        requires { edge < 2 ^ 31 }
+        ensures { result ≡ under_of edge }
+    {
+        HalfEdgeId(2 * edge)
+    }
+
+    /// The half-edge of an edge that runs from low to high, with the side above on its left.
+    pub fn over(edge: u32) -> HalfEdgeId
+        requires { edge < 2 ^ 31 }
+        ensures { result ≡ over_of edge }
+    {
+        HalfEdgeId(2 * edge + 1)
+    }
+
     // The other half of the same edge.
     pub(super) fn twin(self) -> HalfEdgeId
         ensures { result ≡ twin_of self }

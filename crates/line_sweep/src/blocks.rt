@@ -4,7 +4,7 @@ ghost use Rattle.straight_predicates.specs.EdgeLists.{edge_of, AreBelow, IsClose
 ghost use Rattle.line_sweep.specs.Blocks.{AreEnding, IsBlock, IsThrough};
 
 use plane::{Edge, Point};
-use straight_predicates::{Row, Turn, cut, turn_over};
+use straight_predicates::{ChunkedList, Turn, cut, turn_over};
 
 /// The places of the live list from `from` on, `count` of them.
 #[derive(Clone, Copy)]
@@ -15,7 +15,7 @@ pub struct Block {
 
 /// The block of the edges that end at the event, or a live edge that goes through the event and
 /// does not end there. It takes a search and one turn more.
-pub fn find_block(live: &Row<u32>, edges: &[Edge], at: Point) -> Result<Block, u32>
+pub fn find_block(live: &ChunkedList<u32>, edges: &[Edge], at: Point) -> Result<Block, u32>
     requires known { AreBelow (length edges.now) live.now }
     requires close { IsCloseToAll edges.now at }
     ensures block { IfOk result (λ b. IsBlock (edge_of edges.now) live.now at b.from b.count) }
@@ -33,7 +33,7 @@ pub fn find_block(live: &Row<u32>, edges: &[Edge], at: Point) -> Result<Block, u
 }
 
 /// The place after the edges from `from` on that end at the event.
-pub fn block_end(live: &Row<u32>, edges: &[Edge], at: Point, from: usize) -> usize
+pub fn block_end(live: &ChunkedList<u32>, edges: &[Edge], at: Point, from: usize) -> usize
     requires known { AreBelow (length edges.now) live.now }
     requires place { from ≤ length live.now }
     ensures least { from ≤ result }

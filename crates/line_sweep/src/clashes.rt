@@ -11,7 +11,7 @@ use super::sweeping::edge_of_event;
 use plane::{Edge, Point};
 use ports::Memory;
 use std::alloc::Global;
-use straight_predicates::{Meet, Row, Timetable, Turn, cut, meet, turn_over};
+use straight_predicates::{ChunkedList, Meet, Timetable, Turn, cut, meet, turn_over};
 
 /// The groups of edges by the numbers of the edges, which groups are firm, a mark for each, and the
 /// event at which its first edge starts, as far as the sweep has come.
@@ -133,7 +133,7 @@ pub fn clashing(
         marks: vec![in alloc; false; firm.len()]?,
         since: vec![in alloc; u32::MAX; firm.len()]?,
     };
-    let mut live = Row::new(alloc);
+    let mut live = ChunkedList::new(alloc);
     let mut room = Vec::new(alloc);
     let mut all = Vec::new(alloc);
     for event in 0..table.events() {
@@ -153,7 +153,7 @@ fn pass(
     edges: &[Edge],
     table: &Timetable,
     event: u32,
-    live: &mut Row<u32>,
+    live: &mut ChunkedList<u32>,
     marks: &mut Marks<'_>,
     room: &mut Vec<u32>,
 ) -> Result<bool, Memory>
@@ -207,7 +207,7 @@ fn unmarked(edges: &[u32], marks: &Marks<'_>, room: &mut Vec<u32>) -> Result<(),
 /// many others. Whether there are some.
 fn mark_neighbours(
     edges: &[Edge],
-    live: &Row<u32>,
+    live: &ChunkedList<u32>,
     from: usize,
     count: usize,
     marks: &mut Marks<'_>,
@@ -228,7 +228,7 @@ fn mark_neighbours(
 }
 
 /// The edge at the place and the next one, if they are bad.
-fn bad_neighbours(edges: &[Edge], live: &Row<u32>, below: usize) -> Option<(u32, u32)>
+fn bad_neighbours(edges: &[Edge], live: &ChunkedList<u32>, below: usize) -> Option<(u32, u32)>
     requires sorted { AreSorted edges.now }
     requires close { AreAllClose edges.now }
     requires known { AreBelow (length edges.now) live.now }
@@ -249,7 +249,7 @@ fn bad_neighbours(edges: &[Edge], live: &Row<u32>, below: usize) -> Option<(u32,
 /// Takes the edges of marked groups out of the live list.
 fn drop_marked(
     edges: &[Edge],
-    live: &mut Row<u32>,
+    live: &mut ChunkedList<u32>,
     marks: &Marks<'_>,
     all: &mut Vec<u32>,
     room: &mut Vec<u32>,

@@ -2,15 +2,15 @@
 use super::events::EndingBlock;
 use super::kinds::Cell;
 use slab::Slab;
-use straight_predicates::Row;
+use straight_predicates::ChunkedList;
 
 /// The live list, the open cells between its edges with their keys from below, and the answer so
 /// far: the blocks of the events that are done, and the closed cells. Of an empty live list one
 /// cell without edges is open.
 #[derive(Drop)]
 pub struct State {
-    pub live: Row<u32>,
-    pub keys: Row<usize>,
+    pub live: ChunkedList<u32>,
+    pub keys: ChunkedList<usize>,
     pub open: Slab<Cell>,
     pub blocks: Vec<EndingBlock>,
     pub cells: Vec<Cell>,

@@ -25,7 +25,7 @@ use plane::{Edge, Point};
 use ports::Memory;
 use slab::Slab;
 use std::alloc::Global;
-use straight_predicates::{Row, Timetable, edge_at, edge_before};
+use straight_predicates::{ChunkedList, Timetable, edge_at, edge_before};
 
 /// The events of the edges and their neighbours, or two edges that are bad. The only other refusal
 /// is out of memory. Costs stand at the head of the crate.
@@ -62,7 +62,7 @@ fn begin(alloc: Global, edges: usize, events: usize) -> Result<State, Memory>
     ensures blocks { IfOk result (λ s. s.blocks.items ≡ []) }
     ensures cells { IfOk result (λ s. s.cells.items ≡ []) }
 {
-    let mut keys = Row::new(alloc);
+    let mut keys = ChunkedList::new(alloc);
     let mut open = Slab::new(alloc);
     let first = open.insert(Cell {
         lower: CellEdge::new(None),
@@ -71,7 +71,7 @@ fn begin(alloc: Global, edges: usize, events: usize) -> Result<State, Memory>
     })?;
     keys.replace(0, 0, &[first])?;
     Ok(State {
-        live: Row::new(alloc),
+        live: ChunkedList::new(alloc),
         keys,
         open,
         blocks: Vec::with_capacity(alloc, events)?,
@@ -232,7 +232,7 @@ fn open_at(
 /// Closes the cells at the block, and puts the opened ones in their place.
 fn move_cells(
     slab: &mut Slab<Cell>,
-    keys: &mut Row<usize>,
+    keys: &mut ChunkedList<usize>,
     closing: &mut Vec<usize>,
     fresh: &mut Vec<usize>,
     closed: &mut Vec<Cell>,

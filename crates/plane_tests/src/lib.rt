@@ -13,6 +13,8 @@ mod broken_levels;
 #[cfg(test)]
 mod certificates;
 #[cfg(test)]
+mod chunked_lists;
+#[cfg(test)]
 mod circles;
 #[cfg(test)]
 mod drawings;
@@ -26,8 +28,6 @@ mod event_squares;
 mod foreign_corners;
 #[cfg(test)]
 mod half_arc_tubes;
-#[cfg(test)]
-mod long_rows;
 #[cfg(test)]
 mod meetings_of_edges;
 #[cfg(test)]

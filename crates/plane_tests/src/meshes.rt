@@ -41,7 +41,7 @@ fn callers_know_what_comes_next(rt: HostRuntime) {
     assert!(rt; bend(rt.alloc()).is_ok());
 }
 
-// One edge, whose half-edge 0 begins at its high end.
+// One edge, from vertex 0 to vertex 1.
 fn one_edge(alloc: Global) -> Result<Mesh, Memory>
     ensures { IfOk result (λ mesh. mesh ≡ with_edge (without_edges 2) 0 1) }
 {
@@ -50,15 +50,22 @@ fn one_edge(alloc: Global) -> Result<Mesh, Memory>
     Ok(mesh)
 }
 
-// Where the half-edge 0 begins, and whether both half-edges may have one face, or one each.
-fn ends_and_faces(alloc: Global) -> Result<(VertexId, bool, bool), Memory> {
+// Where the half-edges under and over it begin, and whether both may have one face, or one each.
+fn ends_and_faces(alloc: Global) -> Result<(VertexId, VertexId, bool, bool), Memory> {
     let mesh = one_edge(alloc)?;
     let one = mesh.faces_agree(&[FaceId(3), FaceId(3)]);
     let two = mesh.faces_agree(&[FaceId(3), FaceId(4)]);
-    Ok((mesh.origin(HalfEdgeId(0)), one, two))
+    let under = mesh.origin(HalfEdgeId::under(0));
+    let over = mesh.origin(HalfEdgeId::over(0));
+    Ok((under, over, one, two))
 }
 
 #[test]
 fn an_edge_alone_has_one_face(rt: HostRuntime) {
-    assert!(rt; matches!(ends_and_faces(rt.alloc()), Ok((VertexId(1), true, false))));
+    assert!(rt;
+        matches!(
+            ends_and_faces(rt.alloc()),
+            Ok((VertexId(1), VertexId(0), true, false))
+        )
+    );
 }

@@ -5,11 +5,11 @@ ghost use Rattle.point_location.specs.Between.{IsBetween};
 
 use super::places::Place;
 use plane::{Edge, Point};
-use straight_predicates::{Row, Turn, cut, edge_at, edge_before, turn_over};
+use straight_predicates::{ChunkedList, Turn, cut, edge_at, edge_before, turn_over};
 
 /// The edge of the list whose line goes through the point, or the place of the point between the
 /// edges. It takes no memory, and a search.
-pub fn place_between(edges: &[Edge], live: &Row<u32>, at: Point) -> Place
+pub fn place_between(edges: &[Edge], live: &ChunkedList<u32>, at: Point) -> Place
     requires few { length live.now < 2 ^ 32 }
     requires known { AreBelow (length edges.now) live.now }
     requires close { IsCloseToAll edges.now at }

@@ -13,7 +13,7 @@ use line_sweep::Swept;
 use plane::{Edge, Point};
 use ports::Memory;
 use std::alloc::Global;
-use straight_predicates::Row;
+use straight_predicates::ChunkedList;
 
 /// The place of each point in the run that the events of a sweep over these edges make. The only
 /// error is out of memory. Costs stand at the head of the crate.
@@ -34,7 +34,7 @@ pub fn locate(
 {
     let order = in_order(alloc, points)?;
     let mut places = vec![in alloc; Place::OnEdge(0); points.len()]?;
-    let mut live = Row::new(alloc);
+    let mut live = ChunkedList::new(alloc);
     let mut applied = 0;
     for point in &order {
         applied = apply_before(edges, &swept.events, applied, &mut live, point.at)?;

@@ -13,10 +13,16 @@ use super::between::place_between;
 use super::places::Place;
 use line_sweep::{Event, Events};
 use plane::{Edge, Point};
-use straight_predicates::Row;
+use straight_predicates::ChunkedList;
 
 /// The place of a point in the live list after exactly the events before it.
-pub fn place_at(edges: &[Edge], events: &Events, applied: u32, live: &Row<u32>, at: Point) -> Place
+pub fn place_at(
+    edges: &[Edge],
+    events: &Events,
+    applied: u32,
+    live: &ChunkedList<u32>,
+    at: Point,
+) -> Place
     requires few { length edges.now < 2 ^ 31 }
     requires run { Run (length edges.now) (edge_of edges.now) (steps_from []
         events.now) }
@@ -32,7 +38,7 @@ pub fn place_at(edges: &[Edge], events: &Events, applied: u32, live: &Row<u32>, 
 }
 
 /// The least number of an edge that ends or starts at the event, of which there are some.
-fn edge_of_event(event: &Event<'_>, live: &Row<u32>) -> u32
+fn edge_of_event(event: &Event<'_>, live: &ChunkedList<u32>) -> u32
     requires block { event.now.position + event.now.ending ≤ length live.now }
     requires some { (e : ℕ) × (e < 2 ^ 32 - 1) × EndsOrStarts (step_of live.now
         (move_of event.now)) e }
@@ -46,7 +52,7 @@ fn edge_of_event(event: &Event<'_>, live: &Row<u32>) -> u32
 
 /// The least of the numbers at the places from one up to another, and the greatest of all where
 /// there is none.
-fn least_between(live: &Row<u32>, from: usize, upto: usize) -> u32
+fn least_between(live: &ChunkedList<u32>, from: usize, upto: usize) -> u32
     requires least { from ≤ upto }
     requires within { upto ≤ length live.now }
     ensures is { (result ≡ 2 ^ 32 - 1) ⊎ Has result (take (upto - from) (drop from live.now)) }

@@ -11,7 +11,7 @@ ghost use Rattle.point_location.specs.Replaying.{IsApplied};
 use line_sweep::{Event, Events};
 use plane::{Edge, Point};
 use ports::Memory;
-use straight_predicates::{Row, before};
+use straight_predicates::{ChunkedList, before};
 
 /// Applies the events that come before the point, of which `applied` are applied already, and
 /// answers how many are applied then.
@@ -19,7 +19,7 @@ pub fn apply_before(
     edges: &[Edge],
     events: &Events,
     applied: u32,
-    live: &mut Row<u32>,
+    live: &mut ChunkedList<u32>,
     at: Point,
 ) -> Result<u32, Memory>
     requires run { Run (length edges.now) (edge_of edges.now) (steps_from []
@@ -42,7 +42,7 @@ pub fn apply_before(
 }
 
 /// Puts the edges that start at the event in the place of those that end there.
-fn apply(event: &Event<'_>, live: &mut Row<u32>) -> Result<(), Memory>
+fn apply(event: &Event<'_>, live: &mut ChunkedList<u32>) -> Result<(), Memory>
     requires { event.now.position + event.now.ending ≤ length live.old }
     ensures { OnOk result (live.new ≡ after (step_of live.old (move_of event.now))) }
 {

@@ -15,10 +15,10 @@ pub mod Rightward
 pub mod Filling
 pub mod Groups
 pub mod FillSteps
-pub mod RowParts
+pub mod ChunkParts
 pub mod Ends
 pub mod NotedEvents
 pub mod Joined
-pub mod RowSteps
-pub mod BlockSearch
+pub mod ChunkSteps
+pub mod ChunkSearch
 pub mod NextEdges

@@ -3,7 +3,7 @@ pub mod Meetings
 pub mod EdgeLists
 pub mod Slopes
 pub mod Tables
-pub mod Rows
+pub mod Chunks
 pub mod Slots
 pub mod Rightward
 pub mod EdgeEvents

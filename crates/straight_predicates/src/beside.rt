@@ -2,10 +2,10 @@
 ghost use Rattle.std.specs.Prelude.{◌≡◌, ◌≤◌, length};
 ghost use Rattle.plane.specs.Runs.Gaps.{edge_at, edge_before};
 
-use super::live_row::Row;
+use super::chunked_list::ChunkedList;
 
 /// The edge before a place of the list, and None before all.
-pub fn edge_before(live: &Row<u32>, place: usize) -> Option<u32>
+pub fn edge_before(live: &ChunkedList<u32>, place: usize) -> Option<u32>
     requires { place ≤ length live.now }
     ensures { result ≡ edge_before live.now place }
 {
@@ -17,7 +17,7 @@ pub fn edge_before(live: &Row<u32>, place: usize) -> Option<u32>
 }
 
 /// The edge at a place of the list, and None after all.
-pub fn edge_at(live: &Row<u32>, place: usize) -> Option<u32>
+pub fn edge_at(live: &ChunkedList<u32>, place: usize) -> Option<u32>
     ensures { result ≡ edge_at live.now place }
 {
     if place < live.len() {

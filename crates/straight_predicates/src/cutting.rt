@@ -3,12 +3,12 @@ ghost use Rattle.std.specs.Prelude.{◌≡◌, ◌+◌, ◌<◌, ◌≤◌, ◌�
 ghost use Rattle.std.specs.Prelude.{length, slice_index_or};
 ghost use Rattle.plane.specs.Runs.Positions.{turn_at};
 ghost use Rattle.straight_predicates.specs.EdgeLists.{edge_of, AreBelow, IsCloseToAll};
-ghost use Rattle.straight_predicates.specs.Rows.{first_of, joined};
+ghost use Rattle.straight_predicates.specs.Chunks.{first_of, joined};
 ghost use Rattle.straight_predicates.specs.Signs.{HasSign};
 
-use super::live_row::Row;
-use super::row_block::Block;
-use super::row_blocks::start;
+use super::chunk::Chunk;
+use super::chunked_list::ChunkedList;
+use super::chunks::start;
 use super::turning::turn;
 use super::turns::Turn;
 use plane::{Edge, Point};
@@ -26,8 +26,8 @@ pub fn turn_over(edges: &[Edge], edge: u32, at: Point) -> Turn
 /// A place in a list of edges such that the point is strictly above the edge before it, and not
 /// above the edge after it. Where the list is in order at the point, all edges before the place
 /// are strictly below the point and no other is. It takes no memory, and a turn for each halving
-/// of the list, of whose blocks it then counts those before the place.
-pub fn cut(live: &Row<u32>, edges: &[Edge], at: Point) -> usize
+/// of the list, of whose chunks it then counts those before the place.
+pub fn cut(live: &ChunkedList<u32>, edges: &[Edge], at: Point) -> usize
     requires known { AreBelow (length edges.now) live.now }
     requires close { IsCloseToAll edges.now at }
     ensures within { result ≤ length live.now }
@@ -36,33 +36,33 @@ pub fn cut(live: &Row<u32>, edges: &[Edge], at: Point) -> usize
     ensures above { result < length live.now
         → turn_at (edge_of edges.now) (slice_index_or live.now result 0) at ≤ℤ pos 0 }
 {
-    let blocks = live.blocks();
-    if blocks.is_empty() {
+    let chunks = live.chunks();
+    if chunks.is_empty() {
         return 0;
     }
-    let block = last_below(blocks, edges, at);
-    start(blocks, block) + cut_block(blocks[block].values(), edges, at)
+    let chunk = last_below(chunks, edges, at);
+    start(chunks, chunk) + cut_chunk(chunks[chunk].values(), edges, at)
 }
 
-/// The last block whose first edge is strictly below the point, as far as the blocks are in order;
-/// else the first block.
-fn last_below(blocks: &[Block<u32>], edges: &[Edge], at: Point) -> usize
-    requires some { 0 < length blocks.now }
-    requires known { AreBelow (length edges.now) (joined blocks.now) }
+/// The last chunk whose first edge is strictly below the point, as far as the chunks are in order;
+/// else the first chunk.
+fn last_below(chunks: &[Chunk<u32>], edges: &[Edge], at: Point) -> usize
+    requires some { 0 < length chunks.now }
+    requires known { AreBelow (length edges.now) (joined chunks.now) }
     requires close { IsCloseToAll edges.now at }
-    ensures known { result < length blocks.now }
+    ensures known { result < length chunks.now }
     ensures below { (b : ℕ) → result ≡ suc b
-        → pos 0 <ℤ turn_at (edge_of edges.now) (first_of blocks.now result) at }
-    ensures next { result + 1 < length blocks.now
-        → 0 < length (slice_index_or blocks.now (result + 1) []) }
-    ensures above { result + 1 < length blocks.now
-        → turn_at (edge_of edges.now) (first_of blocks.now (result + 1)) at ≤ℤ pos 0 }
+        → pos 0 <ℤ turn_at (edge_of edges.now) (first_of chunks.now result) at }
+    ensures next { result + 1 < length chunks.now
+        → 0 < length (slice_index_or chunks.now (result + 1) []) }
+    ensures above { result + 1 < length chunks.now
+        → turn_at (edge_of edges.now) (first_of chunks.now (result + 1)) at ≤ℤ pos 0 }
 {
     let mut low = 0;
-    let mut high = blocks.len() - 1;
+    let mut high = chunks.len() - 1;
     while low < high {
         let middle = high - (high - low) / 2;
-        let first = blocks[middle].values()[0];
+        let first = chunks[middle].values()[0];
         if is_below(edges, first, at) {
             low = middle;
         } else {
@@ -72,8 +72,8 @@ fn last_below(blocks: &[Block<u32>], edges: &[Edge], at: Point) -> usize
     low
 }
 
-/// The same place in one block.
-fn cut_block(live: &[u32], edges: &[Edge], at: Point) -> usize
+/// The same place in one chunk.
+fn cut_chunk(live: &[u32], edges: &[Edge], at: Point) -> usize
     requires known { AreBelow (length edges.now) live.now }
     requires close { IsCloseToAll edges.now at }
     ensures within { result ≤ length live.now }

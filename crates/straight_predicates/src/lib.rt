@@ -16,8 +16,8 @@
 //!   there, by number, and those that start there, by slope and then by number; it also gives the
 //!   events of each edge's ends (`edge_events`), for a mesh of them. `cut` finds the place of a
 //!   point in a list of edges; it promises the two edges beside the place and asks for no order of
-//!   the list. `Row` is a list that is changed in place, in blocks of at most 8,192 values. A sweep
-//!   and a replay both work with these three; neither is here.
+//!   the list. `ChunkedList` is a list that is changed in place, in chunks of at most 8,192 values.
+//!   A sweep and a replay both work with these three; neither is here.
 //! - **Slopes.** `slope` compares directions to the right or straight up. Those have one strict
 //!   order, which a sort needs; directions of all ways round have none.
 //! - **Not here:** no half arcs, and no coordinates of a crossing.
@@ -27,26 +27,26 @@
 //! 48 bytes an edge while it sorts; its readers are one load, but `edge_events`, which is linear
 //! and takes 8 bytes an edge, and `widest`, which is linear in the events.
 //!
-//! A `Row` to which m values were put in in all has at most m / 2,048 + 1 blocks, since a block is
-//! only cut where it is full; on maps it is one. `get` counts the blocks before a place, one load
-//! each. `cut` takes a turn for each halving of the list, and counts as `get` does. `replace`
-//! counts, and moves the values of one block, 8,192 at most, beside those that come and go; it
-//! takes memory where a block grows or is cut. `copy_part` takes what it copies.
+//! A `ChunkedList` to which m values were put in in all has at most m / 2,048 + 1 chunks, since a
+//! chunk is only cut where it is full; on maps it is one. `get` counts the chunks before a place,
+//! one load each. `cut` takes a turn for each halving of the list, and counts as `get` does.
+//! `replace` counts, and moves the values of one chunk, 8,192 at most, beside those that come and
+//! go; it takes memory where a chunk grows or is cut. `copy_part` takes what it copies.
 #![tactic(auto)]
 
 mod beside;
 mod between;
+mod chunk;
+mod chunked_list;
+mod chunks;
 mod cutting;
 mod directions;
 mod edge_events;
 mod events;
-mod live_row;
 mod meeting;
 mod meets;
 mod order;
 mod rays;
-mod row_block;
-mod row_blocks;
 mod slopes;
 mod slots;
 mod timetable;
@@ -55,10 +55,10 @@ mod turns;
 
 pub use beside::{edge_at, edge_before};
 pub use between::edge_between;
+pub use chunked_list::ChunkedList;
 pub use cutting::{cut, turn_over};
 pub use directions::Direction;
 pub use edge_events::EdgeEvents;
-pub use live_row::Row;
 pub use meeting::meet;
 pub use meets::Meet;
 pub use order::before;

@@ -1,8 +1,0 @@
-use Rattle.std.proofs.Common.{◌≡◌, ◌++◌, take, vec_capacity}
-use Rattle.straight_predicates.proofs.row_block.insert_values.Given as goal
-
-abbrev pub invariant-loop-value : goal.invariant-loop-value
-invariant-loop-value g l = record {
-  items : l.values.items ≡ l.fn.values.items ++ take l.value-index l.more;
-  capacity : vec_capacity l.values ≡ vec_capacity l.fn.values;
-}
