@@ -11,9 +11,8 @@ ghost use Rattle.tubes.specs.TubedEdges.{AreUsable, IsTubedList};
 ghost use Rattle.area_search.specs.SetAside.{IsSettling};
 
 use super::case::Case;
-use super::cell_sides::unpaired_curve;
+use super::cell_sides::mark_unpaired;
 use super::finishing::spots_of_run;
-use super::numbers::mark;
 use super::points::OnCurve;
 use super::settled_runs::settled_facings;
 use super::spots::first_spot_on;
@@ -61,7 +60,7 @@ fn settle_list(
     ensures { IfOk result (IsSettling (plan drawing.now)) }
 {
     match sweep(alloc, &list.edges) {
-        Ok(swept) => settle_run(alloc, drawing, list, &swept),
+        Ok(swept) => settle_run(alloc, drawing, list, &swept, firm),
         Err(SweepRefusal::Bad { first, second }) => {
             near_edges(alloc, drawing, &list, firm, BadEdges { first, second })
         }
@@ -101,6 +100,7 @@ fn settle_run(
     drawing: &Drawing,
     list: EdgeList,
     swept: &Swept,
+    firm: &[bool],
 ) -> Result<Settling, Memory>
     requires few { length list.edges.items < 2 ^ 31 }
     requires list { IsTubedList (plan drawing.now) 5 list }
@@ -114,7 +114,7 @@ fn settle_run(
 {
     level_breaks::laws::settled_is_unbroken();
     let Some(facings) = settled_facings(alloc, drawing, 5, &list, swept)? else {
-        return near_cell(alloc, drawing, &list, swept);
+        return near_cells(alloc, drawing, &list, swept, firm);
     };
     let EdgeList { edges, owners } = list;
     let case = Case {
@@ -127,22 +127,24 @@ fn settle_run(
     Ok(Settling::Settled(first_spot_on(&spots)))
 }
 
-/// A curve whose tube only one side of a cell faces, if there is one.
-fn near_cell(
+/// The curves beside cells of which one side faces a tube that the other side does not, if there are
+/// some.
+fn near_cells(
     alloc: Global,
     drawing: &Drawing,
     list: &EdgeList,
     swept: &Swept,
+    firm: &[bool],
 ) -> Result<Settling, Memory>
     requires list { IsTubedList (plan drawing.now) 5 list.now }
     ensures { IfOk result (IsSettling (plan drawing.now)) }
 {
     tubes::laws::chains_have_edges();
     let facings = facings(alloc, drawing, list)?;
-    let Some(curve) = unpaired_curve(&swept.cells, &facings, &list.owners) else {
-        return Ok(Settling::Unsettled);
-    };
     let mut near = vec![in alloc; false; drawing.curves.len()]?;
-    mark(&mut near, &[curve], 0);
-    Ok(Settling::Near(near))
+    if mark_unpaired(&mut near, &swept.cells, &facings, &list.owners, firm) {
+        Ok(Settling::Near(near))
+    } else {
+        Ok(Settling::Unsettled)
+    }
 }

@@ -1,5 +1,6 @@
 -- Live lists of numbers that are below a bound.
-use Rattle.std.proofs.Common.{◌≡◌, ◌⊎◌, ◌∙◌, ℕ, zero, suc, ◌+◌, ◌<◌, List, [], ◌∷◌, ◌++◌, length, take, drop, get_or, inl, inr, arith, sym, subst}
+use Rattle.std.proofs.Common.{◌≡◌, ◌⊎◌, ℕ, zero, suc, ◌+◌, ◌<◌, ◌≤◌, List, [], ◌∷◌, ◌++◌, length, take, drop, get_or, inl, inr, arith, ap, sym, subst}
+use Rattle.std.proofs.lemmas.List.{length-append, length-take-le}
 use Rattle.plane.specs.Lists.{Has}
 use Rattle.straight_predicates.specs.EdgeLists.{AreBelow}
 use Rattle.line_sweep.proofs.PlaneLaws.{has_append, has_at}
@@ -41,7 +42,12 @@ one_more xs old new k d l q f e h = by (has_append e old (get_or xs k d ∷ []) 
     by (inr (inl b)) = subst (λ (n : ℕ). Has n xs) (sym b) (has_at xs k d l)
     by (inr (inr b)) = absurd b
 
-pub all_of : (m : ℕ) (old all room new : List ℕ) (n : ℕ) (lent lent_room : List ℕ) → all ≡ take n (drop 0 old) → lent ≡ all → lent_room ≡ room → new ≡ take 0 old ++ (lent_room ++ drop (0 + n) old) → AreBelow m old
-    → ((e : ℕ) → Has e room → Has e lent) → AreBelow m new
-all_of m old all room new n lent lent_room a l r q b f =
-    replaced m old new lent_room 0 (0 + n) q b (λ e h. all_below m old b e (has_drop e 0 old (has_take e n (drop 0 old) (subst (Has e) (l ∙ a) (f e (subst (Has e) r h))))))
+-- what is put in at a place ends within the list
+pub put_within : (old new lent room rest : List ℕ) (from : ℕ) → lent ≡ room → new ≡ take from old ++ (lent ++ rest) → from ≤ length old → from + length room ≤ length new
+put_within old new lent room rest from e q l =
+    let a = ap length q in
+    let b = length-append (take from old) (lent ++ rest) in
+    let c = length-append lent rest in
+    let d = length-take-le from old l in
+    let f = ap length e in
+    omega (arith, a, b, c, d, f)

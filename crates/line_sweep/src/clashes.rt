@@ -1,12 +1,11 @@
 // Groups of edges without which a sweep can go on.
-ghost use Rattle.std.specs.Prelude.{◌≡◌, ℕ, ◌^◌, ◌<◌, IfOk, OnOk, length};
+ghost use Rattle.std.specs.Prelude.{◌≡◌, ℕ, ◌+◌, ◌^◌, ◌<◌, ◌≤◌, IfOk, OnOk, length};
 ghost use Rattle.plane.specs.Lists.{Has};
 ghost use Rattle.plane.specs.Runs.Timetables.{IsTimetable};
 ghost use Rattle.straight_predicates.specs.EdgeLists.{edge_of, AreAllClose, AreBelow, AreSorted};
 ghost use Rattle.straight_predicates.specs.EdgeLists.{IsCloseToAll};
 ghost use Rattle.straight_predicates.specs.Tables.{table_of};
 
-use super::blocks::block_end;
 use super::sweeping::edge_of_event;
 use plane::{Edge, Point};
 use ports::Memory;
@@ -113,7 +112,7 @@ pub struct BadEdges {
 /// bad with each other, a sweep of the others will most often find nothing bad. No clause says
 /// that: who needs it sweeps them. `groups` has the group of each edge, and `firm` says which
 /// groups are only marked for another firm one. The only error is out of memory. It takes the time
-/// of a sweep, and at each event that marks a group a pass over the live list.
+/// of a sweep: edges of marked groups leave the live list where an event is beside them.
 pub fn clashing(
     alloc: Global,
     edges: &[Edge],
@@ -135,11 +134,8 @@ pub fn clashing(
     };
     let mut live = ChunkedList::new(alloc);
     let mut room = Vec::new(alloc);
-    let mut all = Vec::new(alloc);
     for event in 0..table.events() {
-        if pass(edges, &table, event, &mut live, &mut marks, &mut room)? {
-            drop_marked(edges, &mut live, &marks, &mut all, &mut room)?;
-        }
+        pass(edges, &table, event, &mut live, &mut marks, &mut room)?;
     }
     if !marks.has(known.first) && !marks.has(known.second) {
         marks.mark_not_firm(known.first, known.second);
@@ -147,8 +143,8 @@ pub fn clashing(
     Ok(marks.marks)
 }
 
-/// Puts the starting edges of the event that are not marked in the place of those that end there,
-/// and marks the groups of edges that are bad there. Whether there are some.
+/// Puts the starting edges of the event in the place of those that end there, without the edges of
+/// marked groups, and marks the groups of edges that are bad there.
 fn pass(
     edges: &[Edge],
     table: &Timetable,
@@ -156,7 +152,7 @@ fn pass(
     live: &mut ChunkedList<u32>,
     marks: &mut Marks<'_>,
     room: &mut Vec<u32>,
-) -> Result<bool, Memory>
+) -> Result<(), Memory>
     requires few { length edges.now < 2 ^ 31 }
     requires sorted { AreSorted edges.now }
     requires close { AreAllClose edges.now }
@@ -168,26 +164,108 @@ fn pass(
 {
     let at = table.at(event);
     let starting = table.starting(event);
+    let own = edge_of_event(edges, table, event);
     marks.note(starting, event);
     let from = cut(live, edges, at);
-    let upto = block_end(live, edges, at, from);
-    let own = edge_of_event(edges, table, event);
-    let through = upto < live.len() && !marks.has(own) && goes_through(edges, live.get(upto), at);
-    if through {
-        marks.mark_not_firm(live.get(upto), own);
+    let upto = leaving_end(edges, live, from, at, own, marks);
+    let first = put_unmarked(live, from, upto, starting, marks, room)?;
+    if mark_neighbours(edges, live, first, room.len(), marks) {
+        let end = first.saturating_add(room.len());
+        let left = put_unmarked(live, first, end, starting, marks, room)?;
+        mark_neighbours(edges, live, left, room.len(), marks);
     }
-    unmarked(starting, marks, room)?;
-    live.replace(from, upto - from, room)?;
-    let bad = mark_neighbours(edges, live, from, room.len(), marks);
-    Ok(through || bad)
+    Ok(())
 }
 
-/// Whether the edge, which does not end at the point, goes through it.
-fn goes_through(edges: &[Edge], edge: u32, at: Point) -> bool
+/// The place after the edges from `from` on that leave the live list at the event, which is an end
+/// of the edge `own`.
+fn leaving_end(
+    edges: &[Edge],
+    live: &ChunkedList<u32>,
+    from: usize,
+    at: Point,
+    own: u32,
+    marks: &mut Marks<'_>,
+) -> usize
+    requires known { AreBelow (length edges.now) live.now }
+    requires close { IsCloseToAll edges.now at }
+    requires place { from ≤ length live.now }
+    ensures least { from ≤ result }
+    ensures within { result ≤ length live.now }
+    ensures marks { length marks.new.marks.items ≡ length marks.old.marks.items }
+{
+    for place in from..live.len() {
+        if !leaves(edges, live.get(place), at, own, marks) {
+            return place;
+        }
+    }
+    live.len()
+}
+
+/// Whether the edge leaves the live list at the event: it ends there, or its group is marked. Where
+/// it goes through the event, its group or that of the edge `own` is marked.
+fn leaves(edges: &[Edge], edge: u32, at: Point, own: u32, marks: &mut Marks<'_>) -> bool
     requires known { edge < length edges.now }
     requires close { IsCloseToAll edges.now at }
+    ensures { length marks.new.marks.items ≡ length marks.old.marks.items }
 {
-    turn_over(edges, edge, at) == Turn::Straight
+    if edges[edge as usize].high == at {
+        return true;
+    }
+    if !marks.has(edge) && !marks.has(own) && turn_over(edges, edge, at) == Turn::Straight {
+        marks.mark_not_firm(edge, own);
+    }
+    marks.has(edge)
+}
+
+/// Puts those of the edges that are not of marked groups in the place of a part of the live list,
+/// and of the edges of marked groups beside it. The place of the first of them.
+fn put_unmarked(
+    live: &mut ChunkedList<u32>,
+    from: usize,
+    upto: usize,
+    with: &[u32],
+    marks: &Marks<'_>,
+    room: &mut Vec<u32>,
+) -> Result<usize, Memory>
+    requires part { from ≤ upto }
+    requires within { upto ≤ length live.old }
+    ensures known { OnOk result ((m : ℕ) → AreBelow m live.old
+        → ((e : ℕ) → Has e with.now → e < m) → AreBelow m live.new) }
+    ensures within { IfOk result (λ first. first + length room.new.items ≤ length live.new) }
+{
+    let first = marked_start(live, from, marks);
+    let end = marked_end(live, upto, marks);
+    unmarked(with, marks, room)?;
+    live.replace(first, end - first, room)?;
+    Ok(first)
+}
+
+/// The place of the first of the edges of marked groups that are directly before the place.
+fn marked_start(live: &ChunkedList<u32>, from: usize, marks: &Marks<'_>) -> usize
+    requires { from ≤ length live.now }
+    ensures { result ≤ from }
+{
+    for place in (0..from).rev() {
+        if !marks.has(live.get(place)) {
+            return place + 1;
+        }
+    }
+    0
+}
+
+/// The place after the edges of marked groups that are directly from the place on.
+fn marked_end(live: &ChunkedList<u32>, upto: usize, marks: &Marks<'_>) -> usize
+    requires { upto ≤ length live.now }
+    ensures least { upto ≤ result }
+    ensures within { result ≤ length live.now }
+{
+    for place in upto..live.len() {
+        if !marks.has(live.get(place)) {
+            return place;
+        }
+    }
+    live.len()
 }
 
 /// The edges whose groups are not marked.
@@ -244,22 +322,4 @@ fn bad_neighbours(edges: &[Edge], live: &ChunkedList<u32>, below: usize) -> Opti
     } else {
         None
     }
-}
-
-/// Takes the edges of marked groups out of the live list.
-fn drop_marked(
-    edges: &[Edge],
-    live: &mut ChunkedList<u32>,
-    marks: &Marks<'_>,
-    all: &mut Vec<u32>,
-    room: &mut Vec<u32>,
-) -> Result<(), Memory>
-    requires { AreBelow (length edges.now) live.old }
-    ensures { OnOk result (AreBelow (length edges.now) live.new) }
-{
-    let size = live.len();
-    live.copy_part(0, size, all)?;
-    unmarked(all, marks, room)?;
-    live.replace(0, size, room)?;
-    Ok(())
 }
