@@ -229,6 +229,26 @@ for count in (100, 400, 1600):
         print("    %.1f times the time of a quarter as many" % (got[2] / smaller))
     smaller = got[2]
 
+# ---- and circles, each with an arc beside it that leaves it so slowly that it stays in its tubes
+
+smaller = None
+for count in (100, 400):
+    radii = [50000 + 1000 * k for k in range(count)]
+    x = y = 5000000
+    lines = []
+    for r in radii:
+        lines.append([(x + r, y), (b"ARCP", (x, y + r)), (b"LIPT", (x - r, y)), (b"ARCP", (x, y - r)), (b"LIPT", (x + r, y))])
+        off = round(1500 ** 2 / (2 * r)) + 2
+        lines.append([(x + r, y), (b"ARCP", (x + r - off, y + 1500)), (b"LIPT", (x + r - 4 * off, y + 3000))])
+    delivery(lines, [(x, y)] + [(x + r + 10, y) for r in radii[:-1]])
+    got = run("check", "M", "T", "C")
+    if got[1] != 2:
+        sys.exit("%d circles with arcs in their tubes are not undecided" % count)
+    tell("transfer", "%d circles, each with an arc in its tubes" % count, os.path.getsize("T"), got, EMPTY, ORDINARY)
+    if smaller:
+        print("    %.1f times the time of a quarter as many" % (got[2] / smaller))
+    smaller = got[2]
+
 # ---- points in tubes at level 5
 
 RADIUS, LEAVES = 100000, 4000
