@@ -25,15 +25,15 @@ TABLE Parcel = Form: AREA WITH (STRAIGHTS, ARCS) VERTEX Koord; NO IDENT END Parc
 END Cover. END Land.
 FORMAT FREE; CODE BLANK = DEFAULT, UNDEFINED = DEFAULT, CONTINUE = DEFAULT; TID = ANY; END.
 """
-# The same area behind columns of each kind, by a domain, with its own codes.
+# The same area after columns of each kind, by a domain, with its own codes.
 WIDE = """TRANSFER Rows; DOMAIN !! places
 Koord = COORD2 0.000 0.000 1000.000 1000.000; Hoch = COORD3 0 0 0 9 9 9;
 Flaeche = AREA WITH (STRAIGHTS, ARCS) VERTEX Koord WITHOUT OVERLAPS > 0.050
   LINEATTR = Art: OPTIONAL (a, b (c, d)); NO IDENT END;
-MODEL Land TOPIC Cover = DOMAIN Name = TEXT*12;
+MODEL Land TOPIC Cover = DOMAIN Name = TEXT*12; DOMAIN Ziffer = [0 .. 9];
 TABLE Owner = L: OPTIONAL POLYLINE WITH (STRAIGHTS) VERTEX Koord; NO IDENT END Owner;
 TABLE Parcel = Zu: OPTIONAL -> Owner; N: OPTIONAL Name //a; b//; H: OPTIONAL Hoch;
-  K: OPTIONAL Koord; L: OPTIONAL POLYLINE WITH (STRAIGHTS) VERTEX Hoch; Z: OPTIONAL [0 .. 9];
+  K: OPTIONAL Koord; L: OPTIONAL POLYLINE WITH (STRAIGHTS) VERTEX Hoch; Z: OPTIONAL Ziffer;
   S: OPTIONAL SURFACE WITH (STRAIGHTS) VERTEX Koord; G: OPTIONAL DEGREES 0 1;
   Form: OPTIONAL Flaeche; E: OPTIONAL (x, y); NO IDENT END Parcel;
 END Cover. END Land.
@@ -180,7 +180,7 @@ def polyline(places, begin, turned):
 
 
 def columns():
-    """A point behind columns of each kind, on lines that go on, with other codes."""
+    """A point after columns of each kind, on lines that go on, with other codes."""
     rows = ("OBJE 1 # &\r\nCONT ab\t# # # # # 5 &\nCONT # 300 310.5 #\nELIN\n"
             "OBJE 2 # # # # # # # 5 # # # #\n")
     text = transfer(line(1, SQUARE, " 1").replace("LIPT 200 200", "LIPT &\nCONT 200 200"), rows)

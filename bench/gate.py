@@ -1,6 +1,7 @@
 #!/usr/bin/env python3
-"""Runs the gate from nothing, and prints the processor minutes that it takes for each crate: its
-proof, that of its tests and its edits.
+"""Runs the gate, and prints the processor minutes that it takes for each crate: its proof, that of its
+tests and its edits. What the kit has kept of earlier runs is taken over and is not in the table; a run
+from nothing begins with nothing kept.
 
 It runs `.ci/run` and looks once a second at the processes of the prover, each of which names its
 crate; what a process takes after the last look goes uncounted, at most a second of it, and so does

@@ -1,6 +1,6 @@
 #!/usr/bin/env bash
 # Refuses each growth of the built program in turn: a library in front of the C library's `malloc`,
-# `calloc` and `realloc` refuses the N-th of their calls, or the N-th and all behind it, for N from
+# `calloc` and `realloc` refuses the N-th of their calls, or the N-th and all after it, for N from
 # 1 until a run asks for fewer. `realloc` counts where it asks for more. Each run has to end with
 # status 8, nothing written and no certificate file made or changed, or with what the run with no
 # refusal answers, byte for byte. It measures nothing, and stops at the first run that does neither.
@@ -11,7 +11,7 @@ itfcheck=$(built_program "$@")
 cd "$work"
 
 cat > refuse.c <<'C'
-/* Refuses the allocation of the number REFUSE, and with REFUSE_ON all behind it; where it did so
+/* Refuses the allocation of the number REFUSE, and with REFUSE_ON all after it; where it did so
    first, a byte goes to descriptor 9. */
 #include <errno.h>
 #include <malloc.h>
@@ -199,12 +199,12 @@ def refuse_all(name, command, model, text, before, status):
                 memory += 1
             else:
                 sys.exit("%s, %s: growth %d refused%s: %s" % (
-                    command, name, number, " and all behind it" if on else "", got))
+                    command, name, number, " and all after it" if on else "", got))
             if not refused:
                 break
         print("%s, %s, status %d: %d growths%s refused in turn: %d times out of memory, %d times the"
               " same answer" % (command, name, status, number - 1,
-                                " and all behind each" if on else "", memory, same))
+                                " and all after each" if on else "", memory, same))
     return wanted[2]
 
 

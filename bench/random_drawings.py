@@ -139,7 +139,7 @@ def with_objects(lines, placed):
 
 
 def wanted(answer, curves, objects):
-    """The words behind the area's names, of all answers that are right."""
+    """The words after the area's names, of all answers that are right."""
     kind, *names = answer
     if kind == "MEETING":
         return ["MEETING %d %d" % (curves[a], curves[b]) for a, b in names[0]]

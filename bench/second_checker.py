@@ -83,7 +83,7 @@ class Lines:
         return parts
 
     def end(self):
-        """Nothing stands behind the list."""
+        """Nothing stands after the list."""
         if self.taken < len(self.lines):
             raise BadLine(self.taken + 1, "Line")
 
@@ -97,7 +97,7 @@ def is_bad_number(part):
 
 
 def link_of(part):
-    """A letter and a number: of the half-edge behind C, else 0."""
+    """A letter and a number: of the half-edge after C, else 0."""
     return (part[:1].decode(), int(part[1:] or b"0"))
 
 
@@ -318,14 +318,14 @@ class Checked:
         block = live[position : position + len(ending)]
         if position > len(live) or sorted(block) != sorted(ending):
             raise Broken(4, event)
-        before, behind = live[:position], live[position + len(ending) :]
+        before, after = live[:position], live[position + len(ending) :]
         if before and turn(*self.edges[before[-1]], at) <= 0:
             raise Broken(5, event)
-        if behind and turn(*self.edges[behind[0]], at) >= 0:
+        if after and turn(*self.edges[after[0]], at) >= 0:
             raise Broken(5, event)
         starting = self.by_slope(at, event)
-        self.match(before[-1:] + starting + behind[:1], not before, not behind, event)
-        return before + starting + behind
+        self.match(before[-1:] + starting + after[:1], not before, not after, event)
+        return before + starting + after
 
     def by_slope(self, at, event):
         """The edges that start at the event, in order of slope, an upright one last."""

@@ -147,7 +147,7 @@ class Model:
     def domains(self, scope):
         if not self.has("DOMAIN"):
             return
-        while self.word() not in ("MODEL", "TOPIC", "OPTIONAL", "TABLE", "END"):
+        while self.word() not in ("MODEL", "TOPIC", "DOMAIN", "OPTIONAL", "TABLE", "END"):
             name = self.take()
             self.take("=")
             scope.setdefault(name, (self.type(), scope))
@@ -200,7 +200,7 @@ class Model:
     def type(self):
         """The first word, and what drawings need of the rest.
 
-        That is the name behind VERTEX of an AREA, and the decimals of the bounds of a coordinate.
+        That is the name after VERTEX of an AREA, and the decimals of the bounds of a coordinate.
         """
         kind, word, _ = self.tokens[self.place]
         self.take()
@@ -244,7 +244,7 @@ class Model:
         return vertex
 
     def codes(self):
-        """The undefined and the continue code, behind the model."""
+        """The undefined and the continue code, after the model."""
         self.past("FORMAT", "FREE", ";", "CODE")
         if self.has("FONT"):
             self.past("=", None, ";")
@@ -312,7 +312,7 @@ def structure(number, code):
 
 
 def logical_lines(file, goes_on):
-    """The lines behind `////` that have a field, continued ones put together."""
+    """The lines after `////` that have a field, continued ones put together."""
     lines = physical_lines(file)
     for number, line in lines:
         if number == 1 and fields_of(line)[:1] != ["SCNT"]:
@@ -450,7 +450,7 @@ def scaled(line, word, scale):
 
 # The report.
 
-# What the words behind an answer name, in their order.
+# What the words after an answer name, in their order.
 NAMED = {"MEETING": "cc", "UNDECIDED": "cc", "ON": "pc", "OUTSIDE": "p", "TWO": "pp", "EMPTY": "cs"}
 ANSWER = re.compile(r"|EMPTY [0-9]+ (LEFT|RIGHT)|(MEETING|UNDECIDED|ON|TWO) [0-9]+ [0-9]+"
                     r"|OUTSIDE [0-9]+|PROVED( [0-9]+){3}|NOTPROVED( [0-9]+){2}")

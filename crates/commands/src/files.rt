@@ -6,7 +6,8 @@ ghost use Rattle.ports.specs.Rooms.{StaysReady};
 ghost use Rattle.commands.specs.Commands.{limit_of};
 ghost use Rattle.commands.specs.Reading.{IsWhole, IsLonger, IsFront, IsEnd};
 
-use ports::{Memory, Shelf};
+use super::file_pieces::{PIECE, buffer, read_piece};
+use ports::Shelf;
 use std::alloc::Global;
 
 /// A file that is read.
@@ -42,16 +43,8 @@ pub enum FileRefusal {
     Memory,
 }
 
-/// A buffer of that length. No clause says what its bytes are: a list of 65,536 of them would be
-/// computed in every goal above.
-pub fn buffer(alloc: Global, size: usize) -> Result<Vec<u8>, Memory>
-    ensures { IfOk result (λ buffer. length buffer.items ≡ size) }
-{
-    Ok(vec![in alloc; 0u8; size]?)
-}
-
 // Reads the next piece and adds it, or answers that the file has ended.
-fn read_piece<S: Shelf>(
+fn add_piece<S: Shelf>(
     shelf: &mut S,
     name: &str,
     piece: &mut [u8],
@@ -76,14 +69,13 @@ fn read_piece<S: Shelf>(
         → CountsStay (S.read_faults shelf.old) (S.write_faults shelf.old)
         (S.read_faults shelf.new) (S.write_faults shelf.new) }
 {
-    let from = bytes.len() as u64;
-    match shelf.read(name, from, piece) {
-        Err(_) => Err(FileRefusal::Failed),
-        Ok(0) => Ok(false),
-        Ok(n) => match bytes.extend_from_slice(&piece[..n]) {
-            Ok(()) => Ok(true),
-            Err(_) => Err(FileRefusal::Memory),
-        },
+    let n = read_piece(shelf, name, bytes.len() as u64, piece)?;
+    if n == 0 {
+        return Ok(false);
+    }
+    match bytes.extend_from_slice(&piece[..n]) {
+        Ok(()) => Ok(true),
+        Err(_) => Err(FileRefusal::Memory),
     }
 }
 
@@ -108,14 +100,14 @@ fn read_within<S: Shelf>(
         → CountsStay (S.read_faults shelf.old) (S.write_faults shelf.old)
         (S.read_faults shelf.new) (S.write_faults shelf.new) }
 {
-    let mut piece = match buffer(alloc, 65536) {
+    let mut piece = match buffer(alloc, PIECE) {
         Ok(piece) => piece,
         Err(_) => return Err(FileRefusal::Memory),
     };
     let mut bytes: Vec<u8> = Vec::new(alloc);
     // A shelf may give as little as one byte a call, and each call but the last gives one.
     for _ in 0..limit + 1 {
-        let more = read_piece(shelf, name, &mut piece, &mut bytes)?;
+        let more = add_piece(shelf, name, &mut piece, &mut bytes)?;
         if limit < bytes.len() as u64 {
             return Err(FileRefusal::TooLong);
         }

@@ -8,6 +8,7 @@
 //! - **Files.** `read_file` reads a file whole, in pieces of 65,536 bytes, and refuses one past its
 //!   limit: 4,194,304 bytes for a model, 268,435,456 for a transfer, 1,073,741,824 for
 //!   certificates. It fails only where a count of faults rose, and not where the file is readable.
+//!   `read_piece` reads a piece of one, for whoever takes a file as it comes.
 //! - **Models.** `read_model` turns a text into the layout of its tables, or names the first fault,
 //!   of its tokens, of its grammar or of its names and types, with code, line, column and word.
 //! - **Trials.** `trial` has the size that a word spells and the two texts of a grid of n times n
@@ -23,6 +24,7 @@
 #![tactic(auto)]
 
 mod command;
+mod file_pieces;
 mod files;
 mod model;
 mod refusals;
@@ -31,7 +33,8 @@ pub mod trial;
 mod word;
 
 pub use command::{Command, FileNames, command_of};
-pub use files::{File, FileRefusal, buffer, read_file};
+pub use file_pieces::{PIECE, buffer, read_piece};
+pub use files::{File, FileRefusal, read_file};
 pub use model::{ModelReading, read_model};
 pub use refusals::{Refusal, RefusalCode};
 pub use text::Text;

@@ -21,8 +21,8 @@ use Rattle.area_search.specs.declared.kinds.AreaAnswer.TheVariants as found
 use Rattle.area_search.specs.declared.kinds.AreaFinding.{AreaFinding}
 use Rattle.area_search.specs.declared.kinds.AreaFinding.TheVariants as fault
 use Rattle.delivery.specs.Answers.{Matches, same, meetings, AgreeLines, Agree}
-use Rattle.delivery.specs.AreaAnswers.{IsAnswer, faulty, undecided, proved, fault_answer, undecided_answer, curve_line, IsDrawn, AreAnswers, IsFaultyPlan, IsUndecidedPlan, IsFaultlessPlan, HasFaultyArea, ArePartedAreas, AreLeftAreas, HaveStraightLines}
-use Rattle.reports.specs.AreaKinds.{proof_answer, is_fault, is_left, has_fault, has_left}
+use Rattle.delivery.specs.AreaAnswers.{IsAnswer, faulty, undecided, proved, fault_answer, undecided_answer, curve_line, IsDrawn, AreAnswers, IsFaultyPlan, IsUndecidedPlan, IsUndecidedOrPartition, HasFaultyArea, ArePartedAreas, AreUndecidedAreas, HaveStraightLines}
+use Rattle.reports.specs.AreaKinds.{proof_answer, is_fault, is_undecided, has_fault, has_undecided}
 use Rattle.reports.specs.AreaNames.{topic_name, table_name}
 use Rattle.delivery.specs.Drawings.{IsDrawing, AreDrawings, area_curves}
 use Rattle.reports.specs.Lines as lines
@@ -111,7 +111,7 @@ fault_is_fault d (fault.Outside j) = refl
 fault_is_fault d (fault.Two i j) = refl
 fault_is_fault d (fault.Empty i left) = refl
 
-fault_not_left : (d : Plan) (f : AreaFinding) → is_left (fault_answer d f) ≡ false
+fault_not_left : (d : Plan) (f : AreaFinding) → is_undecided (fault_answer d f) ≡ false
 fault_not_left d (fault.Meeting i j) = refl
 fault_not_left d (fault.On j i) = refl
 fault_not_left d (fault.Outside j) = refl
@@ -127,19 +127,19 @@ module _ (laws : AreaLaws) (l : Layout) (a : AreaOf) (d : Plan) (x : AreaAnswer)
   faulty_plan t (undecided i j h e z) = differ (is_fault x) t (ap is_fault e)
   faulty_plan t (proved c h v e z) = differ (is_fault x) t (ap is_fault e)
 
-  undecided_plan : is_left x ≡ true → IsAnswer l a d x cs → IsUndecidedPlan d
-  undecided_plan t (faulty f h e z) = differ (is_left x) t (ap is_left e ∙ fault_not_left d f)
+  undecided_plan : is_undecided x ≡ true → IsAnswer l a d x cs → IsUndecidedPlan d
+  undecided_plan t (faulty f h e z) = differ (is_undecided x) t (ap is_undecided e ∙ fault_not_left d f)
   undecided_plan t (undecided i j h e z) = record { first = i; second = j; pair = h; half_arc = laws.half_arcs d i j h }
-  undecided_plan t (proved c h v e z) = differ (is_left x) t (ap is_left e)
+  undecided_plan t (proved c h v e z) = differ (is_undecided x) t (ap is_undecided e)
 
-  faultless_plan : is_fault x ≡ false → IsAnswer l a d x cs → IsFaultlessPlan d
+  faultless_plan : is_fault x ≡ false → IsAnswer l a d x cs → IsUndecidedOrPartition d
   faultless_plan t (faulty f h e z) = differ (is_fault x) (ap is_fault e ∙ fault_is_fault d f) t
   faultless_plan t (undecided i j h e z) = inl (record { first = i; second = j; pair = h; half_arc = laws.half_arcs d i j h })
   faultless_plan t (proved c h v e z) = inr (laws.proofs d _ h.proves)
 
-  parted_plan : is_fault x ≡ false → is_left x ≡ false → IsAnswer l a d x cs → IsPartition d
+  parted_plan : is_fault x ≡ false → is_undecided x ≡ false → IsAnswer l a d x cs → IsPartition d
   parted_plan t n (faulty f h e z) = differ (is_fault x) (ap is_fault e ∙ fault_is_fault d f) t
-  parted_plan t n (undecided i j h e z) = differ (is_left x) (ap is_left e) n
+  parted_plan t n (undecided i j h e z) = differ (is_undecided x) (ap is_undecided e) n
   parted_plan t n (proved c h v e z) = laws.proofs d _ h.proves
 
 any_here : (P : AreaOf → Type 0) (a : AreaOf) (as_ : List AreaOf) → P a → Any P (a ∷ as_)
@@ -165,28 +165,28 @@ module _ (laws : AreaLaws) (l : Layout) (rows : List (List Row)) where
     | inr e ↦ any_there (IsDrawn l rows IsFaultyPlan) a as_ (some_faulty as_ ds xs h.1 w.1 h.3 e)
   ]
 
-  some_left : (as_ : List AreaOf) (ds : List Plan) (xs : List AreaAnswer) (cs : List Plain) → AllZip (IsDrawing l rows) as_ ds → AreAnswers l as_ ds xs cs → has_left xs ≡ true → Any (IsDrawn l rows IsUndecidedPlan) as_
+  some_left : (as_ : List AreaOf) (ds : List Plan) (xs : List AreaAnswer) (cs : List Plain) → AllZip (IsDrawing l rows) as_ ds → AreAnswers l as_ ds xs cs → has_undecided xs ≡ true → Any (IsDrawn l rows IsUndecidedPlan) as_
   some_left [] [] [] cs w h f = absurd (cc)
   some_left [] [] (x ∷ xs) cs w h f = absurd h
   some_left [] (d ∷ ds) xs cs w h f = absurd h
   some_left (a ∷ as_) [] xs cs w h f = absurd h
   some_left (a ∷ as_) (d ∷ ds) [] cs w h f = absurd h
-  some_left (a ∷ as_) (d ∷ ds) (x ∷ xs) cs w h f = elim (either (is_left x) (has_left xs) f) as (λ z. Any (IsDrawn l rows IsUndecidedPlan) (a ∷ as_)) [
+  some_left (a ∷ as_) (d ∷ ds) (x ∷ xs) cs w h f = elim (either (is_undecided x) (has_undecided xs) f) as (λ z. Any (IsDrawn l rows IsUndecidedPlan) (a ∷ as_)) [
     | inl e ↦ any_here (IsDrawn l rows IsUndecidedPlan) a as_ (d, w.0, undecided_plan laws l a d x h.0 e h.2)
     | inr e ↦ any_there (IsDrawn l rows IsUndecidedPlan) a as_ (some_left as_ ds xs h.1 w.1 h.3 e)
   ]
 
-  all_faultless : (as_ : List AreaOf) (ds : List Plan) (xs : List AreaAnswer) (cs : List Plain) → AllZip (IsDrawing l rows) as_ ds → AreAnswers l as_ ds xs cs → has_fault xs ≡ false → All (IsDrawn l rows IsFaultlessPlan) as_
-  all_faultless [] [] [] cs w h f = All-nil (IsDrawn l rows IsFaultlessPlan)
+  all_faultless : (as_ : List AreaOf) (ds : List Plan) (xs : List AreaAnswer) (cs : List Plain) → AllZip (IsDrawing l rows) as_ ds → AreAnswers l as_ ds xs cs → has_fault xs ≡ false → All (IsDrawn l rows IsUndecidedOrPartition) as_
+  all_faultless [] [] [] cs w h f = All-nil (IsDrawn l rows IsUndecidedOrPartition)
   all_faultless [] [] (x ∷ xs) cs w h f = absurd h
   all_faultless [] (d ∷ ds) xs cs w h f = absurd h
   all_faultless (a ∷ as_) [] xs cs w h f = absurd h
   all_faultless (a ∷ as_) (d ∷ ds) [] cs w h f = absurd h
   all_faultless (a ∷ as_) (d ∷ ds) (x ∷ xs) cs w h f =
       let n = neither (is_fault x) (has_fault xs) f in
-      All-cons (IsDrawn l rows IsFaultlessPlan) a as_ (d, w.0, faultless_plan laws l a d x h.0 n.0 h.2) (all_faultless as_ ds xs h.1 w.1 h.3 n.1)
+      All-cons (IsDrawn l rows IsUndecidedOrPartition) a as_ (d, w.0, faultless_plan laws l a d x h.0 n.0 h.2) (all_faultless as_ ds xs h.1 w.1 h.3 n.1)
 
-  all_parted : (as_ : List AreaOf) (ds : List Plan) (xs : List AreaAnswer) (cs : List Plain) → AllZip (IsDrawing l rows) as_ ds → AreAnswers l as_ ds xs cs → has_fault xs ≡ false → has_left xs ≡ false → All (IsDrawn l rows IsPartition) as_
+  all_parted : (as_ : List AreaOf) (ds : List Plan) (xs : List AreaAnswer) (cs : List Plain) → AllZip (IsDrawing l rows) as_ ds → AreAnswers l as_ ds xs cs → has_fault xs ≡ false → has_undecided xs ≡ false → All (IsDrawn l rows IsPartition) as_
   all_parted [] [] [] cs w h f g = All-nil (IsDrawn l rows IsPartition)
   all_parted [] [] (x ∷ xs) cs w h f g = absurd h
   all_parted [] (d ∷ ds) xs cs w h f g = absurd h
@@ -194,17 +194,17 @@ module _ (laws : AreaLaws) (l : Layout) (rows : List (List Row)) where
   all_parted (a ∷ as_) (d ∷ ds) [] cs w h f g = absurd h
   all_parted (a ∷ as_) (d ∷ ds) (x ∷ xs) cs w h f g =
       let n = neither (is_fault x) (has_fault xs) f in
-      let m = neither (is_left x) (has_left xs) g in
+      let m = neither (is_undecided x) (has_undecided xs) g in
       All-cons (IsDrawn l rows IsPartition) a as_ (d, w.0, parted_plan laws l a d x h.0 n.0 m.0 h.2) (all_parted as_ ds xs h.1 w.1 h.3 n.1 m.1)
 
   module _ (ds : List Plan) (xs : List AreaAnswer) (cs : List Plain) (w : AreDrawings l rows ds) (h : AreAnswers l l.areas ds xs cs) where
     pub faulty_area : has_fault xs ≡ true → HasFaultyArea l rows
     faulty_area = some_faulty l.areas ds xs cs w h
 
-    pub left_areas : has_fault xs ≡ false → has_left xs ≡ true → AreLeftAreas l rows
+    pub left_areas : has_fault xs ≡ false → has_undecided xs ≡ true → AreUndecidedAreas l rows
     left_areas f g = (some_left l.areas ds xs cs w h g, all_faultless l.areas ds xs cs w h f)
 
-    pub parted_areas : has_fault xs ≡ false → has_left xs ≡ false → ArePartedAreas l rows
+    pub parted_areas : has_fault xs ≡ false → has_undecided xs ≡ false → ArePartedAreas l rows
     parted_areas = all_parted l.areas ds xs cs w h
 
 -- ---- drawings by themselves
@@ -226,7 +226,7 @@ module _ (l : Layout) (rows : List (List Row)) where
       none : (d : Plan) → AreStraights d → IsUndecidedPlan d → ⊥
       none d s u = elim u.half_arc as (λ z. ⊥) [ inl n ↦ no_half_arc d u.first s n | inr n ↦ no_half_arc d u.second s n ]
 
-  pub straights_decided : HaveStraightLines l rows → AreLeftAreas l rows → ⊥
+  pub straights_decided : HaveStraightLines l rows → AreUndecidedAreas l rows → ⊥
   straights_decided s h =
       let b = both_at (λ a. AreAllStraight (area_curves l rows a)) (IsDrawn l rows IsUndecidedPlan) l.areas s h.0 in
       straight_area_decided b.0 b.1 b.2
@@ -278,9 +278,9 @@ alike_faults : (x y : AreaAnswer) → AreAlike x y → is_fault x ≡ is_fault y
 alike_faults x y (equal e) = ap is_fault e
 alike_faults x y (both_meet i j k m e f) = ap is_fault e ∙ sym (ap is_fault f)
 
-alike_left : (x y : AreaAnswer) → AreAlike x y → is_left x ≡ is_left y
-alike_left x y (equal e) = ap is_left e
-alike_left x y (both_meet i j k m e f) = ap is_left e ∙ sym (ap is_left f)
+alike_left : (x y : AreaAnswer) → AreAlike x y → is_undecided x ≡ is_undecided y
+alike_left x y (equal e) = ap is_undecided e
+alike_left x y (both_meet i j k m e f) = ap is_undecided e ∙ sym (ap is_undecided f)
 
 alike_lines : (l : Layout) (a : AreaOf) (x y : AreaAnswer) → AreAlike x y → Matches (area_line l a x) (area_line l a y)
 alike_lines l a x y (equal e) = same (ap (area_line l a) e)
@@ -310,7 +310,7 @@ module _ (laws : AreaLaws) (l : Layout) where
   same_faults (a ∷ as_) (d ∷ ds) (x ∷ xs) (y ∷ ys) cs es h k =
       ap (λ (b : Bool). b || has_fault xs) (alike_faults x y (alike a d x y h.0 k.0 h.2 k.2)) ∙ ap (λ (b : Bool). is_fault y || b) (same_faults as_ ds xs ys h.1 k.1 h.3 k.3)
 
-  same_left : (as_ : List AreaOf) (ds : List Plan) (xs ys : List AreaAnswer) (cs es : List Plain) → AreAnswers l as_ ds xs cs → AreAnswers l as_ ds ys es → has_left xs ≡ has_left ys
+  same_left : (as_ : List AreaOf) (ds : List Plan) (xs ys : List AreaAnswer) (cs es : List Plain) → AreAnswers l as_ ds xs cs → AreAnswers l as_ ds ys es → has_undecided xs ≡ has_undecided ys
   same_left [] [] [] [] cs es h k = refl
   same_left [] [] [] (y ∷ ys) cs es h k = absurd k
   same_left [] [] (x ∷ xs) ys cs es h k = absurd h
@@ -319,7 +319,7 @@ module _ (laws : AreaLaws) (l : Layout) where
   same_left (a ∷ as_) (d ∷ ds) [] ys cs es h k = absurd h
   same_left (a ∷ as_) (d ∷ ds) (x ∷ xs) [] cs es h k = absurd k
   same_left (a ∷ as_) (d ∷ ds) (x ∷ xs) (y ∷ ys) cs es h k =
-      ap (λ (b : Bool). b || has_left xs) (alike_left x y (alike a d x y h.0 k.0 h.2 k.2)) ∙ ap (λ (b : Bool). is_left y || b) (same_left as_ ds xs ys h.1 k.1 h.3 k.3)
+      ap (λ (b : Bool). b || has_undecided xs) (alike_left x y (alike a d x y h.0 k.0 h.2 k.2)) ∙ ap (λ (b : Bool). is_undecided y || b) (same_left as_ ds xs ys h.1 k.1 h.3 k.3)
 
   alike_all : (as_ : List AreaOf) (ds : List Plan) (xs ys : List AreaAnswer) (cs es : List Plain) (t u : List Line) → AgreeLines t u → AreAnswers l as_ ds xs cs → AreAnswers l as_ ds ys es → AgreeLines (area_lines l as_ xs ++ t) (area_lines l as_ ys ++ u)
   alike_all [] [] [] [] cs es t u v h k = v
@@ -333,13 +333,13 @@ module _ (laws : AreaLaws) (l : Layout) where
 
   -- two certificates of one drawing have one number of positions
   module _ (n : ℕ) where
-    proved_line : (a : AreaOf) (d : Plan) (x : AreaAnswer) (cs : List Plain) → IsAnswer l a d x cs → is_fault x ≡ false → is_left x ≡ false
+    proved_line : (a : AreaOf) (d : Plan) (x : AreaAnswer) (cs : List Plain) → IsAnswer l a d x cs → is_fault x ≡ false → is_undecided x ≡ false
         → (level : ℕ) × search.IsLeastLevel d level × (e : ℕ) × HasEvents d level e × (c : Plain) × (cs ≡ c ∷ []) × (trial_line n x c ≡ lines.trial n (length d.curves) e (length d.points) ∷ [])
     proved_line a d x cs (faulty p h e z) f g = differ (is_fault x) (ap is_fault e ∙ fault_is_fault d p) f
-    proved_line a d x cs (undecided i j h e z) f g = differ (is_left x) (ap is_left e) g
+    proved_line a d x cs (undecided i j h e z) f g = differ (is_undecided x) (ap is_undecided e) g
     proved_line a d x cs (proved c h v e z) f g = (c.level, v, length c.positions, laws.positions d _ h.proves, c, z, ap (λ (y : AreaAnswer). trial_line n y c) e)
 
-    same_line : (a : AreaOf) (d : Plan) (x y : AreaAnswer) (cs es : List Plain) → IsAnswer l a d x cs → IsAnswer l a d y es → is_fault x ≡ false → is_left x ≡ false → is_fault y ≡ false → is_left y ≡ false
+    same_line : (a : AreaOf) (d : Plan) (x y : AreaAnswer) (cs es : List Plain) → IsAnswer l a d x cs → IsAnswer l a d y es → is_fault x ≡ false → is_undecided x ≡ false → is_fault y ≡ false → is_undecided y ≡ false
         → (c : Plain) × (e : Plain) × (cs ≡ c ∷ []) × (es ≡ e ∷ []) × (trial_line n x c ≡ trial_line n y e)
     same_line a d x y cs es h k fx gx fy gy =
         let p = proved_line a d x cs h fx gx in
@@ -347,7 +347,7 @@ module _ (laws : AreaLaws) (l : Layout) where
         let events = subst (λ (level : ℕ). HasEvents d level p.2) (same_level d p.0 q.0 p.1 q.1) p.3 in
         (p.4, q.4, p.5, q.5, p.6 ∙ ap (λ (m : ℕ). lines.trial n (length d.curves) m (length d.points) ∷ []) (laws.events d q.0 p.2 q.2 events q.3) ∙ sym q.6)
 
-    same_sizes : (as_ : List AreaOf) (ds : List Plan) (xs ys : List AreaAnswer) (cs es : List Plain) → AreAnswers l as_ ds xs cs → AreAnswers l as_ ds ys es → has_fault xs ≡ false → has_left xs ≡ false → has_fault ys ≡ false → has_left ys ≡ false → size_lines n xs cs ≡ size_lines n ys es
+    same_sizes : (as_ : List AreaOf) (ds : List Plan) (xs ys : List AreaAnswer) (cs es : List Plain) → AreAnswers l as_ ds xs cs → AreAnswers l as_ ds ys es → has_fault xs ≡ false → has_undecided xs ≡ false → has_fault ys ≡ false → has_undecided ys ≡ false → size_lines n xs cs ≡ size_lines n ys es
     same_sizes [] [] [] [] cs es h k fx gx fy gy = refl
     same_sizes [] [] [] (y ∷ ys) cs es h k fx gx fy gy = absurd k
     same_sizes [] [] (x ∷ xs) ys cs es h k fx gx fy gy = absurd h
@@ -357,9 +357,9 @@ module _ (laws : AreaLaws) (l : Layout) where
     same_sizes (a ∷ as_) (d ∷ ds) (x ∷ xs) [] cs es h k fx gx fy gy = absurd k
     same_sizes (a ∷ as_) (d ∷ ds) (x ∷ xs) (y ∷ ys) cs es h k fx gx fy gy =
         let f = neither (is_fault x) (has_fault xs) fx in
-        let g = neither (is_left x) (has_left xs) gx in
+        let g = neither (is_undecided x) (has_undecided xs) gx in
         let p = neither (is_fault y) (has_fault ys) fy in
-        let q = neither (is_left y) (has_left ys) gy in
+        let q = neither (is_undecided y) (has_undecided ys) gy in
         let one = same_line a d x y h.0 k.0 h.2 k.2 f.0 g.0 p.0 q.0 in
         let rest = same_sizes as_ ds xs ys h.1 k.1 h.3 k.3 f.1 g.1 p.1 q.1 in
         let left : cs ≡ one.0 ∷ h.1 = h.4 ∙ ap (λ (here : List Plain). here ++ h.1) one.2 in
@@ -369,7 +369,7 @@ module _ (laws : AreaLaws) (l : Layout) where
         ∙ ap (λ (more : List Line). trial_line n y one.1 ++ more) rest
         ∙ sym (ap (size_lines n (y ∷ ys)) right)
 
-  same_trials : (trial : Option ℕ) (ds : List Plan) (xs ys : List AreaAnswer) (cs es : List Plain) → AreAnswers l l.areas ds xs cs → AreAnswers l l.areas ds ys es → has_fault xs ≡ false → has_left xs ≡ false → has_fault ys ≡ false → has_left ys ≡ false → trial_lines trial xs cs ≡ trial_lines trial ys es
+  same_trials : (trial : Option ℕ) (ds : List Plan) (xs ys : List AreaAnswer) (cs es : List Plain) → AreAnswers l l.areas ds xs cs → AreAnswers l l.areas ds ys es → has_fault xs ≡ false → has_undecided xs ≡ false → has_fault ys ≡ false → has_undecided ys ≡ false → trial_lines trial xs cs ≡ trial_lines trial ys es
   same_trials None ds xs ys cs es h k fx gx fy gy = refl
   same_trials (Some n) ds xs ys cs es h k fx gx fy gy = same_sizes n l.areas ds xs ys cs es h k fx gx fy gy
 
@@ -382,7 +382,7 @@ module _ (laws : AreaLaws) (l : Layout) where
       (alike_all l.areas ds xs ys cs es (t ++ (v ∷ [])) (u ++ (v ∷ [])) tails h k))
 
   module _ (objects : ℕ) (target : Target) where
-    agree_by : (ds : List Plan) (xs ys : List AreaAnswer) (cs es : List Plain) (b c : Bool) → has_fault xs ≡ b → has_left xs ≡ c → AreAnswers l l.areas ds xs cs → AreAnswers l l.areas ds ys es → Agree (outcome_by l objects target xs cs b c) (outcome_by l objects target ys es b c)
+    agree_by : (ds : List Plan) (xs ys : List AreaAnswer) (cs es : List Plain) (b c : Bool) → has_fault xs ≡ b → has_undecided xs ≡ c → AreAnswers l l.areas ds xs cs → AreAnswers l l.areas ds ys es → Agree (outcome_by l objects target xs cs b c) (outcome_by l objects target ys es b c)
     agree_by ds xs ys cs es true c f g h k = record { status = refl; lines = alike_all l.areas ds xs ys cs es (lines.verdict verdict.Rejected ∷ []) (lines.verdict verdict.Rejected ∷ []) (same refl, tt) h k; filings = tt }
     agree_by ds xs ys cs es false true f g h k = record { status = refl; lines = alike_all l.areas ds xs ys cs es (lines.verdict verdict.Undecided ∷ []) (lines.verdict verdict.Undecided ∷ []) (same refl, tt) h k; filings = tt }
     agree_by ds xs ys cs es false false f g h k = record {
@@ -394,6 +394,6 @@ module _ (laws : AreaLaws) (l : Layout) where
 
     pub areas_agree : (ds : List Plan) (xs ys : List AreaAnswer) (cs es : List Plain) → AreAnswers l l.areas ds xs cs → AreAnswers l l.areas ds ys es → Agree (areas_outcome l objects target xs cs) (areas_outcome l objects target ys es)
     areas_agree ds xs ys cs es h k =
-        subst (λ (b : Bool). Agree (outcome_by l objects target xs cs (has_fault xs) (has_left xs)) (outcome_by l objects target ys es b (has_left ys))) (same_faults l.areas ds xs ys cs es h k)
-        (subst (λ (c : Bool). Agree (outcome_by l objects target xs cs (has_fault xs) (has_left xs)) (outcome_by l objects target ys es (has_fault xs) c)) (same_left l.areas ds xs ys cs es h k)
-        (agree_by ds xs ys cs es (has_fault xs) (has_left xs) refl refl h k))
+        subst (λ (b : Bool). Agree (outcome_by l objects target xs cs (has_fault xs) (has_undecided xs)) (outcome_by l objects target ys es b (has_undecided ys))) (same_faults l.areas ds xs ys cs es h k)
+        (subst (λ (c : Bool). Agree (outcome_by l objects target xs cs (has_fault xs) (has_undecided xs)) (outcome_by l objects target ys es (has_fault xs) c)) (same_left l.areas ds xs ys cs es h k)
+        (agree_by ds xs ys cs es (has_fault xs) (has_undecided xs) refl refl h k))

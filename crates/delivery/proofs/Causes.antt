@@ -13,8 +13,8 @@ use Rattle.commands.specs.Gathering as gathering
 use Rattle.commands.specs.Gathering.{Gathered, Gathers}
 use Rattle.delivery.specs.Causes.{HasOutcome, HasSoundRows, HasFault, HasLargeArea, Accepts, Rejects, LeavesUndecided, IsOversized}
 use Rattle.delivery.specs.Judging.{findings, objects, IsTextOf, IsClean, AreJudged, IsRowsChecked, faulty, oversized, judged, IsChecked, at_fault, well_formed}
-use Rattle.delivery.specs.AreaAnswers.{HasFaultyArea, ArePartedAreas, AreLeftAreas}
-use Rattle.reports.specs.AreaKinds.{has_fault, has_left}
+use Rattle.delivery.specs.AreaAnswers.{HasFaultyArea, ArePartedAreas, AreUndecidedAreas}
+use Rattle.reports.specs.AreaKinds.{has_fault, has_undecided}
 use Rattle.delivery.specs.AreaLimits.{has_too_large}
 use Rattle.reports.specs.Outcomes.{Target, check_target, trial_target, Outcome, usage, unread, too_long, area_too_large, refused, compiled, misbuilt, rejected, areas_outcome, verified}
 use Rattle.delivery.specs.FiledTexts as filed_texts
@@ -34,13 +34,13 @@ module _ (laws : AreaLaws) (held : Option Files) (counted : List ℕ → Type 0)
   module _ (c : Command) (target : Target) (i : IsCommand words c) (l : Layout) (text : List ℕ) (g_ : Gathers held counted c (gathering.texts l (text ∷ [])))
       (accepts : HasSoundRows l text (ArePartedAreas l) → Accepts c l (text ∷ []))
       (rejects : HasFault l text ⊎ HasSoundRows l text (HasFaultyArea l) → Rejects c l (text ∷ []))
-      (leaves : HasSoundRows l text (AreLeftAreas l) → LeavesUndecided c l (text ∷ []))
+      (leaves : HasSoundRows l text (AreUndecidedAreas l) → LeavesUndecided c l (text ∷ []))
       (exceeds : HasLargeArea l text → IsOversized c l (text ∷ [])) where
     -- the status of the answers to areas
     areas_mean : (rows : List (List Row)) → IsTextOf l text rows → IsClean l rows → has_too_large rows l.areas ≡ false → (o : Outcome) → AreJudged target l rows o → HasCause held counted words o.status
-    areas_mean rows t k b o j = moved o (areas_outcome l (objects rows) target j.answers j.certificates) j.is (by (has_fault j.answers) (has_left j.answers) refl refl)
+    areas_mean rows t k b o j = moved o (areas_outcome l (objects rows) target j.answers j.certificates) j.is (by (has_fault j.answers) (has_undecided j.answers) refl refl)
       where
-        by : (f g : Bool) → has_fault j.answers ≡ f → has_left j.answers ≡ g
+        by : (f g : Bool) → has_fault j.answers ≡ f → has_undecided j.answers ≡ g
             → HasCause held counted words (outcome_by l (objects rows) target j.answers j.certificates f g).status
         by true g f h = (c, l, text ∷ [], i, g_, rejects (inr (rows, t, k, b, faulty_area laws l rows j.drawings j.answers j.certificates j.drawn j.answered f)))
         by false true f h = (c, l, text ∷ [], i, g_, leaves (rows, t, k, b, left_areas laws l rows j.drawings j.answers j.certificates j.drawn j.answered f h))
@@ -104,7 +104,7 @@ fixed_as : (o p : Outcome) → o ≡ p → IsFixed p.status → IsFixed o.status
 fixed_as o p e h = subst (λ (x : Outcome). IsFixed x.status) (sym e) h
 
 areas_fixed : (target : Target) (l : Layout) (rows : List (List Row)) (o : Outcome) → AreJudged target l rows o → IsFixed o.status
-areas_fixed target l rows o j = fixed_as o (areas_outcome l (objects rows) target j.answers j.certificates) j.is (by (has_fault j.answers) (has_left j.answers))
+areas_fixed target l rows o j = fixed_as o (areas_outcome l (objects rows) target j.answers j.certificates) j.is (by (has_fault j.answers) (has_undecided j.answers))
   where
     by : (f g : Bool) → IsFixed (outcome_by l (objects rows) target j.answers j.certificates f g).status
     by true g = tt

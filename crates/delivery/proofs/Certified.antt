@@ -7,7 +7,7 @@ use Rattle.table_layout.specs.Layouts.{AreaOf, Layout}
 use Rattle.plane.specs.Rule.Plans.{Plan}
 use Rattle.delivery.specs.Causes.{HasOutcome}
 use Rattle.delivery.specs.AreaAnswers.{IsAnswer, faulty, undecided, proved, AreAnswers}
-use Rattle.reports.specs.AreaKinds.{is_fault, is_left, has_fault, has_left}
+use Rattle.reports.specs.AreaKinds.{is_fault, is_undecided, has_fault, has_undecided}
 use Rattle.delivery.specs.AreaCertificates.{IsCertificateOf, AreCertificatesOf}
 use Rattle.delivery.specs.AreaLimits.{has_too_large}
 use Rattle.delivery.specs.Certified.{AreCertified, Certifies}
@@ -31,12 +31,12 @@ use Rattle.delivery.proofs.AreaLemmas.{AreaLaws, outcome_by, differ, neither, fa
 use Rattle.commands.proofs.OneCommand.{one_command}
 
 -- ---- one certificate for each area
-one_certificate : (l : Layout) (a : AreaOf) (d : Plan) (x : AreaAnswer) (here : List Plain) → IsAnswer l a d x here → is_fault x ≡ false → is_left x ≡ false → (c : Plain) × (here ≡ c ∷ []) × IsCertificateOf l a d c
+one_certificate : (l : Layout) (a : AreaOf) (d : Plan) (x : AreaAnswer) (here : List Plain) → IsAnswer l a d x here → is_fault x ≡ false → is_undecided x ≡ false → (c : Plain) × (here ≡ c ∷ []) × IsCertificateOf l a d c
 one_certificate l a d x here (faulty n h e z) f g = differ (is_fault x) (ap is_fault e ∙ fault_is_fault d n) f
-one_certificate l a d x here (undecided i j h e z) f g = differ (is_left x) (ap is_left e) g
+one_certificate l a d x here (undecided i j h e z) f g = differ (is_undecided x) (ap is_undecided e) g
 one_certificate l a d x here (proved c h v e z) f g = (c, z, h)
 
-certificates : (l : Layout) (as_ : List AreaOf) (ds : List Plan) (xs : List AreaAnswer) (cs : List Plain) → AreAnswers l as_ ds xs cs → has_fault xs ≡ false → has_left xs ≡ false → AreCertificatesOf l as_ ds cs
+certificates : (l : Layout) (as_ : List AreaOf) (ds : List Plan) (xs : List AreaAnswer) (cs : List Plain) → AreAnswers l as_ ds xs cs → has_fault xs ≡ false → has_undecided xs ≡ false → AreCertificatesOf l as_ ds cs
 certificates l [] [] [] cs h f g = subst (AreCertificatesOf l [] []) (sym h) tt
 certificates l [] [] (x ∷ xs) cs h f g = absurd h
 certificates l [] (d ∷ ds) xs cs h f g = absurd h
@@ -44,7 +44,7 @@ certificates l (a ∷ as_) [] xs cs h f g = absurd h
 certificates l (a ∷ as_) (d ∷ ds) [] cs h f g = absurd h
 certificates l (a ∷ as_) (d ∷ ds) (x ∷ xs) cs h f g =
     let n = neither (is_fault x) (has_fault xs) f in
-    let m = neither (is_left x) (has_left xs) g in
+    let m = neither (is_undecided x) (has_undecided xs) g in
     let one = one_certificate l a d x h.0 h.2 n.0 m.0 in
     let whole : cs ≡ one.0 ∷ h.1 = h.4 ∙ ap (λ (here : List Plain). here ++ h.1) one.1 in
     subst (AreCertificatesOf l (a ∷ as_) (d ∷ ds)) (sym whole) (one.2, certificates l as_ ds xs h.1 h.3 n.1 m.1)
@@ -63,14 +63,14 @@ status_of o p e h = sym (ap (λ (x : Outcome). x.status) e) ∙ h
 
 module _ (target : Target) (l : Layout) (text : List ℕ) (o : Outcome) (s : o.status ≡ Accepted) where
   filed_areas : (rows : List (List Row)) → IsTextOf l text rows → IsClean l rows → has_too_large rows l.areas ≡ false → AreJudged target l rows o → HasFiled target.name (gathering.texts l (text ∷ [])) o
-  filed_areas rows t k b j = by (has_fault j.answers) (has_left j.answers) refl refl
+  filed_areas rows t k b j = by (has_fault j.answers) (has_undecided j.answers) refl refl
     where
-      by_bits : (f g : Bool) → has_fault j.answers ≡ f → has_left j.answers ≡ g → o ≡ outcome_by l (objects rows) target j.answers j.certificates f g
+      by_bits : (f g : Bool) → has_fault j.answers ≡ f → has_undecided j.answers ≡ g → o ≡ outcome_by l (objects rows) target j.answers j.certificates f g
       by_bits f g e h =
-          j.is ∙ ap (λ (b : Bool). outcome_by l (objects rows) target j.answers j.certificates b (has_left j.answers)) e
+          j.is ∙ ap (λ (b : Bool). outcome_by l (objects rows) target j.answers j.certificates b (has_undecided j.answers)) e
           ∙ ap (outcome_by l (objects rows) target j.answers j.certificates f) h
 
-      by : (f g : Bool) → has_fault j.answers ≡ f → has_left j.answers ≡ g → HasFiled target.name (gathering.texts l (text ∷ [])) o
+      by : (f g : Bool) → has_fault j.answers ≡ f → has_undecided j.answers ≡ g → HasFiled target.name (gathering.texts l (text ∷ [])) o
       by true g e h = absurd (let q = status_of o _ (by_bits true g e h) s in cc)
       by false true e h = absurd (let q = status_of o _ (by_bits false true e h) s in cc)
       by false false e h = record {

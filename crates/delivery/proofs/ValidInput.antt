@@ -17,7 +17,7 @@ use Rattle.reports.specs.Verifications.{Verification}
 use Rattle.reports.specs.declared.status.Status.{Status}
 use Rattle.reports.specs.declared.status.Status.TheVariants.{Accepted, Rejected, Undecided, ModelRefused, Usage, ReadFault, WriteFault, OverLimit, Memory, NotProved}
 use Rattle.delivery.specs.Answers.{HasCause, Passes, IsStopped}
-use Rattle.delivery.specs.AreaAnswers.{IsDrawn, IsFaultyPlan, IsUndecidedPlan, HasFaultyArea, ArePartedAreas, AreLeftAreas, IsSettledArea, AreSettledPartitions}
+use Rattle.delivery.specs.AreaAnswers.{IsDrawn, IsFaultyPlan, IsUndecidedPlan, HasFaultyArea, ArePartedAreas, AreUndecidedAreas, IsSettledArea, AreSettledPartitions}
 use Rattle.delivery.specs.AreaLimits.{has_too_large}
 use Rattle.delivery.specs.Causes.{HasSoundRows, HasFault, HasLargeArea, AreProved, AreUnproved, Rejects, LeavesUndecided, Unproves, IsOversized, IsValidInput}
 use Rattle.delivery.specs.Judging.{lines_of, IsTextOf, IsClean}
@@ -43,7 +43,7 @@ module _ (l : Layout) (rows : List (List Row)) where
     | inr t ↦ unsettled h.0 h.2.first h.2.second h.2.pair t.2.0 t.2.1 (subst (λ (d : Plan). IsSettledAt d t.2.0) (one_drawing l rows a t.0 h.0 t.1 h.1) t.2.2)
   ]
 
-  none_undecided : AreSettledPartitions l rows → AreLeftAreas l rows → ⊥
+  none_undecided : AreSettledPartitions l rows → AreUndecidedAreas l rows → ⊥
   none_undecided s h =
       let b = both_at (IsSettledArea l rows) (IsDrawn l rows IsUndecidedPlan) l.areas s.1 h.0 in
       area_decided b.0 b.1 b.2
@@ -77,14 +77,14 @@ none_of h = elim h as (λ z. ⊥) [ inl n ↦ n | inr m ↦ elim m as (λ z. ⊥
 
 -- of a text that is checked
 check_other : (l : Layout) (text : List ℕ) → HasSoundRows l text (AreSettledPartitions l)
-    → (HasFault l text ⊎ HasSoundRows l text (HasFaultyArea l)) ⊎ (HasSoundRows l text (AreLeftAreas l) ⊎ (⊥ ⊎ HasLargeArea l text)) → ⊥
+    → (HasFault l text ⊎ HasSoundRows l text (HasFaultyArea l)) ⊎ (HasSoundRows l text (AreUndecidedAreas l) ⊎ (⊥ ⊎ HasLargeArea l text)) → ⊥
 check_other l text s h = elim h as (λ z. ⊥) [
   | inl r ↦ elim r as (λ z. ⊥) [
     | inl f ↦ unfaulted l text (AreSettledPartitions l) s f
     | inr a ↦ (let b = both_sound l text (AreSettledPartitions l) s (HasFaultyArea l) a in no_fault l b.0 b.1.0 b.2)
   ]
   | inr n ↦ elim n as (λ z. ⊥) [
-    | inl a ↦ (let b = both_sound l text (AreSettledPartitions l) s (AreLeftAreas l) a in none_undecided l b.0 b.1 b.2)
+    | inl a ↦ (let b = both_sound l text (AreSettledPartitions l) s (AreUndecidedAreas l) a in none_undecided l b.0 b.1 b.2)
     | inr m ↦ elim m as (λ z. ⊥) [ inl f ↦ f | inr o ↦ within_limit l text (AreSettledPartitions l) s o ]
   ]
 ]

@@ -124,7 +124,7 @@ IsAnswer o status before after =
     o.status ≢ ReadFault → Answers o status before after ⊎ IsStopped status
 
 -- no count of faults rose
-pub record IsFaultless (read : List ℕ → Type 0) (wrote put : Type 0) : Type 0 where
+pub record HasNoCountedFault (read : List ℕ → Type 0) (wrote put : Type 0) : Type 0 where
   pub no_read : (name : List ℕ) → read name → ⊥
   pub no_write : wrote → ⊥
   pub no_put : put → ⊥

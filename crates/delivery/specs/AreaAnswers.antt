@@ -90,13 +90,13 @@ pub record IsUndecidedPlan (d : Plan) : Type 0 where
   pub half_arc : IsHalfArc d first ⊎ IsHalfArc d second
 
 -- the drawing is undecided, or a partition
-abbrev pub IsFaultlessPlan : Plan → Type 0
-IsFaultlessPlan d = IsUndecidedPlan d ⊎ IsPartition d
+abbrev pub IsUndecidedOrPartition : Plan → Type 0
+IsUndecidedOrPartition d = IsUndecidedPlan d ⊎ IsPartition d
 
 -- some area is undecided, and each other one is undecided or a partition
-abbrev pub AreLeftAreas : Layout → List (List Row) → Type 0
-AreLeftAreas l rows =
-    Any (IsDrawn l rows IsUndecidedPlan) l.areas × All (IsDrawn l rows IsFaultlessPlan) l.areas
+abbrev pub AreUndecidedAreas : Layout → List (List Row) → Type 0
+AreUndecidedAreas l rows =
+    Any (IsDrawn l rows IsUndecidedPlan) l.areas × All (IsDrawn l rows IsUndecidedOrPartition) l.areas
 
 -- all lines of areas are straights
 abbrev pub HaveStraightLines : Layout → List (List Row) → Type 0

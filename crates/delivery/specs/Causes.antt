@@ -3,7 +3,7 @@ use Rattle.std.specs.Prelude.{◌≡◌, ◌≢◌, ℕ, true, false, List, [], 
 use Rattle.itf_reader.specs.Forms.{Row}
 use Rattle.itf_reader.specs.Readings.{Structure}
 use Rattle.table_layout.specs.Layouts.{Layout}
-use Rattle.delivery.specs.AreaAnswers.{HasFaultyArea, ArePartedAreas, AreLeftAreas}
+use Rattle.delivery.specs.AreaAnswers.{HasFaultyArea, ArePartedAreas, AreUndecidedAreas}
 use Rattle.delivery.specs.AreaAnswers.{HaveStraightLines, AreSettledPartitions}
 use Rattle.delivery.specs.AreaLimits.{has_too_large}
 use Rattle.commands.specs.Commands.{Command, compile, check, verify, trial}
@@ -33,8 +33,8 @@ HasOutcome (trial n c) (gathering.texts l (text ∷ [])) o = IsChecked (trial_ta
 HasOutcome (trial n c) (gathering.texts l ts) o = ⊥
 
 -- ---- the tests that the causes of the answers are made of
--- the transfer has rows that meet the declarations, and no AREA is over its limit; and of the
--- rows so much
+-- the transfer has rows that meet the declarations, and no AREA is over its limit; and the
+-- rows pass the test
 abbrev pub HasSoundRows : Layout → List ℕ → (List (List Row) → Type 0) → Type 0
 HasSoundRows l text test =
     (rows : List (List Row)) × IsTextOf l text rows × IsClean l rows
@@ -78,10 +78,10 @@ Rejects (trial n c) l ts = ⊥
 -- partition
 abbrev pub LeavesUndecided : Command → Layout → List (List ℕ) → Type 0
 LeavesUndecided (compile model) l ts = ⊥
-LeavesUndecided (check c) l (text ∷ []) = HasSoundRows l text (AreLeftAreas l)
+LeavesUndecided (check c) l (text ∷ []) = HasSoundRows l text (AreUndecidedAreas l)
 LeavesUndecided (check c) l ts = ⊥
 LeavesUndecided (verify c) l ts = ⊥
-LeavesUndecided (trial n c) l (text ∷ []) = HasSoundRows l text (AreLeftAreas l)
+LeavesUndecided (trial n c) l (text ∷ []) = HasSoundRows l text (AreUndecidedAreas l)
 LeavesUndecided (trial n c) l ts = ⊥
 
 -- all lines of AREAs in the transfer are straights

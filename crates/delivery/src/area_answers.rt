@@ -11,7 +11,7 @@ ghost use Rattle.delivery.specs.AreaAnswers.{IsAnswer, AreAnswers};
 ghost use Rattle.reports.specs.AreaKinds.{plans};
 ghost use Rattle.delivery.specs.AreaAnswers.{fault_answer, undecided_answer};
 ghost use Rattle.reports.specs.AreaKinds.{proof_answer};
-ghost use Rattle.reports.specs.AreaKinds.{is_fault, is_left, has_fault, has_left};
+ghost use Rattle.reports.specs.AreaKinds.{is_fault, is_undecided, has_fault, has_undecided};
 ghost use Rattle.delivery.specs.AreaAnswers.{curve_line, object_line};
 ghost use Rattle.reports.specs.AreaNames.{HasTitle};
 ghost use Rattle.delivery.specs.AnswerViews.{certificates_in, named};

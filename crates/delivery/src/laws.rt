@@ -17,7 +17,7 @@ ghost use Rattle.ports.specs.declared.memory_shelf.MemoryShelf.{MemoryShelf};
 ghost use Rattle.itf_reader.specs.Forms.{Row};
 ghost use Rattle.delivery.specs.Causes.{HasStraightAreas, IsValidInput};
 ghost use Rattle.delivery.specs.Answers.{AgreeUnlessUnread, HasCause, IsStopped, Passes};
-ghost use Rattle.delivery.specs.AreaAnswers.{AreLeftAreas, HaveStraightLines};
+ghost use Rattle.delivery.specs.AreaAnswers.{AreUndecidedAreas, HaveStraightLines};
 ghost use Rattle.delivery.specs.Certified.{AreCertified};
 ghost use Rattle.delivery.specs.Deciding.{Decides};
 ghost use Rattle.delivery.specs.FiledTexts.{IsVerified};
@@ -86,7 +86,7 @@ pub fn accepted_is_verified()
 /// be read.
 pub fn straights_are_decided()
     ensures areas { (l : Layout) (rows : List (List Row))
-        → HaveStraightLines l rows → AreLeftAreas l rows → ⊥ }
+        → HaveStraightLines l rows → AreUndecidedAreas l rows → ⊥ }
     ensures calls { (files : Files) (before after from upto : List ℕ → ℕ)
         (words : List (List ℕ))
         → Passes (Some files) (ReadRose before after) words HasStraightAreas

@@ -18,9 +18,9 @@
 //! - **Drawings.** `drawing` turns the rows of an area into curves and points of the plane, each
 //!   with its line in the transfer. What makes a drawing a partition is said in `plane`; faults and
 //!   certificates are found by `area_search`, and certificates judged by `certificate_checker`.
-//! - **What is left undecided:** an area whose drawing no level settles. Two of its lines are
-//!   reported that stand too close to each other at the last level, of which one has an arc, or the
-//!   line of one arc that has no tube there, twice. An area of straights is always decided
+//! - **What is undecided:** an area whose drawing no level settles. The first two of its curves that
+//!   break the last level are reported by their lines, of which one is half an arc; or the line of
+//!   one half arc that has no tube there, twice. An area of straights is always decided
 //!   (`laws::straights_are_decided`), and `verify` leaves nothing undecided.
 //! - **Degenerate cases:** an empty file is read as one; a model without a table and a transfer
 //!   without an object are decided; two words may name one file, since all reads come before the
@@ -45,7 +45,7 @@
 //! `certificate_checker` say. Of a model its layout is held while the transfer is read, and its
 //! text, which is at most 4,194,304 bytes long.
 //! A transfer is read in pieces of 65,536 bytes and never held: each row is judged when it is
-//! closed, and of it stay its findings, 20 bytes and its keys, and where it belongs to an area 24
+//! closed; kept of it are its findings, its keys and 20 bytes, and where it belongs to an area 24
 //! bytes for each vertex or point. From these the areas are drawn, with 56 bytes for a curve;
 //! then the drawings are searched, or checked against the text of the certificates, one by one.
 #![tactic(auto)]

@@ -23,7 +23,7 @@ use reports::outcome::{
 use std::alloc::Global;
 use table_layout::Layout;
 
-// The outcome of so many objects without a finding and the drawings of all areas.
+// The outcome of a number of objects without a finding and of the drawings of all areas.
 fn check_areas<'a>(
     alloc: Global,
     target: &Target<'a>,
@@ -43,8 +43,8 @@ fn check_areas<'a>(
     areas_outcome(alloc, layout, count, target, answers)
 }
 
-/// The outcome of a check or a trial whose transfer came to that. The certificates go to the
-/// target.
+/// The outcome of a check or a trial, by what its transfer was judged to be. The certificates go to
+/// the target.
 pub fn checked<'a>(
     alloc: Global,
     target: &Target<'a>,
@@ -65,7 +65,7 @@ pub fn checked<'a>(
     }
 }
 
-// Judges filed certificates against the drawings of all areas of so many objects.
+// Judges filed certificates against the drawings of all areas of a number of objects.
 fn verify_drawn<'a>(
     alloc: Global,
     layout: &Layout,
@@ -83,7 +83,7 @@ fn verify_drawn<'a>(
     verified(alloc, layout, count, drawings, &verification)
 }
 
-/// The outcome of filed certificates whose transfer came to that.
+/// The outcome of a verify, by what its transfer was judged to be and by the filed text.
 pub fn verified_by<'a>(
     alloc: Global,
     layout: &Layout,

@@ -3,7 +3,7 @@ ghost use Rattle.std.specs.Prelude.{◌≡◌, ◌≢◌, ◌≤◌, ◌⊎◌, 
 ghost use Rattle.ports.specs.Faults.{Rose, NoReadFell, ReadRose, CountsStay};
 ghost use Rattle.ports.specs.Files.{Files};
 ghost use Rattle.delivery.specs.Causes.{HasStraightAreas, IsValidInput};
-ghost use Rattle.delivery.specs.Answers.{HasCause, Passes, IsAnswer, IsFaultless, IsComplete};
+ghost use Rattle.delivery.specs.Answers.{HasCause, Passes, IsAnswer, HasNoCountedFault, IsComplete};
 ghost use Rattle.delivery.specs.Answers.{IsStopped};
 ghost use Rattle.delivery.specs.Certified.{Certifies};
 ghost use Rattle.delivery.specs.Deciding.{Decides};
@@ -85,7 +85,7 @@ pub fn run<S: Shelf, K: Sink>(alloc: Global, words: &[Word], shelf: &mut S, out:
         × (K.faults out.new ≡ K.faults out.old) }
 
     // Where no count of faults rose, the answer is that of an outcome, or out of memory.
-    ensures complete { IsFaultless (ReadRose (S.read_faults shelf.old) (S.read_faults shelf.new))
+    ensures complete { HasNoCountedFault (ReadRose (S.read_faults shelf.old) (S.read_faults shelf.new))
         (Rose (S.write_faults shelf.old) (S.write_faults shelf.new))
         (Rose (K.faults out.old) (K.faults out.new))
         → IsComplete (S.held shelf.old) words.now result }

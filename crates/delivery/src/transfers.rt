@@ -8,10 +8,10 @@ ghost use Rattle.itf_reader.specs.Names.{form_in};
 ghost use Rattle.table_layout.specs.Valid.{IsValid};
 ghost use Rattle.table_layout.specs.Values.{layout_view};
 ghost use Rattle.delivery.specs.Pieces.{Takes, ArePieces, IsTransfer, IsJudged};
-ghost use Rattle.commands.specs.Reading.{IsWhole, IsLonger, IsFront, IsEnd};
+ghost use Rattle.commands.specs.Reading.{IsWhole, IsLonger, IsFront};
 
 use crate::judging::{Judge, Judged};
-use commands::{File, FileRefusal, buffer};
+use commands::{File, FileRefusal, PIECE, buffer, read_piece};
 use itf_reader::Names;
 use ports::{Memory, Shelf};
 use std::alloc::Global;
@@ -22,43 +22,6 @@ use table_layout::Layout;
 pub enum TransferReading {
     Unread(FileRefusal),
     Judged(Judged),
-}
-
-// The length of a piece, in bytes.
-const PIECE: usize = 65_536;
-
-// Reads the next piece: how many bytes it has, none at the end of the file.
-fn read_piece<S: Shelf>(
-    shelf: &mut S,
-    name: &str,
-    from: u64,
-    piece: &mut [u8],
-) -> Result<usize, FileRefusal>
-    requires room { 0 < length piece.old }
-    ensures front { IfOk result (λ n. (front : List ℕ) → length front ≡ from
-        → IsFront (S.held shelf.old) name.now front
-        → IsFront (S.held shelf.old) name.now (front ++ take n piece.new)) }
-    ensures ended { IfOk result (λ n. n ≡ 0 → (front : List ℕ) → length front ≡ from
-        → IsFront (S.held shelf.old) name.now front
-        → IsEnd (S.held shelf.old) name.now front) }
-    ensures fits { IfOk result (λ n. n ≤ length piece.new) }
-    ensures same { length piece.new ≡ length piece.old }
-    ensures held { S.held shelf.new ≡ S.held shelf.old }
-    ensures writes { S.write_faults shelf.old ≤ S.write_faults shelf.new }
-    ensures reads { NoReadFell (S.read_faults shelf.old) (S.read_faults shelf.new) }
-    ensures cause { IsErrOf result FileRefusal.Failed
-        → Rose (S.read_faults shelf.old name.now) (S.read_faults shelf.new name.now) }
-    ensures refusal { IsErrOf result FileRefusal.TooLong → ⊥ }
-    ensures ready { StaysReady (S.readable shelf.old) (S.space shelf.old) (S.readable shelf.new)
-        (S.space shelf.new) }
-    ensures stay { S.readable shelf.old name.now
-        → CountsStay (S.read_faults shelf.old) (S.write_faults shelf.old)
-        (S.read_faults shelf.new) (S.write_faults shelf.new) }
-{
-    match shelf.read(name, from, piece) {
-        Ok(n) => Ok(n),
-        Err(_) => Err(FileRefusal::Failed),
-    }
 }
 
 // Takes a piece of the text.
@@ -162,8 +125,8 @@ fn judge_file<S: Shelf>(
 /// Reads the file of a transfer in pieces of 65,536 bytes, and judges it by the layout of its
 /// model. It is read to its end, or up to a piece past its limit, whatever its first lines hold.
 ///
-/// Cost: time in proportion to the file, and what its findings and keys take to sort. Held are a
-/// piece, one line, the row that is open and the one that was closed last, and of all rows their
+/// Cost: time in proportion to the file, for each object also to the POLYLINE attributes and the
+/// IDENT lists of its table, and what its findings and keys take to sort. Held are a piece, one line, the row that is open and the one that was closed last, and of all rows their
 /// findings and keys and the places that areas are drawn from.
 pub fn read_transfer<S: Shelf>(
     alloc: Global,

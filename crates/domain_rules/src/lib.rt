@@ -10,14 +10,14 @@
 //!   reported at column 0 and nothing else. Its columns have the numbers from 1 on, its lines those
 //!   after them, and each column has at most one finding, by the first test that fails. An
 //!   optional column may have undefined words alone.
-//! - **Vertices** have at most one finding each: a field that has an axis is no number within its
-//!   bounds, then there is not one field for each axis (`Coord`), then it lies on an arc and its
-//!   line has none (`Arcs`).
+//! - **Vertices** have at most one finding each: that of the first field which is no number within
+//!   the bounds of its axis; else `Coord`, where there are more or fewer fields than axes; else
+//!   `Arcs`, for an ARCP of a line that may have no arcs.
 //! - **Lines** without vertices are undefined, which only an optional one may be. Where all
 //!   vertices are clean, a line of an AREA has more than one point (`Short`, reported where it
-//!   begins), and each arc is one (`Arc`, reported where it ends): its ends are two places, and
-//!   where the three places lie on one straight, the middle one lies between the ends or on one of
-//!   them. Places are compared by their numbers, `1.0` as `1.00`, and by x and y alone.
+//!   begins), and each ARCP makes an arc with the vertices beside it (`Arc`, reported where the
+//!   arc ends): the ends are two places, and where the three places lie on one straight, the middle
+//!   one lies between the ends or on one of them. Places are compared by their numbers, `1.0` as `1.00`, and by x and y alone.
 //! - **What is proved.** The answer of `check_values` is `value_findings`, which goes over tables
 //!   and rows (`row_findings` of `itf_reader`). `field_ok` answers none exactly where no word is
 //!   undefined and the words are a value of the form (`Meets`). Where nothing is found, each vertex

@@ -14,8 +14,9 @@
 //!   day from 01 to 31; neither the year nor the length of the month is looked at.
 //! - **Leaves** of an enumeration are numbered from 0 and written in digits alone, with no zero in
 //!   front. Horizontal alignments have three leaves, vertical ones five.
-//! - **Vertices**: a field that has an axis is no number within its bounds, then there is not one
-//!   field for each axis (`Coord`). A field without an axis is not judged as a number.
+//! - **Vertices** break at most one rule: that of the first field which is no number within the
+//!   bounds of its axis; else `Coord`, where there are more or fewer fields than axes. A field
+//!   without an axis is not judged as a number.
 //! - **Places** are compared by their numbers, `1.0` as `1.00`. No arc leads over three of them
 //!   whose ends are one place, or which lie on one straight, the middle one outside of the ends.
 //! - **What is proved.** Each answer is a function of `specs/`: `field_fault` and `value_of` by

@@ -12,8 +12,9 @@ use super::value::{ValueFault, VertexValue};
 use itf_lines::Field;
 use resolver::{Limits, LineForm};
 
-/// What the fields of a vertex stand for, or the first rule that they break: a field that has an
-/// axis is no number within its bounds, or there is not one field for each axis.
+/// What the fields of a vertex stand for, or the rule that they break: that of the first field
+/// which is no number within the bounds of its axis; else `Coord`, where there are more or fewer
+/// fields than axes. A field without an axis is not judged as a number.
 pub fn read_vertex(form: &LineForm, words: &[Field]) -> Result<VertexValue, ValueFault>
     ensures read { vertex_view result ≡ reading (vertex_fault (line_of form.now) words.now)
         (numbers_on (line_axes (line_of form.now)) words.now) }

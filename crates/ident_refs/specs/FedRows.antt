@@ -9,7 +9,7 @@ use Rattle.itf_reader.specs.Layouts.{form_of}
 use Rattle.ident_refs.specs.KeptRows.{Kept, with_row}
 use Rattle.ident_refs.specs.KeyFindings.{tables_keys}
 
--- the places of IDENT lists can be counted
+-- each place in its IDENT lists is below 4,194,306
 abbrev pub HasPlaces : Table → Type 0
 HasPlaces t = All (All (λ p. p < 4194306)) t.idents
 

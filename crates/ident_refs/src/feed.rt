@@ -114,7 +114,7 @@ fn add_findings(
 }
 
 impl<'a> KeyFeed<'a> {
-    /// No row.
+    /// No row. The only error is out of memory.
     pub fn new(alloc: Global, layout: &'a Layout) -> Result<KeyFeed<'a>, Memory>
         requires { IsValid (layout_view layout.now) }
         ensures { IfOk result (λ feed. HasRows (layout_view layout.now) feed []) }

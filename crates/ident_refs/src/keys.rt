@@ -13,7 +13,8 @@ use std::alloc::Global;
 use table_layout::Layout;
 
 /// Which identifications and IDENT values of a transfer that was read for the layout an earlier
-/// row of the table has, and which references name no row, in order of line, column and code.
+/// row of the table has, and which references name no row, in order of line, column and code. The
+/// only error is out of memory.
 pub fn check_keys(
     alloc: Global,
     layout: &Layout,

@@ -1,7 +1,7 @@
--- Tables whose columns and lines can be counted.
+-- Tables of at most 4,194,306 columns and lines.
 use Rattle.std.specs.Prelude.{◌+◌, ◌≤◌, length}
 use Rattle.table_layout.specs.Layouts.{Table}
 
--- few columns and lines
+-- at most 4,194,306 columns and lines together
 abbrev pub HasFew : Table → Type 0
 HasFew t = length t.columns + length t.lines ≤ 4194306

@@ -75,7 +75,7 @@ abbrev pub heights_of : LineForm → Vertex → List ℤ
 heights_of l v = drop 2 (numbers_on (line_axes l) v.fields)
 
 -- ---- vertices that are all clean
--- the middle one of three vertices lies on an arc, and there is none
+-- the middle one is an ARCP, and no arc leads from the first over it to the last
 abbrev pub is_bad_arc : Seen → Seen → Seen → Bool
 is_bad_arc s m e = is_on_arc m.kind && is_no_arc s.at m.at e.at
 
@@ -89,7 +89,7 @@ arc_findings column (s ∷ []) = []
 arc_findings column (s ∷ m ∷ []) = []
 arc_findings column (s ∷ m ∷ e ∷ vs) = arc_finding column s m e ++ arc_findings column (m ∷ e ∷ vs)
 
--- each arc is one
+-- each ARCP makes an arc with the vertices beside it
 abbrev pub are_arcs : List Seen → Bool
 are_arcs [] = true
 are_arcs (s ∷ []) = true

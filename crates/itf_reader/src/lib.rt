@@ -38,11 +38,12 @@
 //!   the line of four slashes each word may come, and after ENDE none.
 //!
 //! Cost: `Names` sorts the names of a layout, n log n for every layout, and each line TOPI or TABL
-//! looks one up by binary search. A feed goes over the lines once and copies their fields. A vertex
-//! takes 12 bytes, and 16 for each of its fields. A `RowFeed`
-//! holds the open row and the one that was closed last, and the numbers of the topics and tables
-//! so far; the lists of a row's fields and strokes are used again. A `TransferFeed` holds all rows,
-//! each moved out of the feed below, and sorts the names anew for each piece.
+//! looks one up by binary search. A feed goes over the lines once and copies their fields; each
+//! object takes time for each POLYLINE attribute of its table too, also for those that it leaves
+//! out. A vertex takes 12 bytes, and 16 for each of its fields. A `RowFeed` holds the open row and
+//! the one that was closed last, and the numbers of the topics and tables so far; the lists of a
+//! row's fields and strokes are used again. A `TransferFeed` holds all rows, each moved out of the
+//! feed below, and sorts the names anew for each piece.
 #![tactic(auto)]
 
 mod fields;

@@ -1,4 +1,4 @@
-// The tubes of half arcs, judged by hand.
+// The tubes of half arcs at level 0, corner by corner.
 ghost use Rattle.std.specs.Prelude.{◌≡◌, ◌^◌, IfOk, IsTrue, Some};
 ghost use Rattle.plane.specs.Lists.{Each};
 ghost use Rattle.plane.specs.Numbers.{IsWithin};

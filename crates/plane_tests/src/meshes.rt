@@ -1,6 +1,7 @@
 // What a caller concludes from the clauses of `Mesh` alone. Meshes of whole drawings, with faces
 // and links, are those of the accepted rows of `worked_rows`, whose certificates show them.
 ghost use Rattle.std.specs.Prelude.{◌≡◌, ℕ, ◌+◌, ◌-◌, IfOk, ◌<◌, length, slice_index};
+ghost use Rattle.half_edges.specs.HalfEdges.{size};
 ghost use Rattle.half_edges.specs.Meshes.{with_edge, without_edges};
 ghost use Rattle.half_edges.specs.Stars.{IsStar, IsLoose};
 
@@ -28,6 +29,7 @@ fn next_after_linking(mesh: &mut Mesh, around: &[HalfEdgeId], k: usize) -> HalfE
 fn bend(alloc: Global) -> Result<Mesh, Memory>
     ensures back { IfOk result (λ mesh. slice_index mesh.next 2 ≡ 0) }
     ensures forth { IfOk result (λ mesh. slice_index mesh.next 1 ≡ 3) }
+    ensures size { IfOk result (λ mesh. size mesh ≡ 4) }
 {
     let mut mesh = Mesh::new(alloc, 3)?;
     mesh.add_edge(VertexId(0), VertexId(1))?;
@@ -36,9 +38,15 @@ fn bend(alloc: Global) -> Result<Mesh, Memory>
     Ok(mesh)
 }
 
+// What comes there after 2, and after 1.
+fn after_bend(alloc: Global) -> Result<(HalfEdgeId, HalfEdgeId), Memory> {
+    let mesh = bend(alloc)?;
+    Ok((mesh.next(HalfEdgeId(2)), mesh.next(HalfEdgeId(1))))
+}
+
 #[test]
 fn callers_know_what_comes_next(rt: HostRuntime) {
-    assert!(rt; bend(rt.alloc()).is_ok());
+    assert!(rt; matches!(after_bend(rt.alloc()), Ok((HalfEdgeId(0), HalfEdgeId(3)))));
 }
 
 // One edge, from vertex 0 to vertex 1.

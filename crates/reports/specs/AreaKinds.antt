@@ -1,4 +1,4 @@
--- Which answers to areas are faults, which are left undecided, and which are proofs.
+-- Which answers to areas are faults, which are undecided, and which are proofs.
 use Rattle.std.specs.Prelude.{ℕ, Bool, true, false, List, length, map}
 use Rattle.std.specs.List.{list_any}
 use Rattle.plane.specs.Rule.Plans.{Plan, plan}
@@ -20,12 +20,12 @@ is_fault (Proved level curves points) = false
 is_fault _ = true
 
 -- the area is not decided
-abbrev pub is_left : AreaAnswer → Bool
-is_left (Undecided first second) = true
-is_left _ = false
+abbrev pub is_undecided : AreaAnswer → Bool
+is_undecided (Undecided first second) = true
+is_undecided _ = false
 
 abbrev pub has_fault : List AreaAnswer → Bool
 has_fault xs = list_any is_fault xs
 
-abbrev pub has_left : List AreaAnswer → Bool
-has_left xs = list_any is_left xs
+abbrev pub has_undecided : List AreaAnswer → Bool
+has_undecided xs = list_any is_undecided xs

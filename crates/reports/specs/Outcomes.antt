@@ -7,7 +7,7 @@ use Rattle.certificate.specs.Spelling.{Plain}
 use Rattle.itf_reader.specs.Findings.{Finding}
 use Rattle.itf_reader.specs.Readings.{Structure}
 use Rattle.table_layout.specs.Layouts.{Table, AreaOf, Layout}
-use Rattle.reports.specs.AreaKinds.{has_fault, has_left, proof_answer}
+use Rattle.reports.specs.AreaKinds.{has_fault, has_undecided, proof_answer}
 use Rattle.reports.specs.AreaNames.{topic_name, table_name}
 use Rattle.reports.specs.Lines as lines
 use Rattle.reports.specs.Lines.{Line, line_text}
@@ -137,7 +137,7 @@ trial_lines (Some n) xs cs = size_lines n xs cs
 abbrev pub with_verdict : List Line → verdicts.Verdict → List Line
 with_verdict ls v = ls ++ (lines.verdict v ∷ [])
 
--- so many objects without a finding, and these lines of the areas: the certificates go to the file
+-- accepted, with the lines of the areas and the number of objects: the certificates go to the file
 -- of that name
 abbrev pub accepted : List Line → ℕ → List ℕ → List Plain → Outcome
 accepted ls objects name cs =
@@ -147,18 +147,18 @@ accepted ls objects name cs =
       filing = Some (record { name = name; certificates = cs });
     }
 
--- So many objects without a finding, and these are the answers to the areas of the layout. One at
--- fault rejects the transfer, else one that is left leaves it undecided, else it is accepted, with
--- these certificates for the target.
+-- The outcome of a number of objects without a finding and of the answers to the areas of the
+-- layout. One at fault rejects the transfer, else one that is undecided leaves it so, else it is
+-- accepted, with these certificates for the target.
 abbrev pub areas_outcome : Layout → ℕ → Target → List AreaAnswer → List Plain → Outcome
 areas_outcome l objects target xs cs =
     if has_fault xs
     then reported status.Rejected (with_verdict (area_lines l l.areas xs) verdict.Rejected)
-    else if has_left xs
+    else if has_undecided xs
     then reported status.Undecided (with_verdict (area_lines l l.areas xs) verdict.Undecided)
     else accepted (area_lines l l.areas xs ++ trial_lines target.trial xs cs) objects target.name cs
 
--- so many objects, and drawings that are shown to be partitions at these levels
+-- the answers to drawings that are shown to be partitions at these levels
 abbrev pub proof_answers : List Plan → List ℕ → List AreaAnswer
 proof_answers [] levels = []
 proof_answers (d ∷ ds) [] = []

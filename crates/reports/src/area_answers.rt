@@ -1,7 +1,7 @@
-// Answers to areas: those that are proofs, and whether some are faults or left undecided.
+// Answers to areas: those that are proofs, and whether some are faults or undecided.
 ghost use Rattle.std.specs.Prelude.{◌≡◌};
 ghost use Rattle.plane.specs.Rule.Plans.{plan};
-ghost use Rattle.reports.specs.AreaKinds.{proof_answer, is_fault, is_left, has_fault, has_left};
+ghost use Rattle.reports.specs.AreaKinds.{proof_answer, is_fault, is_undecided, has_fault, has_undecided};
 
 use crate::lines::AreaAnswer;
 use certificate::Certificate;
@@ -45,8 +45,8 @@ pub fn has_fault(answers: &[AreaAnswer]) -> bool
     answers.iter().any(|answer| is_fault(*answer))
 }
 
-fn is_left(answer: AreaAnswer) -> bool
-    ensures { result ≡ is_left answer }
+fn is_undecided(answer: AreaAnswer) -> bool
+    ensures { result ≡ is_undecided answer }
 {
     match answer {
         AreaAnswer::Undecided { .. } => true,
@@ -59,9 +59,9 @@ fn is_left(answer: AreaAnswer) -> bool
     }
 }
 
-/// Some area is left undecided.
-pub fn has_left(answers: &[AreaAnswer]) -> bool
-    ensures { result ≡ has_left answers.now }
+/// Some area is undecided.
+pub fn has_undecided(answers: &[AreaAnswer]) -> bool
+    ensures { result ≡ has_undecided answers.now }
 {
-    answers.iter().any(|answer| is_left(*answer))
+    answers.iter().any(|answer| is_undecided(*answer))
 }

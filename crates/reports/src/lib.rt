@@ -10,9 +10,9 @@
 //!   by their lines in the transfer, and areas by their topic, table and attribute
 //!   (`specs/AreaNames`).
 //! - **Order of a report.** Findings come first, or one line for each table or area; then the line
-//!   of a trial, if it is one; the verdict is last. A call that could not read or compile has one
-//!   line, and two for wrong words.
-//! - **Areas.** One fault rejects the transfer, else an area that is left makes it undecided, else
+//!   of a trial, if it is one; the verdict is last. A call that could not read or compile, or that
+//!   met a limit, has one line, and two for wrong words.
+//! - **Areas.** One fault rejects the transfer, else one undecided area leaves it undecided, else
 //!   it is accepted.
 //! - **Not here:** which answer an area has, whether certificates prove anything, and the writing.
 //!

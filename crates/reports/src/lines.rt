@@ -32,7 +32,8 @@ pub enum AreaAnswer {
     /// A side of a curve, by its line and as seen in the direction of the curve, bounds a region
     /// without a point.
     Empty { curve: u32, left: bool },
-    /// So many curves and points are shown to be a partition, at that level of the certificate.
+    /// These numbers of curves and points are shown to be a partition, at that level of the
+    /// certificate.
     Proved { level: u8, curves: u64, points: u64 },
 }
 
@@ -48,12 +49,12 @@ pub struct AreaLine {
 /// The last line of a report.
 #[derive(Clone, Copy)]
 pub enum Verdict {
-    /// So many objects, those of helper tables included.
+    /// The number of objects, those of helper tables included.
     Accepted(u128),
     Rejected,
     Undecided,
     NotProved,
-    /// So many tables.
+    /// The number of tables.
     Compiled(u128),
 }
 

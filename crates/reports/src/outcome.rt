@@ -17,7 +17,7 @@ ghost use Rattle.reports.specs.FileRefusals.{IsNotRead};
 ghost use Rattle.commands.specs.RefusalViews.{refusal_of};
 ghost use Rattle.reports.specs.VerificationViews.{verification_of};
 
-use crate::area_answers::{Answers, has_fault, has_left, proof_answer};
+use crate::area_answers::{Answers, has_fault, has_undecided, proof_answer};
 use crate::area_names::{names_of, topic_text};
 use crate::lines::{AreaAnswer, AreaLine, Line, TableLine, Verdict};
 use crate::status::Status;
@@ -278,7 +278,7 @@ fn add_trial_lines(
     Ok(())
 }
 
-// So many objects without a finding, and the certificates for that file.
+// Accepted, with the number of objects and the certificates for the file.
 fn accepted(
     alloc: Global,
     lines: Vec<Line>,
@@ -313,8 +313,8 @@ fn ended<'a>(
     Ok(reported(alloc, status, lines))
 }
 
-/// So many objects without a finding, and these answers to the areas of the layout, whose
-/// certificates go to the target where all are proved.
+/// The outcome of a number of objects without a finding and of the answers to the areas of the
+/// layout, whose certificates go to the target where all are proved.
 pub fn areas_outcome<'a>(
     alloc: Global,
     layout: &Layout,
@@ -329,7 +329,7 @@ pub fn areas_outcome<'a>(
     if has_fault(&answers.areas) {
         return ended(alloc, Status::Rejected, lines, Verdict::Rejected);
     }
-    if has_left(&answers.areas) {
+    if has_undecided(&answers.areas) {
         return ended(alloc, Status::Undecided, lines, Verdict::Undecided);
     }
     add_trial_lines(alloc, target.trial, &answers, &mut lines)?;
@@ -355,7 +355,8 @@ fn proof_answers(
     Ok(answers)
 }
 
-/// So many objects without a finding, and what filed certificates prove of the drawings.
+/// The outcome of a number of objects without a finding and of what filed certificates prove of
+/// the drawings.
 pub fn verified<'a>(
     alloc: Global,
     layout: &Layout,

@@ -10,7 +10,7 @@ use Rattle.table_layout.specs.Tables.{tables_in}
 abbrev pub IsSmallPart : LinePart → Type 0
 IsSmallPart (a_part own lists) = length (listed own) ≤ 4194304
 
--- so have those of an attribute
+-- the lines of a SURFACE or AREA attribute have at most 4,194,304 attributes of their own
 abbrev pub HasFew : Attribute → Type 0
 HasFew (an_attribute n o (Value f)) = Unit {0}
 HasFew (an_attribute n o (Polyline l)) = Unit {0}

@@ -17,7 +17,8 @@ use resolver::{ResolvedModel, Topic};
 use std::alloc::Global;
 
 /// The tables, columns, lines, IDENT lists and areas of a resolved model. The only error is out
-/// of memory. Time and memory are in proportion to the model.
+/// of memory. Time and memory are in proportion to the model, and to the name of a table once for
+/// each of its helper tables.
 pub fn layout(alloc: Global, model: &ResolvedModel) -> Result<Layout, Memory>
     requires { IsSound (model_of model.now) }
     ensures stated { IfOk result (λ l. layout_view l ≡ layout_of (model_of model.now)) }

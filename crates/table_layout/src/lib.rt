@@ -42,7 +42,8 @@
 //! - **Degenerate cases.** No topics, topics without tables, tables without attributes, LINEATTR
 //!   without attributes.
 //!
-//! Cost: `layout` takes time and memory in proportion to the model with its LINEATTR parts.
+//! Cost: `layout` takes time and memory in proportion to the model with its LINEATTR parts, and to
+//! the name of a table once for each of its helper tables.
 //! `table_of` compares with the tables one after the other and takes no memory; a caller that
 //! looks up very many names keeps a map of its own.
 #![tactic(auto)]

@@ -53,7 +53,8 @@ fn table_keys(alloc: Global, tables: &[Table]) -> Result<Vec<Name>, Memory>
 impl<'a> Names<'a> {
     ghost use Rattle.itf_reader.specs.Names.{form_in};
 
-    /// The names of a layout, in order. It takes n log n comparisons for every layout.
+    /// The names of a layout, in order. It takes n log n comparisons for every layout. The only
+    /// error is out of memory.
     pub fn new(alloc: Global, layout: &'a Layout) -> Result<Names<'a>, Memory>
         requires { length layout.now.tables.items ≤ 4194304 }
         ensures { IfOk result (λ names. form_in names ≡ form_of (layout_view layout.now)) }

@@ -91,6 +91,7 @@ fn a_refused_growth_leaves_all_as_it_was(rt: HostRuntime) -> Result<(), Fail> {
     }
     assert_eq!(rt; status, Status::Accepted);
     assert_eq!(rt; out.bytes(), b"VERDICT ACCEPTED 1\n".as_slice());
+    assert_eq!(rt; written.as_deref(), Some("ITFCERT 1\nAREAS 0\n"));
     Ok(())
 }
 

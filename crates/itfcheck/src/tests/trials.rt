@@ -116,7 +116,8 @@ fn reports(rt: &impl Abort, alloc: Global, size: u32, report: &str) -> Result<()
     shelf.with_file("M", model.as_bytes())?;
     shelf.with_file("T", transfer.as_bytes())?;
     let mut out = MemorySink::new(alloc);
-    let _status = run(alloc, &words_of(alloc, CHECK)?, &mut shelf, &mut out);
+    let status = run(alloc, &words_of(alloc, CHECK)?, &mut shelf, &mut out);
+    assert_eq!(rt; status, Status::Accepted, "size {size}");
     assert_eq!(rt; out.bytes(), report.as_bytes(), "size {size}");
     Ok(())
 }
