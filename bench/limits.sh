@@ -249,6 +249,20 @@ for count in (100, 400):
         print("    %.1f times the time of a quarter as many" % (got[2] / smaller))
     smaller = got[2]
 
+# ---- points where many straights end
+
+smaller = None
+for count in (20000, 80000):
+    hub = (100000, 400000)
+    delivery([[hub, (b"LIPT", (900000, 10 * k))] for k in range(count)], [hub] * count)
+    got = run("check", "M", "T", "C")
+    if got[1] != 1:
+        sys.exit("%d points where %d straights end are not rejected" % (count, count))
+    tell("transfer", "%d points where %d straights end" % (count, count), os.path.getsize("T"), got, EMPTY, ORDINARY)
+    if smaller:
+        print("    %.1f times the time of a quarter as many" % (got[2] / smaller))
+    smaller = got[2]
+
 # ---- points in tubes at level 5
 
 RADIUS, LEAVES = 100000, 4000

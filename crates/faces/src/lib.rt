@@ -21,7 +21,7 @@
 //!
 //! Cost: linear in the half-edges and the cells. While `label` searches it takes 12 bytes a
 //! half-edge and 8 a cell, and `links` the same; neither keeps them. The places of the rows are
-//! numbers of 32 bits: 2^31 cells and more, some 40 GB of them, are answered as out of memory.
+//! numbers of 32 bits: 2^31 cells and more, some 26 GB of them, are answered as out of memory.
 #![tactic(auto)]
 
 mod graph;
