@@ -69,7 +69,8 @@ fn add_piece<S: Shelf>(
         → CountsStay (S.read_faults shelf.old) (S.write_faults shelf.old)
         (S.read_faults shelf.new) (S.write_faults shelf.new) }
 {
-    let n = read_piece(shelf, name, bytes.len() as u64, piece)?;
+    let from = bytes.len() as u64;
+    let n = read_piece(shelf, name, from, piece)?;
     if n == 0 {
         return Ok(false);
     }
