@@ -1,16 +1,16 @@
 -- Two passes meet all pairs that are near.
-use Rattle.std.proofs.Common.{◌≡◌, ◌⊎◌, inl, inr, ℕ, ◌<◌, Bool, true, false, not, ◌<ℤ◌, ◌≤ℤ◌, List, length, Option, None, Some, arith, refl, ap}
+use Rattle.std.proofs.Common.{◌≡◌, ◌⊎◌, inl, inr, ℕ, ◌<◌, Bool, true, false, ◌<ℤ◌, ◌≤ℤ◌, List, length, Option, None, Some, arith, refl}
 use Rattle.std.specs.Prelude.{IfSome}
 use Rattle.std.specs.List.{Contains}
 use Rattle.std.proofs.lemmas.Int.{ints, by_lt_z}
 use Rattle.near_pairs.specs.Boxes.{AreNear, ShareAPlace, box_of, reach_of, mark_of}
-use Rattle.near_pairs.specs.Columns.{AreLevel, BeginsWithin, IsColumn, item_of, takes}
+use Rattle.near_pairs.specs.Columns.{AreLevel, BeginsWithin, IsColumn, item_of}
 use Rattle.near_pairs.specs.LeastPairs.{AreMet, IsFound, IsLeastPair, IsPassed}
-use Rattle.near_pairs.specs.declared.chosen.Chosen.TheVariants as chosen
 use Rattle.near_pairs.specs.declared.column.Item.{Item}
 use Rattle.near_pairs.specs.declared.pairs.NearPair.{NearPair}
 use Rattle.near_pairs.specs.declared.reaches.Reach.{Reach}
 use Rattle.near_pairs.proofs.Meeting.{at_most}
+use Rattle.near_pairs.proofs.Columns.{marks_of, marks_whole}
 use Rattle.near_pairs.proofs.Best.{all_passed, met_kept, none_sought}
 use Rattle.near_pairs.proofs.Tests.{not_both}
 
@@ -30,10 +30,10 @@ within a b j s l = record { after = l; before = (begins_by b a (shared_back a b 
 
 -- ---- both passes
 module _ (sought : ℕ → ℕ → Type 0) (boxes : List Reach) (marked : List Bool) (all marks : List Item) (first best : Option NearPair)
-    (all_is : IsColumn boxes marked chosen.All all) (marks_is : IsColumn boxes marked chosen.Marked marks)
-    (seen : (i : ℕ) (item : Item) → i < length boxes → takes chosen.Marked (mark_of marked i) ≡ true → Contains all item → BeginsWithin (reach_of boxes i) item → AreLevel (reach_of boxes i) item → AreMet sought first i item.number)
+    (all_is : IsColumn boxes all) (marks_is : marks ≡ marks_of marked all)
+    (seen : (i : ℕ) (item : Item) → i < length boxes → mark_of marked i ≡ true → Contains all item → BeginsWithin (reach_of boxes i) item → AreLevel (reach_of boxes i) item → AreMet sought first i item.number)
     (kept : (i j : ℕ) → IsPassed sought first i j → IsPassed sought best i j)
-    (seen_next : (i : ℕ) (item : Item) → i < length boxes → takes chosen.Unmarked (mark_of marked i) ≡ true → Contains marks item → BeginsWithin (reach_of boxes i) item → AreLevel (reach_of boxes i) item → AreMet sought best i item.number) where
+    (seen_next : (i : ℕ) (item : Item) → i < length boxes → mark_of marked i ≡ false → Contains marks item → BeginsWithin (reach_of boxes i) item → AreLevel (reach_of boxes i) item → AreMet sought best i item.number) where
   -- the box of j begins within that of i
   met_in_row : (i j : ℕ) → i < length boxes → j < length boxes → (mark_of marked i ≡ true) ⊎ (mark_of marked j ≡ true) → ShareAPlace (box_of (reach_of boxes i)) (box_of (reach_of boxes j))
       → (reach_of boxes i).low.x ≤ℤ (reach_of boxes j).low.x → AreMet sought best i j
@@ -46,9 +46,9 @@ module _ (sought : ℕ → ℕ → Type 0) (boxes : List Reach) (marked : List B
       l_in = level (reach_of boxes i) (reach_of boxes j) j s
 
       by : (t : Bool) → mark_of marked i ≡ t → (mark_of marked i ≡ true) ⊎ (mark_of marked j ≡ true) → AreMet sought best i j
-      by true e h = met_kept sought first best i j kept (seen i (item_of j (reach_of boxes j)) l e (all_is.whole j m refl) b_in l_in)
+      by true e h = met_kept sought first best i j kept (seen i (item_of j (reach_of boxes j)) l e (all_is.whole j m) b_in l_in)
       by false e (inl h) = not_both (mark_of marked i) h e
-      by false e (inr h) = seen_next i (item_of j (reach_of boxes j)) l (ap not e) (marks_is.whole j m h) b_in l_in
+      by false e (inr h) = seen_next i (item_of j (reach_of boxes j)) l e (marks_whole marked (item_of j (reach_of boxes j)) all marks marks_is (all_is.whole j m) h) b_in l_in
 
   near_passed : (i j : ℕ) → i < j → j < length boxes → AreNear boxes marked i j → IsPassed sought best i j
   near_passed i j l m near =

@@ -1,15 +1,14 @@
 -- How far the pairs of one box, and of all boxes before one, are met.
-use Rattle.std.proofs.Common.{◌≡◌, ◌⊎◌, inl, inr, ℕ, zero, suc, ◌+◌, ◌<◌, ◌≤◌, Bool, true, false, List, [], ◌∷◌, length, get_or, pos, Option, arith, refl, ap, sym, ◌∙◌, subst}
+use Rattle.std.proofs.Common.{◌≡◌, ◌⊎◌, inl, inr, ℕ, zero, suc, ◌+◌, ◌<◌, ◌≤◌, Bool, List, [], ◌∷◌, length, get_or, pos, Option, arith, refl, ap, sym, ◌∙◌, subst}
 use Rattle.std.specs.List.{All, Contains}
 use Rattle.near_pairs.specs.Boxes.{reach_of, mark_of}
-use Rattle.near_pairs.specs.Columns.{AreLevel, BeginsWithin, takes}
+use Rattle.near_pairs.specs.Columns.{AreLevel, BeginsWithin}
 use Rattle.near_pairs.specs.LeastPairs.{IsFound, IsPassed, AreMet}
-use Rattle.near_pairs.specs.declared.chosen.Chosen.{Chosen}
 use Rattle.near_pairs.specs.declared.column.Item.{Item}
 use Rattle.near_pairs.specs.declared.pairs.NearPair.{NearPair}
 use Rattle.near_pairs.specs.declared.reaches.Reach.{Reach}
 use Rattle.near_pairs.proofs.Best.{met_kept}
-use Rattle.near_pairs.proofs.Tests.{last_or_before, not_both}
+use Rattle.near_pairs.proofs.Tests.{last_or_before}
 
 abbrev pub no_item : Item
 no_item = record { low_x = pos 0; low_y = pos 0; high_y = pos 0; number = 0 }
@@ -56,42 +55,42 @@ module _ (sought : ℕ → ℕ → Type 0) (boxes : List Reach) (number : ℕ) (
       subst (λ (x : Item). AreMet sought best number x.number) e (h.seen m item (omega (arith, l, lm)) (subst (AreLevel (reach_of boxes number)) (sym e) level))
 
 -- ---- all boxes
--- The pairs of a chosen box before k and an item that begins within it are met.
-pub record IsPassTo (sought : ℕ → ℕ → Type 0) (boxes : List Reach) (marked : List Bool) (rows : Chosen) (column : List Item) (start : Option NearPair) (k : ℕ) (best : Option NearPair) : Type 0 where
+-- The pairs of a box with that mark before k and an item that begins within it are met.
+pub record IsPassTo (sought : ℕ → ℕ → Type 0) (boxes : List Reach) (marked : List Bool) (mark : Bool) (column : List Item) (start : Option NearPair) (k : ℕ) (best : Option NearPair) : Type 0 where
   pub found : IsFound sought (length boxes) best
   pub kept : (i j : ℕ) → IsPassed sought start i j → IsPassed sought best i j
-  pub seen : (i : ℕ) (item : Item) → i < k → takes rows (mark_of marked i) ≡ true → Contains column item → BeginsWithin (reach_of boxes i) item → AreLevel (reach_of boxes i) item → AreMet sought best i item.number
+  pub seen : (i : ℕ) (item : Item) → i < k → mark_of marked i ≡ mark → Contains column item → BeginsWithin (reach_of boxes i) item → AreLevel (reach_of boxes i) item → AreMet sought best i item.number
 
-pub pass_start : (sought : ℕ → ℕ → Type 0) (boxes : List Reach) (marked : List Bool) (rows : Chosen) (column : List Item) (start : Option NearPair) → IsFound sought (length boxes) start
-    → IsPassTo sought boxes marked rows column start 0 start
-pass_start sought boxes marked rows column start f = record { found = f; kept = λ i j h. h; seen = λ i item l. absurd (omega (arith, l)) }
+pub pass_start : (sought : ℕ → ℕ → Type 0) (boxes : List Reach) (marked : List Bool) (mark : Bool) (column : List Item) (start : Option NearPair) → IsFound sought (length boxes) start
+    → IsPassTo sought boxes marked mark column start 0 start
+pass_start sought boxes marked mark column start f = record { found = f; kept = λ i j h. h; seen = λ i item l. absurd (omega (arith, l)) }
 
-module _ (sought : ℕ → ℕ → Type 0) (boxes : List Reach) (marked : List Bool) (rows : Chosen) (column : List Item) (start : Option NearPair) (k : ℕ) (best : Option NearPair)
-    (h : IsPassTo sought boxes marked rows column start k best) where
-  pub pass_over : takes rows (mark_of marked k) ≡ false → IsPassTo sought boxes marked rows column start (k + 1) best
+module _ (sought : ℕ → ℕ → Type 0) (boxes : List Reach) (marked : List Bool) (mark : Bool) (column : List Item) (start : Option NearPair) (k : ℕ) (best : Option NearPair)
+    (h : IsPassTo sought boxes marked mark column start k best) where
+  pub pass_over : (mark_of marked k ≡ mark → ⊥) → IsPassTo sought boxes marked mark column start (k + 1) best
   pass_over f = record {
     found = h.found;
     kept = h.kept;
     seen = λ i item l t c b level. by i item t c b level (last_or_before i k l);
   }
     where
-      by : (i : ℕ) (item : Item) → takes rows (mark_of marked i) ≡ true → Contains column item → BeginsWithin (reach_of boxes i) item → AreLevel (reach_of boxes i) item → (i < k) ⊎ (i ≡ k) → AreMet sought best i item.number
+      by : (i : ℕ) (item : Item) → mark_of marked i ≡ mark → Contains column item → BeginsWithin (reach_of boxes i) item → AreLevel (reach_of boxes i) item → (i < k) ⊎ (i ≡ k) → AreMet sought best i item.number
       by i item t c b level (inl l) = h.seen i item l t c b level
-      by i item t c b level (inr e) = not_both (takes rows (mark_of marked k)) (subst (λ (j : ℕ). takes rows (mark_of marked j) ≡ true) e t) f
+      by i item t c b level (inr e) = absurd (f (subst (λ (j : ℕ). mark_of marked j ≡ mark) e t))
 
   pub pass_more : (next : Option NearPair) → IsFound sought (length boxes) next → ((i j : ℕ) → IsPassed sought best i j → IsPassed sought next i j)
-      → ((item : Item) → Contains column item → BeginsWithin (reach_of boxes k) item → AreLevel (reach_of boxes k) item → AreMet sought next k item.number) → IsPassTo sought boxes marked rows column start (k + 1) next
+      → ((item : Item) → Contains column item → BeginsWithin (reach_of boxes k) item → AreLevel (reach_of boxes k) item → AreMet sought next k item.number) → IsPassTo sought boxes marked mark column start (k + 1) next
   pass_more next f kept met = record {
     found = f;
     kept = λ i j p. kept i j (h.kept i j p);
     seen = λ i item l t c b level. by i item t c b level (last_or_before i k l);
   }
     where
-      by : (i : ℕ) (item : Item) → takes rows (mark_of marked i) ≡ true → Contains column item → BeginsWithin (reach_of boxes i) item → AreLevel (reach_of boxes i) item → (i < k) ⊎ (i ≡ k) → AreMet sought next i item.number
+      by : (i : ℕ) (item : Item) → mark_of marked i ≡ mark → Contains column item → BeginsWithin (reach_of boxes i) item → AreLevel (reach_of boxes i) item → (i < k) ⊎ (i ≡ k) → AreMet sought next i item.number
       by i item t c b level (inl l) = met_kept sought best next i item.number kept (h.seen i item l t c b level)
       by i item t c b level (inr e) =
           subst (λ (j : ℕ). AreMet sought next j item.number) (sym e) (met item c (subst (λ (j : ℕ). BeginsWithin (reach_of boxes j) item) e b) (subst (λ (j : ℕ). AreLevel (reach_of boxes j) item) e level))
 
-  pub pass_end : length boxes ≤ k → (i : ℕ) (item : Item) → i < length boxes → takes rows (mark_of marked i) ≡ true → Contains column item → BeginsWithin (reach_of boxes i) item → AreLevel (reach_of boxes i) item
+  pub pass_end : length boxes ≤ k → (i : ℕ) (item : Item) → i < length boxes → mark_of marked i ≡ mark → Contains column item → BeginsWithin (reach_of boxes i) item → AreLevel (reach_of boxes i) item
       → AreMet sought best i item.number
   pass_end l i item m = h.seen i item (omega (arith, l, m))

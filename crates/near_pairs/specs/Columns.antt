@@ -1,17 +1,9 @@
 -- Boxes in the order in which they begin along x.
-use Rattle.std.specs.Prelude.{◌≡◌, ℕ, ◌<◌, Bool, true, not, ◌≤ℤ◌, List, length, slice_index_or}
+use Rattle.std.specs.Prelude.{ℕ, ◌<◌, ◌≤ℤ◌, List, length, slice_index_or}
 use Rattle.std.specs.List.{All, Contains}
-use Rattle.near_pairs.specs.Boxes.{reach_of, mark_of}
-use Rattle.near_pairs.specs.declared.chosen.Chosen.{Chosen}
-use Rattle.near_pairs.specs.declared.chosen.Chosen.TheVariants as chosen
+use Rattle.near_pairs.specs.Boxes.{reach_of}
 use Rattle.near_pairs.specs.declared.column.Item.{Item}
 use Rattle.near_pairs.specs.declared.reaches.Reach.{Reach}
-
--- Whether a number with that mark is chosen.
-abbrev pub takes : Chosen → Bool → Bool
-takes chosen.All mark = true
-takes chosen.Marked mark = mark
-takes chosen.Unmarked mark = not mark
 
 -- The item of a box and its number.
 abbrev pub item_of : ℕ → Reach → Item
@@ -33,10 +25,8 @@ IsRising column =
     (i j : ℕ) (d : Item) → i < j → j < length column
     → (slice_index_or column i d).low_x ≤ℤ (slice_index_or column j d).low_x
 
--- The boxes that are chosen, each with its number.
-pub record IsColumn (boxes : List Reach) (marked : List Bool) (which : Chosen)
-    (column : List Item) : Type 0 where
+-- All boxes, each with its number.
+pub record IsColumn (boxes : List Reach) (column : List Item) : Type 0 where
   pub rising : IsRising column
   pub known : All (λ item. item.number < length boxes) column
-  pub whole : (i : ℕ) → i < length boxes → takes which (mark_of marked i) ≡ true
-      → Contains column (item_of i (reach_of boxes i))
+  pub whole : (i : ℕ) → i < length boxes → Contains column (item_of i (reach_of boxes i))

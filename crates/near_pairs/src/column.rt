@@ -1,10 +1,11 @@
 // Boxes in the order of their low x.
 ghost use Rattle.std.specs.Prelude.{◌≡◌, ◌↔◌, ◌<◌, ◌^◌, ◌≤ℤ◌, IfOk, IsTrue, length};
-ghost use Rattle.std.specs.List.{Contains};
+ghost use Rattle.std.specs.List.{Contains, filter};
+ghost use Rattle.near_pairs.specs.Boxes.{mark_of};
 ghost use Rattle.near_pairs.specs.Columns.{AreLevel, IsColumn, IsRising, item_of};
 ghost use Rattle.near_pairs.specs.declared.column.Item.{Item};
 
-use super::chosen::Chosen;
+use super::marks::is_marked;
 use super::reaches::Reach;
 use ports::Memory;
 use std::alloc::Global;
@@ -44,26 +45,24 @@ fn low_x(item: &Item) -> i64
     item.low_x
 }
 
-/// The boxes that are chosen, by their low x: 32 bytes for each.
-pub fn column(
-    alloc: Global,
-    boxes: &[Reach],
-    marked: &[bool],
-    chosen: Chosen,
-) -> Result<Vec<Item>, Memory>
+/// The boxes by their low x: 32 bytes for each.
+pub fn column(alloc: Global, boxes: &[Reach]) -> Result<Vec<Item>, Memory>
     requires few { length boxes.now < 2 ^ 32 }
-    requires marks { length marked.now ≡ length boxes.now }
-    ensures { IfOk result (λ column. IsColumn boxes.now marked.now chosen column.items) }
+    ensures { IfOk result (λ column. IsColumn boxes.now column.items) }
 {
-    let count = marked.iter().filter(|mark| chosen.takes(**mark)).count();
-    let mut column = Vec::with_capacity(alloc, count)?;
+    let mut column = Vec::with_capacity(alloc, boxes.len())?;
     for (number, reach) in boxes.iter().enumerate() {
-        if chosen.takes(marked[number]) {
-            column.push(Item::new(number as u32, reach))?;
-        }
+        column.push(Item::new(number as u32, reach))?;
     }
     column.sort_unstable_by_key(low_x);
     Ok(column)
+}
+
+/// Keeps the marked boxes alone, in their order. It takes no memory.
+pub fn keep_marked(column: &mut Vec<Item>, marked: &[bool])
+    ensures { column.new.items ≡ filter (λ item. mark_of marked.now item.number) column.old.items }
+{
+    column.retain(|item| is_marked(marked, item.number));
 }
 
 /// The boxes that begin from `low` to `high` along x.

@@ -1,14 +1,14 @@
 // The least pair.
-ghost use Rattle.std.specs.Prelude.{◌≡◌, ◌↔◌, ◌⊎◌, ℕ, ◌<◌, ◌^◌, None, true, false, IfOk};
+ghost use Rattle.std.specs.Prelude.{◌≡◌, ◌↔◌, ◌⊎◌, ℕ, ◌<◌, ◌^◌, None, IfOk};
 ghost use Rattle.std.specs.Prelude.{IfSome, IsTrue, length};
 ghost use Rattle.std.specs.List.{All, Contains};
 ghost use Rattle.near_pairs.specs.Boxes.{AreNear, mark_of, reach_of};
-ghost use Rattle.near_pairs.specs.Columns.{AreLevel, BeginsWithin, IsRising, takes};
+ghost use Rattle.near_pairs.specs.Columns.{AreLevel, BeginsWithin, IsRising};
 ghost use Rattle.near_pairs.specs.LeastPairs.{AreMet, IsBetter, IsFound, IsLeastPair, IsPassed};
 ghost use Rattle.near_pairs.specs.declared.column.Item.{Item};
 
-use super::chosen::Chosen;
-use super::column::{Item, are_level, block, column};
+use super::column::{Item, are_level, block, column, keep_marked};
+use super::marks::has_mark;
 use super::pairs::NearPair;
 use super::reaches::Reach;
 use super::testing::PairTest;
@@ -19,8 +19,8 @@ use std::alloc::Global;
 /// it seeks no pair. The numbers are those of the boxes, of which some are marked. Only pairs of
 /// which one is marked and whose boxes share a place are tested: the caller must know that the test
 /// seeks no other pair. The only error is out of memory. It takes the time of the marked boxes
-/// times those that begin within their extents along x, and the other way round, beside two sorts;
-/// and 32 bytes for each box.
+/// times those that begin within their extents along x, and the other way round, beside a sort; and
+/// 32 bytes for each box.
 pub fn least<T: PairTest>(
     alloc: Global,
     boxes: &[Reach],
@@ -40,23 +40,18 @@ pub fn least<T: PairTest>(
     if !has_mark(marked) {
         return Ok(None);
     }
-    let all = column(alloc, boxes, marked, Chosen::All)?;
-    let best = pass(boxes, marked, Chosen::Marked, &all, test, None);
-    let marks = column(alloc, boxes, marked, Chosen::Marked)?;
-    Ok(pass(boxes, marked, Chosen::Unmarked, &marks, test, best))
+    let mut items = column(alloc, boxes)?;
+    let best = pass(boxes, marked, true, &items, test, None);
+    keep_marked(&mut items, marked);
+    Ok(pass(boxes, marked, false, &items, test, best))
 }
 
-fn has_mark(marked: &[bool]) -> bool
-    ensures { result ≡ false → (i : ℕ) → mark_of marked.now i ≡ true → ⊥ }
-{
-    marked.iter().any(|mark| *mark)
-}
-
-/// The best of what was found and of the pairs of a chosen box and an item that begins within it.
+/// The best of what was found and of the pairs of a box with that mark and an item that begins
+/// within it.
 fn pass<T: PairTest>(
     boxes: &[Reach],
     marked: &[bool],
-    rows: Chosen,
+    mark: bool,
     column: &[Item],
     test: &T,
     found: Option<NearPair>,
@@ -71,13 +66,13 @@ fn pass<T: PairTest>(
     ensures kept { (i j : ℕ) → IsPassed (T.sought test.now) found i j
         → IsPassed (T.sought test.now) result i j }
     ensures seen { (i : ℕ) (item : Item) → i < length boxes.now
-        → takes rows (mark_of marked.now i) ≡ true → Contains column.now item
+        → mark_of marked.now i ≡ mark → Contains column.now item
         → BeginsWithin (reach_of boxes.now i) item → AreLevel (reach_of boxes.now i) item
         → AreMet (T.sought test.now) result i item.number }
 {
     let mut best = found;
     for number in 0..boxes.len() {
-        if rows.takes(marked[number]) {
+        if marked[number] == mark {
             best = row(boxes, number as u32, column, test, best);
         }
     }

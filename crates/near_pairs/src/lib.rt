@@ -15,15 +15,16 @@
 //!   way may be shorter; no answer rests on it.
 //! - **Not here:** what is looked for, and how the boxes are made.
 //!
-//! Cost: two sorts, and a comparison of y for each box that begins within a marked one along x, or
-//! the other way round: marked boxes times those near them, at most marked times all. Memory is
-//! linear: 32 bytes a box. Without a marked box nothing is sorted.
+//! Cost: a sort, and a comparison of y for each box that begins within a marked one along x, and in
+//! `least` for each marked one that begins within another box: marked boxes times those near them,
+//! at most marked times all, and in `are_many` at most 2^16 a box on the average. Memory is linear:
+//! 32 bytes a box. Without a marked box nothing is sorted.
 #![tactic(auto)]
 
-mod chosen;
 mod column;
 mod counting;
 mod finding;
+mod marks;
 mod pairs;
 mod reaches;
 mod testing;

@@ -9,6 +9,7 @@ pub trait PairTest {
     /// Whether the pair of these numbers is looked for.
     ghost sought: { Self → ℕ → ℕ → Type 0 };
 
+    /// Whether the pair is sought; `first` is less than `second`.
     fn is_sought(&self, first: u32, second: u32) -> bool
         requires { can_test self.now first second }
         ensures { IsTrue result ↔ sought self.now first second };

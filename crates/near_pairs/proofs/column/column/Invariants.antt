@@ -2,4 +2,4 @@ use Rattle.near_pairs.proofs.Columns.{IsColumnTo}
 use Rattle.near_pairs.proofs.column.column.Given as goal
 
 abbrev pub invariant-loop-number : goal.invariant-loop-number
-invariant-loop-number l = IsColumnTo l.boxes l.marked l.chosen l.number l.column.items
+invariant-loop-number l = IsColumnTo l.boxes l.number l.column.items
