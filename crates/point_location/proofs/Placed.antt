@@ -1,12 +1,16 @@
 -- One point more has its place, and the order of the points behind it.
-use Rattle.std.proofs.Common.{◌≡◌, ℕ, zero, suc, ◌+◌, ◌<◌, ◌≤◌, ◌⊎◌, inl, inr, ◌<ℤ◌, ◌≤ℤ◌, List, length, get_or, refl, arith, ap, sym, ◌∙◌, subst, add-one, set, get_or-set_same, get_or-set_other}
+use Rattle.std.proofs.Common.{◌≡◌, ℕ, zero, suc, ◌+◌, ◌<◌, ◌≤◌, ◌⊎◌, inl, inr, Bool, true, false, not, ◌&&◌, Option, None, Some, ◌<ℤ◌, ◌≤ℤ◌, List, length, get_or, refl, arith, ap, sym, ◌∙◌, subst, add-one, set, get_or-set_same, get_or-set_other}
 use Rattle.std.proofs.lemmas.Int.{ints, by_lt_z}
+use Rattle.std.specs.Option.{option_eq}
+use Rattle.std.specs.Ordering.{int_eq}
+use Rattle.std.specs.Prelude.{IfSome}
 use Rattle.plane.specs.declared.kinds.Point.{Point}
 use Rattle.plane.specs.Forms.Vectors.{Before}
 use Rattle.plane.specs.declared.kinds.Edge.{Edge}
 use Rattle.plane.specs.Runs.Moves.{Move, no_move}
 use Rattle.straight_predicates.specs.EdgeLists.{no_point}
 use Rattle.straight_predicates.proofs.Orders.{by_lt}
+use Rattle.point_location.proofs.PlaneLaws.{decides_equal}
 use Rattle.point_location.specs.declared.numbered.Numbered.{Numbered}
 use Rattle.point_location.specs.declared.places.Place.{Place}
 use Rattle.point_location.specs.Numbered.{IsInOrder, nothing}
@@ -86,6 +90,35 @@ moment_at moves applied k now at early a f g = record {
   passed = λ j l. by_lt j applied (λ (h : j < applied). early j h) (λ (h : applied ≤ j). f j h l);
   coming = g;
 }
+
+-- ---- equal points have one place
+abbrev pub are_equal : Point → Point → Bool
+are_equal p q = int_eq p.x q.x && int_eq p.y q.y
+
+-- where the test finds no difference, the point is the last one again
+again : (last : Option Point) (at : Point) (r : Bool) → r ≡ not (option_eq are_equal last (Some at)) → r ≡ false → last ≡ Some at
+again None at r e f = cc
+again (Some p) at r e f = ap (λ (q : Point). Some q) ((decides_equal p at (are_equal p at) refl).0 (by (are_equal p at) (sym e ∙ f)))
+  where
+    by : (b : Bool) → not b ≡ false → b ≡ true
+    by true h = refl
+    by false h = cc
+
+-- All that is applied comes before the point, and the place is its own and that of the last point.
+pub record IsReady (edges : List Edge) (moves : List Move) (at : Point) (applied : ℕ) (live : List ℕ) (last : Option Point) (place : Place) : Type 0 where
+  pub done : IsApplied moves applied live
+  pub passed : (j : ℕ) → j < applied → Before (get_or moves j no_move).at at
+  pub here : IsPlaceOf edges moves at place
+  pub last_is : IfSome last (λ p. IsPlaceOf edges moves p place)
+
+module _ (edges : List Edge) (moves : List Move) (at : Point) (applied : ℕ) (live : List ℕ) (place : Place) where
+  pub ready_anew : IsMoment moves applied live at → IsPlaceOf edges moves at place → IsReady edges moves at applied live (Some at) place
+  ready_anew m h = record { done = record { known = m.known; values = m.values }; passed = m.passed; here = h; last_is = h }
+
+  pub ready_again : (last : Option Point) (r : Bool) → IsApplied moves applied live → ((j : ℕ) → j < applied → Before (get_or moves j no_move).at at) → IfSome last (λ p. IsPlaceOf edges moves p place)
+      → r ≡ not (option_eq are_equal last (Some at)) → r ≡ false → IsReady edges moves at applied live last place
+  ready_again last r a f h e n =
+      record { done = a; passed = f; here = subst (λ (q : Option Point). IfSome q (λ p. IsPlaceOf edges moves p place)) (again last at r e n) h; last_is = h }
 
 pub placed_all : (edges : List Edge) (moves : List Move) (points : List Point) (order : List Numbered) (places : List Place) (k : ℕ) → IsInOrder points order → length order ≤ k → length places ≡ length points
     → ((i : ℕ) → i < k → IsPlaceOf edges moves (get_or order i nothing).at (get_or places (get_or order i nothing).number no_place)) → ArePlaces edges moves points places

@@ -7,7 +7,7 @@
 //!   Before each point all events that come before it are applied. At the place of an event the
 //!   edges through the point are those that end or start there; at any other place a search of the
 //!   live list finds the edge through the point, of which there is one at most, or the place
-//!   between two edges.
+//!   between two edges. Equal points share one answer.
 //! - **What it asks for.** The events of a complete run over the edges, as a sweep answers them,
 //!   and points less than 2^41 from the edges' ends in each coordinate.
 //! - **Degenerate cases.** Points at vertices, on edges, on upright edges, equal points, points
@@ -15,7 +15,8 @@
 //! - **Not here:** which face a cell belongs to, and whether a point lies on a half arc.
 //!
 //! Cost: O((p + events) log (m + p)) for p points and m edges, and what the live list moves, as in
-//! the sweep. It takes 48 bytes a point before the replay begins, and up to 8 a live edge in it.
+//! the sweep; the edges of each event are gone over once, however many points lie there. It takes
+//! 48 bytes a point before the replay begins, and up to 8 a live edge in it.
 #![tactic(auto)]
 
 mod between;

@@ -16,7 +16,7 @@ use std::alloc::Global;
 use straight_predicates::ChunkedList;
 
 /// The place of each point in the run that the events of a sweep over these edges make. The only
-/// error is out of memory. Costs stand at the head of the crate.
+/// error is out of memory. For the costs see the head of the crate.
 pub fn locate(
     alloc: Global,
     edges: &[Edge],
@@ -36,9 +36,15 @@ pub fn locate(
     let mut places = vec![in alloc; Place::OnEdge(0); points.len()]?;
     let mut live = ChunkedList::new(alloc);
     let mut applied = 0;
+    let mut last: Option<Point> = None;
+    let mut place = Place::OnEdge(0);
     for point in &order {
-        applied = apply_before(edges, &swept.events, applied, &mut live, point.at)?;
-        places[point.number] = place_at(edges, &swept.events, applied, &live, point.at);
+        if last != Some(point.at) {
+            applied = apply_before(edges, &swept.events, applied, &mut live, point.at)?;
+            place = place_at(edges, &swept.events, applied, &live, point.at);
+            last = Some(point.at);
+        }
+        places[point.number] = place;
     }
     Ok(places)
 }
