@@ -52,8 +52,8 @@ module _ (edges : List Edge) (table : List Timed) (k : ℕ) (t : IsTimetable (le
   pub start_end : 0 < length (get_or table k no_event).starting → (get_or (get_or table k no_event).starting 0 0 < length edges) × IsEnd (edge_of edges (get_or (get_or table k no_event).starting 0 0)) (get_or table k no_event).at
   start_end n = let h = (event_timed.starting (get_or (get_or table k no_event).starting 0 0)).0 (has_at (get_or table k no_event).starting 0 0 n) in (h.0, inl h.1)
 
-  pub starting_below : (e : ℕ) → Has e (get_or table k no_event).starting → e < length edges
-  starting_below e h = ((event_timed.starting e).0 h).0
+  pub starting_below : (starting : List ℕ) → starting ≡ (get_or table k no_event).starting → (e : ℕ) → Has e starting → e < length edges
+  starting_below starting q e h = ((event_timed.starting e).0 (subst (Has e) q h)).0
 
   -- where nothing starts, something ends
   pub some_end : length (get_or table k no_event).starting ≡ 0 → 0 < length (get_or table k no_event).ending

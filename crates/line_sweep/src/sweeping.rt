@@ -28,7 +28,7 @@ use std::alloc::Global;
 use straight_predicates::{ChunkedList, Timetable, edge_at, edge_before};
 
 /// The events of the edges and their neighbours, or two edges that are bad. The only other refusal
-/// is out of memory. Costs stand at the head of the crate.
+/// is out of memory. For the costs see the head of the crate.
 pub fn sweep(alloc: Global, edges: &[Edge]) -> Result<Swept, SweepRefusal>
     requires few { length edges.now < 2 ^ 31 }
     requires sorted { AreSorted edges.now }

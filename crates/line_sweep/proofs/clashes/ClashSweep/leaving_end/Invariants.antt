@@ -1,0 +1,8 @@
+use Rattle.std.proofs.Common.{◌≡◌, length}
+use Rattle.line_sweep.proofs.clashes.ClashSweep.leaving_end.Given as goal
+
+abbrev pub invariant-loop-place : goal.invariant-loop-place
+invariant-loop-place l = record {
+  live : l.self.live ≡ l.fn.self.live;
+  marks : length l.self.marks.marked.items ≡ length l.fn.self.marks.marked.items;
+}
