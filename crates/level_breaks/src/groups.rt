@@ -17,17 +17,6 @@ pub struct Group<'a> {
     pub reach: Reach,
 }
 
-/// How many edges the curve has.
-pub fn edge_count(group: &Group) -> usize
-    requires { IsEdged group.now.curve.now group.now.tube.now }
-    ensures { result ≡ length (edges_with group.now.curve.now group.now.tube.now) }
-{
-    match group.tube {
-        Some(tube) => 2 * tube.outer.len() + 1,
-        None => 1,
-    }
-}
-
 /// How many outer points the curve has; a straight has none.
 pub fn bay_count(group: &Group) -> usize
     ensures { result ≡ bays_of group.now.tube.now }
