@@ -13,7 +13,11 @@ use Rattle.area_search.specs.declared.kinds.AreaAnswer.TheVariants.{Proved, Faul
 use Rattle.tubes.specs.Settled.{IsFirstBreak, IsSettledAt}
 use Rattle.area_search.specs.Faults.{LiesOn, LiesOutside, AreTwo, IsEmptySide}
 
--- ---- none of a kind
+-- ---- some or none of a kind
+-- some pair is bad
+abbrev pub HasBadPair : Plan → Type 0
+HasBadPair d = (i : ℕ) × (j : ℕ) × IsBadPair d i j
+
 abbrev pub HasNoBadPair : Plan → Type 0
 HasNoBadPair d = (i j : ℕ) → IsBadPair d i j → ⊥
 

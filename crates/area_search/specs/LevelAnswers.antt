@@ -3,7 +3,7 @@ use Rattle.std.specs.Prelude.{ℕ, ◌<◌, Option, Some, None, List, length, �
 use Rattle.plane.specs.Rule.Plans.{Plan}
 use Rattle.tubes.specs.Settled.{IsSettledAt}
 use Rattle.tubes.specs.declared.kinds.Owner.{Owner}
-use Rattle.area_search.specs.Answers.{AreClear, IsAnswer}
+use Rattle.area_search.specs.Answers.{HasBadPair, IsAnswer}
 use Rattle.area_search.specs.CaseRoots.{owner_at}
 use Rattle.area_search.specs.declared.bad_edges.CurvePair.{CurvePair}
 use Rattle.area_search.specs.declared.by_sweep.Shown.{Shown}
@@ -19,9 +19,9 @@ abbrev pub AreOfCurves : Plan → List Owner → Type 0
 AreOfCurves d owners =
     (e : ℕ) → e < length owners → (owner_at owners e).curve < length d.curves
 
--- What is shown of a level: the answer, or that it does not settle the drawing, or that a curve is
--- at fault.
+-- What is shown of a level: the answer, or that it does not settle the drawing, or that some pair is
+-- bad.
 abbrev pub IsShown : Plan → ℕ → Shown → Type 0
 IsShown d level (shown.Answer answer) = IsAnswer d answer
 IsShown d level (shown.Unsettled pair) = (IsSettledAt d level → ⊥) × AreOfDrawing d pair
-IsShown d level shown.AtFault = AreClear d → ⊥
+IsShown d level shown.AtFault = HasBadPair d

@@ -30,7 +30,7 @@ pub(crate) enum Shown {
     Answer(AreaAnswer),
     /// The level does not settle the drawing. Where two bad edges show it, their two curves.
     Unsettled(Option<CurvePair>),
-    /// Two curves are bad, of a drawing of few curves, whose least bad pair is looked for.
+    /// Some pair is bad, in a drawing of few curves, whose least bad pair is looked for.
     AtFault,
 }
 

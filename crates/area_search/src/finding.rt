@@ -4,6 +4,7 @@ ghost use Rattle.plane.specs.Rule.Plans.{plan};
 ghost use Rattle.area_search.specs.Answers.{IsAnswer, SettlesNoneBelow};
 ghost use Rattle.area_search.specs.LevelAnswers.{AreOfDrawing, IsShown};
 
+use super::at_fault::answer_at_fault;
 use super::bad_edges::CurvePair;
 use super::by_sweep::{Shown, answer_by_sweep};
 use super::kinds::AreaAnswer;
@@ -26,7 +27,7 @@ pub fn find_area(alloc: Global, drawing: &Drawing) -> Result<AreaAnswer, Memory>
         match shown_at(alloc, drawing, level, pair)? {
             Shown::Answer(answer) => return Ok(answer),
             Shown::Unsettled(next) => pair = next,
-            Shown::AtFault => return answer_unsettled(alloc, drawing),
+            Shown::AtFault => return answer_at_fault(alloc, drawing),
         }
     }
     answer_unsettled(alloc, drawing)

@@ -17,14 +17,14 @@
 //!   half arc has no tube (`by_sweep`). A half arc without a tube is looked for before the edges of
 //!   a level above 0 are listed (`missing_tubes`). Of two bad edges the two curves are tested
 //!   (`bad_edges`): where they are bad, they are the answer; else each next level that these two
-//!   break is passed over without its edges (`finding`). Where no level settles, or two curves are
-//!   bad of a drawing of at most 2,048 curves, bad pairs are looked for, two straights first and
-//!   then the least pair with a half arc, then points on curves (`on_curves`), then the least pair
-//!   that breaks level 5 (`unsettled`). Where half arcs have many others near them, curves that are
-//!   near each other at level 5 are first set aside, until it settles the drawing of the others:
-//!   then only pairs with one of these are tested (`aside`). Where many are set aside, curves that
-//!   break level 5 with no other one are looked for (`alone`), and no pair with one that is found
-//!   is tested for a break.
+//!   break is passed over without its edges (`finding`). In a drawing of at most 2,048 curves a bad
+//!   pair is looked for instead where two curves are bad, two straights first and then the least
+//!   pair with a half arc (`at_fault`). Where no level settles, bad pairs are looked for in the same
+//!   order, then points on curves (`on_curves`), then the least pair that breaks level 5
+//!   (`unsettled`). Where half arcs have many others near them, curves that are near each other at
+//!   level 5 are first set aside, until it settles the drawing of the others: then only pairs with
+//!   one of these are tested (`aside`). Where many are set aside, curves that break level 5 with no
+//!   other one are looked for (`alone`), and no pair with one that is found is tested for a break.
 //!
 //!   A drawing that a level settles is answered from a complete run of its edges at that level
 //!   (`finishing`): by one replay of the run for the places of the points, which say for each
@@ -51,6 +51,7 @@
 
 mod alone;
 mod aside;
+mod at_fault;
 mod bad_edges;
 mod by_sweep;
 mod case;

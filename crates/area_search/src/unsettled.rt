@@ -6,27 +6,26 @@ ghost use Rattle.meetings.specs.StraightRuns.{IsClearRun};
 ghost use Rattle.area_search.specs.Answers.{AreClear, HasNoBadPair, IsAnswer, IsUnsettled};
 ghost use Rattle.area_search.specs.CurvePoints.{IsLeastOf, LiesOnStraight};
 ghost use Rattle.area_search.specs.SetAside.{AreAside};
-ghost use Rattle.area_search.specs.declared.kinds.AreaAnswer.TheVariants.{Fault};
-ghost use Rattle.area_search.specs.declared.kinds.AreaFinding.TheVariants.{Meeting};
 
 use super::alone::alone_curves;
 use super::aside::{Aside, set_aside};
+use super::at_fault::meeting;
 use super::kinds::{AreaAnswer, AreaFinding};
 use super::on_curves::{first_on_curve, first_on_straight};
 use super::points::OnCurve;
 use level_breaks::first_break_among;
 use line_sweep::Swept;
-use meetings::{BadPair, StraightRun, Straights, arc_meeting_among, sweep_straights};
+use meetings::{StraightRun, Straights, arc_meeting_among, sweep_straights};
 use plane::Drawing;
 use ports::Memory;
 use std::alloc::Global;
 
-/// The answer to a drawing that no level settles, unless its curves are at fault: a pair of curves
-/// that is bad, else a point on a curve, else the first pair that breaks the last level. The only
-/// error is out of memory. Of each part the memory is let go before the next.
+/// The answer to a drawing that no level settles: a pair of curves that is bad, else a point on a
+/// curve, else the first pair that breaks the last level. The only error is out of memory. Of each
+/// part the memory is let go before the next.
 pub(crate) fn answer_unsettled(alloc: Global, drawing: &Drawing) -> Result<AreaAnswer, Memory>
     requires few { length (plan drawing.now).curves ≤ 16000000 }
-    requires unsettled { AreClear (plan drawing.now) → IsUnsettled (plan drawing.now) }
+    requires unsettled { IsUnsettled (plan drawing.now) }
     ensures { IfOk result (IsAnswer (plan drawing.now)) }
 {
     match sweep_straights(alloc, drawing)? {
@@ -36,15 +35,6 @@ pub(crate) fn answer_unsettled(alloc: Global, drawing: &Drawing) -> Result<AreaA
             answer_clear(alloc, drawing, on_straight)
         }
     }
-}
-
-fn meeting(pair: BadPair) -> AreaAnswer
-    ensures { result ≡ Fault (Meeting pair.first pair.second) }
-{
-    AreaAnswer::Fault(AreaFinding::Meeting {
-        first: pair.first,
-        second: pair.second,
-    })
 }
 
 /// The least point on a straight, and the least straight with it, by the run of the straights,
@@ -68,7 +58,7 @@ fn answer_clear(
     on_straight: Option<OnCurve>,
 ) -> Result<AreaAnswer, Memory>
     requires few { length (plan drawing.now).curves ≤ 16000000 }
-    requires unsettled { AreClear (plan drawing.now) → IsUnsettled (plan drawing.now) }
+    requires unsettled { IsUnsettled (plan drawing.now) }
     requires straights { HasNoBadStraights (plan drawing.now) }
     requires points { IsLeastOf (LiesOnStraight (plan drawing.now)) on_straight }
     ensures { IfOk result (IsAnswer (plan drawing.now)) }
@@ -83,7 +73,7 @@ fn answer_clear(
 /// The answer to the drawing, where no two curves are bad.
 fn answer_good(alloc: Global, drawing: &Drawing, aside: &Aside) -> Result<AreaAnswer, Memory>
     requires few { length (plan drawing.now).curves ≤ 16000000 }
-    requires unsettled { AreClear (plan drawing.now) → IsUnsettled (plan drawing.now) }
+    requires unsettled { IsUnsettled (plan drawing.now) }
     requires pairs { HasNoBadPair (plan drawing.now) }
     requires aside { AreAside (plan drawing.now) aside.now.marks.items aside.now.on_others }
     ensures { IfOk result (IsAnswer (plan drawing.now)) }

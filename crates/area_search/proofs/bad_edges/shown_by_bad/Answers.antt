@@ -5,4 +5,4 @@ pub returns : goal.returns
 returns c = λ level. meeting c.args.pair.first c.args.pair.second c.requires
 
 pub returns-then-len-le-FEW_CURVES : goal.returns-then-len-le-FEW_CURVES
-returns-then-len-le-FEW_CURVES c = λ level clear. clear.pairs c.args.pair.first c.args.pair.second c.requires
+returns-then-len-le-FEW_CURVES c = λ level. (c.args.pair.first, c.args.pair.second, c.requires)

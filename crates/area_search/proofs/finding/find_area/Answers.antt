@@ -4,10 +4,10 @@ use Rattle.area_search.specs.LevelAnswers.{IsShown}
 use Rattle.area_search.proofs.LevelSearch.{six_unsettled}
 use Rattle.area_search.proofs.finding.find_area.Goals as goal
 
-pub answer_unsettled-requires-clause-unsettled : goal.answer_unsettled-requires-clause-unsettled
-answer_unsettled-requires-clause-unsettled c = λ clear. absurd (subst (IsShown (plan c.args.drawing.now) c.loop-level.level) c.in-AtFault.is c.in_ok-answer.ensures clear)
+pub answer_at_fault-requires : goal.answer_at_fault-requires
+answer_at_fault-requires c = subst (IsShown (plan c.args.drawing.now) c.loop-level.level) c.in-AtFault.is c.in_ok-answer.ensures
 
-pub answer_unsettled-requires-2-clause-unsettled : goal.answer_unsettled-requires-2-clause-unsettled
-answer_unsettled-requires-2-clause-unsettled c =
+pub answer_unsettled-requires-clause-unsettled : goal.answer_unsettled-requires-clause-unsettled
+answer_unsettled-requires-clause-unsettled c =
     let f = c.loop-level-test.false in
-    λ clear. six_unsettled (plan c.args.drawing.now) c.loop-level.level (omega (arith, f)) c.loop-level.invariant.least
+    six_unsettled (plan c.args.drawing.now) c.loop-level.level (omega (arith, f)) c.loop-level.invariant.least
