@@ -3,6 +3,7 @@ use Rattle.std.proofs.Common.{◌≡◌, ◌⊎◌, inl, inr, ℕ, zero, suc, �
 use Rattle.std.proofs.lemmas.List.{length-map}
 use Rattle.near_pairs.specs.Boxes.{mark_of}
 use Rattle.plane.specs.Rule.Plans.{Plan, curve, plan}
+use Rattle.plane.specs.declared.kinds.Placed.{Placed}
 use Rattle.tubes.specs.Settled.{Breaks, corners, edges, missing}
 use Rattle.level_breaks.specs.LevelLists.{AreAlone, AreBreaksMarked}
 use Rattle.level_breaks.proofs.Unbroken.{breaks_back}
@@ -99,7 +100,7 @@ left_more old k xs ys s f e h = record {
 }
 
 -- ---- after a drawing that the last level settles
-module _ (d : Plan) (ss next : List Standing) (marks : List Bool) (r : Rest) (is : IsRest d marks r) (out : marks ≡ map is_left_out ss) (after : next ≡ map after_settling ss)
+module _ (d : Plan) (ss next : List Standing) (marks : List Bool) (points : List Placed) (r : Rest) (is : IsRest d marks points r) (out : marks ≡ map is_left_out ss) (after : next ≡ map after_settling ss)
     (law : (i j a b : ℕ) → a < length (plan r.drawing).curves → b < length (plan r.drawing).curves → curve d i ≡ curve (plan r.drawing) a → curve d j ≡ curve (plan r.drawing) b → (i ≡ j → ⊥) → (a ≡ b → ⊥) → Breaks d 5 i j → Breaks (plan r.drawing) 5 a b)
     (none : HasNoBreak (plan r.drawing)) (a : AreApart d ss) where
   mark_at : (i : ℕ) → mark_of marks i ≡ is_left_out (standing_of ss i)
@@ -109,7 +110,7 @@ module _ (d : Plan) (ss next : List Standing) (marks : List Bool) (r : Rest) (is
   next_at i = ap (λ (ts : List Standing). standing_of ts i) after ∙ at_map after_settling ss i Alone
 
   in_drawing : (i j : ℕ) → i < j → AreUnmarked d marks i j → Breaks d 5 i j → ⊥
-  in_drawing i j l p b = no_break d marks r is law none i j l p.second b p.mark_first p.mark_second
+  in_drawing i j l p b = no_break d marks points r is law none i j l p.second b p.mark_first p.mark_second
 
   both_there : (i j : ℕ) → (i ≡ j → ⊥) → i < length d.curves → j < length d.curves → standing_of ss i ≡ Alone → standing_of ss j ≡ Tried → Breaks d 5 i j → ⊥
   both_there i j n li lj e t b =

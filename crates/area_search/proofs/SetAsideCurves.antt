@@ -73,7 +73,7 @@ left_drawn low high all lent curves numbers lent_numbers e f known are drawn k x
     subst (IsDrawn low high) (sym (get_same curves k x no_curve l ∙ at.each k m)) (drawn (slice_index numbers k) no_curve (known k m))
 
 -- ---- curves without which the last level settles the drawing
-module _ (d : Plan) (marks : List Bool) (r : Rest) (is : IsRest d marks r) where
+module _ (d : Plan) (marks : List Bool) (points : List Placed) (r : Rest) (is : IsRest d marks points r) where
   abbrev e : Plan
   e = plan r.drawing
 
@@ -143,27 +143,30 @@ module _ (d : Plan) (marks : List Bool) (r : Rest) (is : IsRest d marks r) where
       by false false p q = absurd (f p q)
 
   -- ---- points
-  object_is : (j : ℕ) → object e j ≡ object d j
-  object_is j = ap (λ (ps : List Placed). (get_or ps j (record { at = no_point; line = 0 })).at) is.points
+  abbrev HasAllPoints : Type 0
+  HasAllPoints = points ≡ d.points
 
-  lies_there : (j i : ℕ) → LiesOn d j i → (x : HasPlace i) → LiesOn e j x.a
-  lies_there j i h x = record {
-    point_there = subst (λ (ps : List Placed). j < length ps) (sym is.points) h.point_there;
+  object_is : HasAllPoints → (j : ℕ) → object e j ≡ object d j
+  object_is all j = ap (λ (ps : List Placed). (get_or ps j (record { at = no_point; line = 0 })).at) (is.points_are ∙ all)
+
+  lies_there : HasAllPoints → (j i : ℕ) → LiesOn d j i → (x : HasPlace i) → LiesOn e j x.a
+  lies_there all j i h x = record {
+    point_there = subst (λ (ps : List Placed). j < length ps) (sym (is.points_are ∙ all)) h.point_there;
     curve_there = x.there;
-    on = subst (λ (c : Curve). IsOn c (point (object e j))) x.curve_is (subst (λ (v : Point). IsOn (curve d i) (point v)) (sym (object_is j)) h.on);
+    on = subst (λ (c : Curve). IsOn c (point (object e j))) x.curve_is (subst (λ (v : Point). IsOn (curve d i) (point v)) (sym (object_is all j)) h.on);
     has_side = subst (λ (c : Curve). c.kind ≡ kind.HalfArc → HasSide (arc c) (point (object e j))) x.curve_is
-        (subst (λ (v : Point). (curve d i).kind ≡ kind.HalfArc → HasSide (arc (curve d i)) (point v)) (sym (object_is j)) h.has_side);
+        (subst (λ (v : Point). (curve d i).kind ≡ kind.HalfArc → HasSide (arc (curve d i)) (point v)) (sym (object_is all j)) h.has_side);
   }
 
-  lies_here : (j a : ℕ) → LiesOn e j a → LiesOnMarked d marks false j (number a)
-  lies_here j a h =
+  lies_here : HasAllPoints → (j a : ℕ) → LiesOn e j a → LiesOnMarked d marks false j (number a)
+  lies_here all j a h =
       let l : a < length r.numbers.items = (let c = is.curves.size in let k = h.curve_there in omega (arith, c, k)) in record {
         on = record {
-          point_there = subst (λ (ps : List Placed). j < length ps) is.points h.point_there;
+          point_there = subst (λ (ps : List Placed). j < length ps) (is.points_are ∙ all) h.point_there;
           curve_there = is.numbers.known a l;
-          on = subst (λ (c : Curve). IsOn c (point (object d j))) (same a l) (subst (λ (v : Point). IsOn (curve e a) (point v)) (object_is j) h.on);
+          on = subst (λ (c : Curve). IsOn c (point (object d j))) (same a l) (subst (λ (v : Point). IsOn (curve e a) (point v)) (object_is all j) h.on);
           has_side = subst (λ (c : Curve). c.kind ≡ kind.HalfArc → HasSide (arc c) (point (object d j))) (same a l)
-              (subst (λ (v : Point). (curve e a).kind ≡ kind.HalfArc → HasSide (arc (curve e a)) (point v)) (object_is j) h.has_side);
+              (subst (λ (v : Point). (curve e a).kind ≡ kind.HalfArc → HasSide (arc (curve e a)) (point v)) (object_is all j) h.has_side);
         };
         mark_is = is.numbers.mark_is a l;
       }
@@ -171,22 +174,22 @@ module _ (d : Plan) (marks : List Bool) (r : Rest) (is : IsRest d marks r) where
   pub on_known : (p : OnCurve) → IsFirstOnCurve e (Some p) → p.curve < length r.numbers.items
   on_known p f = let c = is.curves.size in let k = f.on.curve_there in omega (arith, c, k)
 
-  least_here : (on found : Option OnCurve) → IsFirstOnCurve e on → IsNumbered r.numbers.items on found → IsLeastOf (LiesOnMarked d marks false) found
-  least_here None found f q = subst (IsLeastOf (LiesOnMarked d marks false)) (sym q) (λ j i h. let x = placed i h.on.curve_there h.mark_is in f j x.a (lies_there j i h.on x))
-  least_here (Some p) found f q = subst (IsLeastOf (LiesOnMarked d marks false)) (sym q) (lies_here p.point p.curve f.on, not_less)
+  least_here : HasAllPoints → (on found : Option OnCurve) → IsFirstOnCurve e on → IsNumbered r.numbers.items on found → IsLeastOf (LiesOnMarked d marks false) found
+  least_here all None found f q = subst (IsLeastOf (LiesOnMarked d marks false)) (sym q) (λ j i h. let x = placed i h.on.curve_there h.mark_is in f j x.a (lies_there all j i h.on x))
+  least_here all (Some p) found f q = subst (IsLeastOf (LiesOnMarked d marks false)) (sym q) (lies_here all p.point p.curve f.on, not_less)
     where
       not_less : (j i : ℕ) → LiesOnMarked d marks false j i → IsLess j i p.point (number p.curve) → ⊥
-      not_less j i h (inl l) = let x = placed i h.on.curve_there h.mark_is in f.no_point j x.a l (lies_there j i h.on x)
+      not_less j i h (inl l) = let x = placed i h.on.curve_there h.mark_is in f.no_point j x.a l (lies_there all j i h.on x)
       not_less j i h (inr (q, l)) =
           let x = placed i h.on.curve_there h.mark_is in
           let ex = x.is_at in
-          f.no_curve x.a (in_order x.a p.curve x.known (on_known p f) (omega (arith, ex, l))) (subst (λ (k : ℕ). LiesOn e k x.a) q (lies_there j i h.on x))
+          f.no_curve x.a (in_order x.a p.curve x.known (on_known p f) (omega (arith, ex, l))) (subst (λ (k : ℕ). LiesOn e k x.a) q (lies_there all j i h.on x))
 
   pub few_are_aside : ((i j a b : ℕ) → a < length e.curves → b < length e.curves → curve d i ≡ curve e a → curve d j ≡ curve e b → (i ≡ j → ⊥) → (a ≡ b → ⊥) → Breaks d 5 i j → Breaks e 5 a b)
-      → length marks ≡ length d.curves → HasNoBadPair e → HasNoBreak e → (on found : Option OnCurve) → IsFirstOnCurve e on → IsNumbered r.numbers.items on found → AreAside d marks found
-  few_are_aside law size bad break on found f q = record {
+      → HasAllPoints → length marks ≡ length d.curves → HasNoBadPair e → HasNoBreak e → (on found : Option OnCurve) → IsFirstOnCurve e on → IsNumbered r.numbers.items on found → AreAside d marks found
+  few_are_aside law all size bad break on found f q = record {
     size = size;
     pairs = λ i j p. one_of i j (no_bad bad i j p.pair);
     breaks = λ i j l m h. one_of i j (no_break law break i j l m h);
-    points = least_here on found f q;
+    points = least_here all on found f q;
   }

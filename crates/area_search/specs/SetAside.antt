@@ -4,6 +4,7 @@ use Rattle.std.specs.Prelude.{slice_index}
 use Rattle.plane.specs.Rule.Plans.{Plan, plan}
 use Rattle.plane.specs.declared.kinds.Curve.{Curve}
 use Rattle.plane.specs.declared.kinds.CurveKind.TheVariants as kind
+use Rattle.plane.specs.declared.kinds.Placed.{Placed}
 use Rattle.near_pairs.specs.Boxes.{IsOneMarked, mark_of}
 use Rattle.meetings.specs.CurvePairs.{IsArcPair}
 use Rattle.level_breaks.specs.LevelLists.{AreBreaksMarked}
@@ -45,12 +46,12 @@ pub record AreCurvesAt (all : List Curve) (numbers : List ℕ) (k : ℕ)
   pub size : length curves ≡ k
   pub each : (m : ℕ) → m < k → nth_curve curves m ≡ nth_curve all (slice_index numbers m)
 
--- The drawing of the curves that are not marked, with all points, and their numbers.
-pub record IsRest (d : Plan) (marks : List Bool) (r : Rest) : Type 0 where
+-- The drawing of the curves that are not marked, with these points, and the numbers of the curves.
+pub record IsRest (d : Plan) (marks : List Bool) (points : List Placed) (r : Rest) : Type 0 where
   pub numbers : AreMarkedTo marks false (length d.curves) r.numbers.items
   pub curves : AreCurvesAt d.curves r.numbers.items (length r.numbers.items)
       (plan r.drawing).curves
-  pub points : (plan r.drawing).points ≡ d.points
+  pub points_are : (plan r.drawing).points ≡ points
 
 -- ---- the last level
 abbrev pub HasNoBreak : Plan → Type 0

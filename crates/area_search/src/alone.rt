@@ -5,7 +5,7 @@ ghost use Rattle.plane.specs.Rule.Plans.{plan};
 ghost use Rattle.area_search.specs.Alone.{AreApart};
 
 use super::aside::mark_near;
-use super::rest::rest_of;
+use super::rest::rest_without_points;
 use super::settling::{Settling, settle};
 use super::standing::{
     Standing, after_leaving, after_settling, alone_marks, are_seen, first_standings,
@@ -80,7 +80,7 @@ fn next_standings(
 {
     level_breaks::laws::breaks_are_of_curves();
     let marks = left_out_marks(alloc, standings)?;
-    let rest = rest_of(alloc, drawing, &marks)?;
+    let rest = rest_without_points(alloc, drawing, &marks)?;
     let firm = tried_marks(alloc, standings, &rest.numbers)?;
     match settle(alloc, &rest.drawing, &firm)? {
         Settling::Settled(_) => Ok(Some(after_settling(alloc, standings)?)),

@@ -1,4 +1,4 @@
-use Rattle.std.proofs.Common.{List, Bool, subst}
+use Rattle.std.proofs.Common.{List, [], Bool, subst}
 use Rattle.plane.specs.Rule.Plans.{plan}
 use Rattle.area_search.specs.SetAside.{IsRest, IsSettling}
 use Rattle.area_search.proofs.AloneCurves.{apart_when_left, apart_when_settled}
@@ -8,9 +8,9 @@ pub returns-in-Settled : goal.returns-in-Settled
 returns-in-Settled c =
     let d = plan c.args.drawing.now in
     let r = c.in_ok-rest.rest in
-    let is = subst (λ (ms : List Bool). IsRest d ms r) c.deref.ensures.value c.in_ok-rest.ensures in
+    let is = subst (λ (ms : List Bool). IsRest d ms [] r) c.deref.ensures.value c.in_ok-rest.ensures in
     let s = subst (IsSettling (plan r.drawing)) c.in-Settled.is c.in_ok-settle.ensures in
-    apart_when_settled d c.args.standings.now c.in_ok-after_settling-in-Settled.field-0.items c.in_ok-marks.marks.items r is c.in_ok-marks.ensures c.in_ok-after_settling-in-Settled.ensures
+    apart_when_settled d c.args.standings.now c.in_ok-after_settling-in-Settled.field-0.items c.in_ok-marks.marks.items [] r is c.in_ok-marks.ensures c.in_ok-after_settling-in-Settled.ensures
     (λ i j a b. c.breaks_are_of_curves.ensures d (plan r.drawing) 5 i j a b) s.1 c.requires.apart
 
 pub returns-in-Near : goal.returns-in-Near
