@@ -16,7 +16,7 @@ use plane::Drawing;
 use ports::Memory;
 use std::alloc::Global;
 
-/// How often a drawing is looked at before curves that are alone are given up.
+/// The most drawings that are swept in the search for curves that are alone.
 const ROUNDS: u32 = 96;
 
 /// Marks for curves that break the last level with no other one; no marks where few pairs have a

@@ -18,7 +18,7 @@ use ports::Memory;
 use std::alloc::Global;
 use tubes::tube;
 
-/// How often curves are set aside before all half arcs are.
+/// The most rounds before all half arcs are set aside instead.
 const ROUNDS: u32 = 8;
 
 /// Curves that are set aside, by their marks, and the least point on one of the others, if there is
@@ -84,9 +84,9 @@ fn few_aside(alloc: Global, drawing: &Drawing) -> Result<Option<Aside>, Memory>
 pub(crate) fn mark_near(marks: &mut [bool], numbers: &[u32], near: &[bool])
     ensures { length marks.new ≡ length marks.old }
 {
-    for place in 0..near.len() {
-        if near[place] {
-            mark(marks, numbers, place);
+    for place in 0..numbers.len() {
+        if matches!(near.get(place), Some(true)) {
+            mark(marks, numbers[place]);
         }
     }
 }

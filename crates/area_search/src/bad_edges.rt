@@ -58,8 +58,8 @@ fn shown_by_curves(drawing: &Drawing, pair: CurvePair) -> Shown
     }
 }
 
-/// What two bad curves show: they are named, or of a drawing of few curves no more is said than
-/// that it is at fault, since its least pair is looked for among all pairs.
+/// What two bad curves show: they are named, or in a drawing of few curves only that some pair is
+/// bad, since its least pair is looked for among all pairs.
 fn shown_by_bad(drawing: &Drawing, pair: CurvePair) -> Shown
     requires { IsBadPair (plan drawing.now) pair.first pair.second }
     ensures { (level : ℕ) → IsShown (plan drawing.now) level result }

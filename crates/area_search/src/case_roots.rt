@@ -18,7 +18,8 @@ use ports::Memory;
 use std::alloc::Global;
 use tubes::{Facing, Owner, Part};
 
-/// By the number of a curve, whether a point lies in its tube inside the circle, and so outside.
+/// For each curve, whether a point lies in its tube inside the circle, and whether one lies there
+/// outside.
 #[derive(Drop)]
 struct Chains {
     inner: Vec<bool>,

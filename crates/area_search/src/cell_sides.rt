@@ -39,7 +39,7 @@ pub(crate) fn mark_unpaired(
     let mut any = false;
     for cell in cells {
         if let Some(curve) = unpaired_curve(cell, facings, owners, firm) {
-            mark(near, &[curve], 0);
+            mark(near, curve);
             any = true;
         }
     }

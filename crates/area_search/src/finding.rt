@@ -16,7 +16,7 @@ use std::alloc::Global;
 
 /// The answer to a drawing of at most 16,000,000 curves: a certificate with empty names where it is
 /// a partition that some level settles, else its first fault in the order of the answers; or the
-/// pair that no level settles. The only error is out of memory. Costs stand at the head of the
+/// pair that no level settles. The only error is out of memory. For the costs see the head of the
 /// crate.
 pub fn find_area(alloc: Global, drawing: &Drawing) -> Result<AreaAnswer, Memory>
     requires curves { length (plan drawing.now).curves ≤ 16000000 }

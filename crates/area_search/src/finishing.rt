@@ -93,6 +93,7 @@ fn answer_placed(
     let positions = positions(alloc, &swept.events)?;
     let cells = cells_alone(swept);
     let labelled = label(alloc, mesh, &cells)?;
+    // `edges` says that it is a mesh.
     let _ = labelled.mesh.edges();
     answer_outlined(alloc, case, spots, &labelled, &cells, positions)
 }

@@ -28,13 +28,11 @@ fn is_marked(marks: &[bool], number: usize, mark: bool) -> bool
     marks[number] == mark
 }
 
-/// Marks the number at this place of the list.
-pub(crate) fn mark(marks: &mut [bool], numbers: &[u32], place: usize)
+/// Marks the number, if there is a mark for it.
+pub(crate) fn mark(marks: &mut [bool], number: u32)
     ensures { length marks.new ≡ length marks.old }
 {
-    if let Some(number) = numbers.get(place) {
-        if let Some(mark) = marks.get_mut(*number as usize) {
-            *mark = true;
-        }
+    if let Some(mark) = marks.get_mut(number as usize) {
+        *mark = true;
     }
 }

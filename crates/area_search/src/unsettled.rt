@@ -21,8 +21,8 @@ use ports::Memory;
 use std::alloc::Global;
 
 /// The answer to a drawing that no level settles: a pair of curves that is bad, else a point on a
-/// curve, else the first pair that breaks the last level. The only error is out of memory. Of each
-/// part the memory is let go before the next.
+/// curve, else the first pair that breaks the last level. The only error is out of memory. The
+/// memory of each part is freed before the next begins.
 pub(crate) fn answer_unsettled(alloc: Global, drawing: &Drawing) -> Result<AreaAnswer, Memory>
     requires few { length (plan drawing.now).curves ≤ 16000000 }
     requires unsettled { IsUnsettled (plan drawing.now) }
