@@ -19,8 +19,8 @@ abbrev pub AreOfCurves : Plan → List Owner → Type 0
 AreOfCurves d owners =
     (e : ℕ) → e < length owners → (owner_at owners e).curve < length d.curves
 
--- What is shown of a level: the answer, or that it does not settle the drawing, or that some pair is
--- bad.
+-- What is shown of a level: the answer, or that it does not settle the drawing, or that some pair
+-- is bad.
 abbrev pub IsShown : Plan → ℕ → Shown → Type 0
 IsShown d level (shown.Answer answer) = IsAnswer d answer
 IsShown d level (shown.Unsettled pair) = (IsSettledAt d level → ⊥) × AreOfDrawing d pair

@@ -19,8 +19,8 @@
 //!   (`bad_edges`): where they are bad, they are the answer; else each next level that these two
 //!   break is passed over without its edges (`finding`). In a drawing of at most 2,048 curves a bad
 //!   pair is looked for instead where two curves are bad, two straights first and then the least
-//!   pair with a half arc (`at_fault`). Where no level settles, bad pairs are looked for in the same
-//!   order, then points on curves (`on_curves`), then the least pair that breaks level 5
+//!   pair with a half arc (`at_fault`). Where no level settles, bad pairs are looked for in that
+//!   order too, then points on curves (`on_curves`), then the least pair that breaks level 5
 //!   (`unsettled`). Where half arcs have many others near them, curves that are near each other at
 //!   level 5 are first set aside, until it settles the drawing of the others: then only pairs with
 //!   one of these are tested (`aside`). Where many are set aside, curves that break level 5 with no

@@ -127,8 +127,8 @@ fn settle_run(
     Ok(Settling::Settled(first_spot_on(&spots)))
 }
 
-/// The curves beside cells of which one side faces a tube that the other side does not, if there are
-/// some.
+/// The curves beside cells of which one side faces a tube that the other side does not, if there
+/// are some.
 fn near_cells(
     alloc: Global,
     drawing: &Drawing,

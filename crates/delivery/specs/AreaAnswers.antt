@@ -96,7 +96,8 @@ IsUndecidedOrPartition d = IsUndecidedPlan d ⊎ IsPartition d
 -- some area is undecided, and each other one is undecided or a partition
 abbrev pub AreUndecidedAreas : Layout → List (List Row) → Type 0
 AreUndecidedAreas l rows =
-    Any (IsDrawn l rows IsUndecidedPlan) l.areas × All (IsDrawn l rows IsUndecidedOrPartition) l.areas
+    Any (IsDrawn l rows IsUndecidedPlan) l.areas
+    × All (IsDrawn l rows IsUndecidedOrPartition) l.areas
 
 -- all lines of areas are straights
 abbrev pub HaveStraightLines : Layout → List (List Row) → Type 0

@@ -18,9 +18,9 @@
 //! - **Drawings.** `drawing` turns the rows of an area into curves and points of the plane, each
 //!   with its line in the transfer. What makes a drawing a partition is said in `plane`; faults and
 //!   certificates are found by `area_search`, and certificates judged by `certificate_checker`.
-//! - **What is undecided:** an area whose drawing no level settles. The first two of its curves that
-//!   break the last level are reported by their lines, of which one is half an arc; or the line of
-//!   one half arc that has no tube there, twice. An area of straights is always decided
+//! - **What is undecided:** an area whose drawing no level settles. The first two of its curves
+//!   that break the last level are reported by their lines, and one of them is half an arc; or one
+//!   half arc that has no tube there is, by its line, twice. An area of straights is always decided
 //!   (`laws::straights_are_decided`), and `verify` leaves nothing undecided.
 //! - **Degenerate cases:** an empty file is read as one; a model without a table and a transfer
 //!   without an object are decided; two words may name one file, since all reads come before the

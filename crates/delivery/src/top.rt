@@ -85,7 +85,8 @@ pub fn run<S: Shelf, K: Sink>(alloc: Global, words: &[Word], shelf: &mut S, out:
         × (K.faults out.new ≡ K.faults out.old) }
 
     // Where no count of faults rose, the answer is that of an outcome, or out of memory.
-    ensures complete { HasNoCountedFault (ReadRose (S.read_faults shelf.old) (S.read_faults shelf.new))
+    ensures complete { HasNoCountedFault
+        (ReadRose (S.read_faults shelf.old) (S.read_faults shelf.new))
         (Rose (S.write_faults shelf.old) (S.write_faults shelf.new))
         (Rose (K.faults out.old) (K.faults out.new))
         → IsComplete (S.held shelf.old) words.now result }

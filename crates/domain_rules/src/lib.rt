@@ -17,7 +17,8 @@
 //!   vertices are clean, a line of an AREA has more than one point (`Short`, reported where it
 //!   begins), and each ARCP makes an arc with the vertices beside it (`Arc`, reported where the
 //!   arc ends): the ends are two places, and where the three places lie on one straight, the middle
-//!   one lies between the ends or on one of them. Places are compared by their numbers, `1.0` as `1.00`, and by x and y alone.
+//!   one lies between the ends or on one of them. Places are compared by their numbers, `1.0` as
+//!   `1.00`, and by x and y alone.
 //! - **What is proved.** The answer of `check_values` is `value_findings`, which goes over tables
 //!   and rows (`row_findings` of `itf_reader`). `field_ok` answers none exactly where no word is
 //!   undefined and the words are a value of the form (`Meets`). Where nothing is found, each vertex

@@ -51,7 +51,7 @@ pub fn clashing(
     Ok(marks.marked)
 }
 
-/// A sweep that goes on behind bad edges: the live list, in which edges of marked groups stay until
+/// A sweep that goes on past bad edges: the live list, in which edges of marked groups stay until
 /// an event is beside them, the marks so far, and the edges that were put in last.
 #[derive(Drop)]
 struct ClashSweep<'a> {

@@ -1,7 +1,8 @@
 // Answers to areas: those that are proofs, and whether some are faults or undecided.
 ghost use Rattle.std.specs.Prelude.{◌≡◌};
 ghost use Rattle.plane.specs.Rule.Plans.{plan};
-ghost use Rattle.reports.specs.AreaKinds.{proof_answer, is_fault, is_undecided, has_fault, has_undecided};
+ghost use Rattle.reports.specs.AreaKinds.{proof_answer, is_fault, is_undecided, has_fault};
+ghost use Rattle.reports.specs.AreaKinds.{has_undecided};
 
 use crate::lines::AreaAnswer;
 use certificate::Certificate;
