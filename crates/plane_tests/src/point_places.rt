@@ -102,6 +102,7 @@ const ROWS: [Row; 7] = [
             (0, 4, Place::OnEdge(2)),
             (0, 2, Place::OnEdge(2)),
             (0, 0, Place::OnEdge(0)),
+            (0, 0, Place::OnEdge(0)),
             (-5, 0, OUTSIDE),
         ],
     ),
