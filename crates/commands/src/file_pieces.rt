@@ -42,6 +42,7 @@ pub fn read_piece<S: Shelf>(
     ensures cause { IsErrOf result FileRefusal.Failed
         → Rose (S.read_faults shelf.old name.now) (S.read_faults shelf.new name.now) }
     ensures refusal { IsErrOf result FileRefusal.TooLong → ⊥ }
+    ensures memory { IsErrOf result FileRefusal.Memory → ⊥ }
     ensures ready { StaysReady (S.readable shelf.old) (S.space shelf.old) (S.readable shelf.new)
         (S.space shelf.new) }
     ensures stay { S.readable shelf.old name.now

@@ -24,8 +24,9 @@
 //!
 //! Cost: a turn is two products of 64-bit numbers to 128 bits; `meet` takes at most four turns and
 //! a few comparisons. None of these takes memory. A timetable of m edges takes O(m log m) time, and
-//! 48 bytes an edge while it sorts; its readers are one load, but `edge_events`, which is linear
-//! and takes 8 bytes an edge, and `widest`, which is linear in the events.
+//! at most 120 bytes an edge while it is made, 48 of them for the ends that it sorts; its readers
+//! are one load, but `edge_events`, which is linear and takes 8 bytes an edge, and `widest`, which
+//! is linear in the events.
 //!
 //! A `ChunkedList` to which m values were put in in all has at most m / 2,048 + 1 chunks, since a
 //! chunk is only cut where it is full; on maps it is one. `get` counts the chunks before a place,

@@ -25,8 +25,9 @@ impl Timetable {
     ghost use Rattle.straight_predicates.specs.Tables.{table_of};
 
     /// The timetable of these edges. The only error is out of memory. It sorts the ends: of m
-    /// edges it takes O(m log m) time, and 48 bytes for each while it does; the timetable keeps
-    /// 8 bytes for each edge and 32 for each event, and has room for an event at each end.
+    /// edges it takes O(m log m) time. The timetable keeps 8 bytes for each edge and 32 for each
+    /// event, and has room for an event at each end, 72 bytes an edge in all; while it is made, the
+    /// sorted ends take 48 more.
     pub fn new(alloc: Global, edges: &[Edge]) -> Result<Timetable, Memory>
         requires few { length edges.now < 2 ^ 31 }
         requires sorted { AreSorted edges.now }
