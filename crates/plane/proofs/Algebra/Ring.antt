@@ -43,9 +43,22 @@ add (con c) t = add_con c t
 add (hor p q) (con d) = hor p (add_con d q)
 add (hor p q) (hor r s) = hor (add p r) (add q s)
 
+abbrev pub scaled : ℤ → Form → Form
+scaled c (con d) = con (c *ℤ d)
+scaled c (hor p q) = hor (scaled c p) (scaled c q)
+
+-- 0 times a form is a number, so that no coefficients that are 0 pile up
 abbrev pub scale : ℤ → Form → Form
-scale c (con d) = con (c *ℤ d)
-scale c (hor p q) = hor (scale c p) (scale c q)
+scale (pos zero) t = con (pos 0)
+scale (pos (suc n)) t = scaled (pos (suc n)) t
+scale (negsuc n) t = scaled (negsuc n) t
+
+-- a form times the first variable
+abbrev pub shift : Form → Form
+shift (con (pos zero)) = con (pos 0)
+shift (con (pos (suc n))) = hor (con (pos (suc n))) (con (pos 0))
+shift (con (negsuc n)) = hor (con (negsuc n)) (con (pos 0))
+shift (hor p q) = hor (hor p q) (con (pos 0))
 
 -- f of the coefficients that hold no first variable
 abbrev pub lift : (Form → Form) → Form → Form
@@ -54,7 +67,8 @@ lift f (hor r s) = hor (lift f r) (f s)
 
 abbrev pub mul : Form → Form → Form
 mul (con c) t = scale c t
-mul (hor p q) t = add (hor (mul p t) (con (pos 0))) (lift (mul q) t)
+mul (hor p q) (con d) = scale d (hor p q)
+mul (hor p q) (hor r s) = add (shift (mul p (hor r s))) (lift (mul q) (hor r s))
 
 abbrev pub variable : ℕ → Form
 variable zero = hor (con (pos 1)) (con (pos 0))
@@ -90,14 +104,25 @@ add-value (hor p q) (hor r s) e =
     let k = add-value q s (λ n. e (suc n)) in
     omega (arith, ints, h, k)
 
-scale-value : (c : ℤ) (t : Form) (e : ℕ → ℤ) → at_form (scale c t) e ≡ c *ℤ at_form t e
-scale-value c (con d) e = refl
-scale-value c (hor p q) e =
+scaled-value : (c : ℤ) (t : Form) (e : ℕ → ℤ) → at_form (scaled c t) e ≡ c *ℤ at_form t e
+scaled-value c (con d) e = refl
+scaled-value c (hor p q) e =
     let x = e 0 in
-    let h = ap (λ v. v *ℤ x) (scale-value c p e) ∙ product_assoc c (at_form p e) x in
-    let k = scale-value c q (λ n. e (suc n)) in
+    let h = ap (λ v. v *ℤ x) (scaled-value c p e) ∙ product_assoc c (at_form p e) x in
+    let k = scaled-value c q (λ n. e (suc n)) in
     let d = product-sum c (at_form p e *ℤ x) (at_form q (λ n. e (suc n))) in
     omega (arith, ints, h, k, d)
+
+scale-value : (c : ℤ) (t : Form) (e : ℕ → ℤ) → at_form (scale c t) e ≡ c *ℤ at_form t e
+scale-value (pos zero) t e = sym (zero-product (at_form t e))
+scale-value (pos (suc n)) t e = scaled-value (pos (suc n)) t e
+scale-value (negsuc n) t e = scaled-value (negsuc n) t e
+
+shift-value : (t : Form) (e : ℕ → ℤ) → at_form (shift t) e ≡ at_form t e *ℤ e 0
+shift-value (con (pos zero)) e = sym (zero-product (e 0))
+shift-value (con (pos (suc n))) e = omega (arith, ints)
+shift-value (con (negsuc n)) e = omega (arith, ints)
+shift-value (hor p q) e = omega (arith, ints)
 
 -- the product of a form over the later variables and t
 lift-value : (f : Form → Form) (c : ℤ) (e : ℕ → ℤ) (t : Form) → ((u : Form) → at_form (f u) (λ n. e (suc n)) ≡ c *ℤ at_form u (λ n. e (suc n))) → at_form (lift f t) e ≡ c *ℤ at_form t e
@@ -111,13 +136,15 @@ lift-value f c e (hor r s) h =
 
 mul-value : (s t : Form) (e : ℕ → ℤ) → at_form (mul s t) e ≡ at_form s e *ℤ at_form t e
 mul-value (con c) t e = scale-value c t e
-mul-value (hor p q) t e =
+mul-value (hor p q) (con d) e = scale-value d (hor p q) e ∙ product_comm d (at_form (hor p q) e)
+mul-value (hor p q) (hor r s) e =
+    let t = hor r s in
     let x = e 0 in
     let rest : ℕ → ℤ = λ n. e (suc n) in
     let y = at_form t e in
-    let a = add-value (hor (mul p t) (con (pos 0))) (lift (mul q) t) e in
+    let a = add-value (shift (mul p t)) (lift (mul q) t) e in
     let b = lift-value (mul q) (at_form q rest) e t (λ u. mul-value q u rest) in
-    let k = ap (λ v. v *ℤ x) (mul-value p t e) ∙ product_assoc (at_form p e) y x ∙ ap (λ v. at_form p e *ℤ v) (product_comm y x) ∙ sym (product_assoc (at_form p e) x y) in
+    let k = shift-value (mul p t) e ∙ ap (λ v. v *ℤ x) (mul-value p t e) ∙ product_assoc (at_form p e) y x ∙ ap (λ v. at_form p e *ℤ v) (product_comm y x) ∙ sym (product_assoc (at_form p e) x y) in
     let d = sum-product (at_form p e *ℤ x) (at_form q rest) y in
     omega (arith, ints, a, b, k, d)
 

@@ -14,8 +14,8 @@ use Rattle.plane.proofs.Linear.Clear.{vector_eq}
 pub chord-form : (h : HalfArc) (v : Vector) → chord h *ℤ power h v ≡ shape (cap h) (seen h v)
 unfolding chord power shape along bow bend facing circle_x circle_y
 chord-form h v =
-    let W = at 0 in let T = at 1 in let EX = at 2 in let EY = at 3 in let AX = at 4 in let AY = at 5 in
-    let X = minus (at 6) (times AX (at 8)) in let Y = minus (at 7) (times AY (at 8)) in let N = at 8 in
+    let W = at 0 in let T = at 1 in let EX = at 2 in let EY = at 3 in
+    let X = at 4 in let Y = at 5 in let N = at 6 in
     let D = minus (times W EY) (times T EX) in
     let L = plus (times W W) (times T T) in
     let E = plus (times EX EX) (times EY EY) in
@@ -26,7 +26,7 @@ chord-form h v =
     let S = plus (times W X) (times T Y) in
     let G = minus (num (pos 0)) (times D (minus (times W Y) (times T X))) in
     ring (times L P) (plus (times (times D D) (times S (minus S (times L N)))) (times G (plus G (times (times L M) N))))
-    (vars (wide h ∷ tall h ∷ third_x h ∷ third_y h ∷ h.from.x ∷ h.from.y ∷ v.x ∷ v.y ∷ v.n ∷ [])) refl
+    (vars (wide h ∷ tall h ∷ third_x h ∷ third_y h ∷ (v.x -ℤ (h.from.x *ℤ v.n)) ∷ (v.y -ℤ (h.from.y *ℤ v.n)) ∷ v.n ∷ [])) refl
 
 -- the picture is linear
 pub along-mix : (h : HalfArc) (s : ℤ) (p : Vector) (t : ℤ) (q : Vector) → along h (mix s p t q) ≡ (s *ℤ along h p) +ℤ (t *ℤ along h q)
