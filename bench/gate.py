@@ -3,12 +3,12 @@
 tests and its edits. What the kit has kept of earlier runs is taken over and is not in the table; a run
 from nothing begins with nothing kept.
 
-It runs `.ci/run` and looks once a second at the processes of the prover, each of which names its
-crate; what a process takes after the last look goes uncounted, at most a second of it, and so does
-the building and running of programs. The last lines have the sums, the time of the clock, and what
-the same tasks would take on two processors and on four: not seen but computed, each task on one
-processor, those with the longest way to the end first, as `rt ci` takes them, and without the
-memory that it plans. Its status is that of the gate.
+It runs `.ci/run` and looks once a second at those processes of the prover that belong to this run,
+each of which names its crate; what a process takes after the last look goes uncounted, at most a
+second of it, and so does the running of programs. The last lines have the sums, the time of the
+clock, and what the same tasks would take on two processors and on four: not seen but computed, each
+task on one processor, those with the longest way to the end first, as `rt ci` takes them, and
+without the memory that it plans. Its status is that of the gate.
 
 usage: bench/gate.py [PROCESSORS]
 
@@ -34,16 +34,28 @@ def crates():
     return {name: [other for other in rest.split() if other in names] for name, rest in rows}
 
 
-def look(seen):
-    """Notes for each process of the prover its crate, what it does and its minutes so far."""
+def status(pid):
+    """The fields of a process's status after its name."""
+    with open(f"/proc/{pid}/stat") as file:
+        return file.read().rsplit(")", 1)[1].split()
+
+
+def is_below(pid, top):
+    """Whether the process was started by the other one, or by one that it started."""
+    while pid not in ("0", top):
+        pid = status(pid)[1]
+    return pid == top
+
+
+def look(top, seen):
+    """Notes for each process of the prover below that one its crate, what it does and its minutes so far."""
     for pid in filter(str.isdigit, os.listdir("/proc")):
         try:
             with open(f"/proc/{pid}/cmdline", "rb") as file:
                 words = file.read().decode(errors="replace").split("\0")
-            if os.path.basename(words[0]) != "rattle" or "--crate-name" not in words:
+            if os.path.basename(words[0]) != "rattle" or "--crate-name" not in words or not is_below(pid, top):
                 continue
-            with open(f"/proc/{pid}/stat") as file:
-                fields = file.read().rsplit(")", 1)[1].split()
+            fields = status(pid)
             folder = os.readlink(f"/proc/{pid}/cwd")
         except OSError:
             continue
@@ -58,7 +70,7 @@ def gate():
     with tempfile.TemporaryFile() as log:
         child = subprocess.Popen([os.path.join(TOP, ".ci", "run")], stdin=subprocess.DEVNULL, stdout=log, stderr=log)
         while child.poll() is None:
-            look(seen)
+            look(str(child.pid), seen)
             time.sleep(1)
         log.seek(0)
         lines = log.read().decode(errors="replace").splitlines()
