@@ -85,19 +85,19 @@ columns_more codes t rows r n (c ∷ cs) =
     (kept_if (is_area_point c.form) (flat_map (row_points codes t n) (rows ++ r ∷ [])) (flat_map (row_points codes t n) rows) (row_points codes t n r) (flat_more (row_points codes t n) rows r))
     ∙ ap (λ (l : List PointColumn). with_point r.line (row_cells codes t r) (point_column codes t rows n c) ∷ l) (columns_more codes t rows r (n + 1) cs)
 
-abbrev made : Bool → List Finding → List Seen → List ℕ → List PointColumn → Kept
-made b fs vs ns cs = record { found = fs; is_lines = b; vertices = vs; counts = ns; columns = cs }
+abbrev made : Table → Bool → List Finding → List Seen → List ℕ → List PointColumn → Kept
+made t b fs vs ns cs = record { table = t; found = fs; is_lines = b; vertices = vs; counts = ns; columns = cs }
 
-pub kept_more : (codes : Codes) (t : Table) (rows : List Row) (r : Row) → kept codes t (rows ++ r ∷ []) ≡ with_row codes t r (kept codes t rows)
+pub kept_more : (codes : Codes) (t : Table) (rows : List Row) (r : Row) → kept codes t (rows ++ r ∷ []) ≡ with_row codes r (kept codes t rows)
 kept_more codes t rows r =
     let b = is_of_area t.role in
     let k = kept codes t rows in
     let n = kept codes t (rows ++ r ∷ []) in
-    let w = with_row codes t r k in
-    ap (λ (l : List Finding). made b l n.vertices n.counts n.columns) (flat_more (row_findings codes t) rows r)
-    ∙ ap (λ (l : List Seen). made b w.found l n.counts n.columns) (kept_if b (flat_map (row_vertices t) (rows ++ r ∷ [])) (flat_map (row_vertices t) rows) (row_vertices t r) (flat_more (row_vertices t) rows r))
-    ∙ ap (λ (l : List ℕ). made b w.found w.vertices l n.columns) (kept_if b (map (vertex_count t) (rows ++ r ∷ [])) (map (vertex_count t) rows) (vertex_count t r ∷ []) (map_more (vertex_count t) rows r))
-    ∙ ap (λ (l : List PointColumn). made b w.found w.vertices w.counts l) (columns_more codes t rows r 0 t.columns)
+    let w = with_row codes r k in
+    ap (λ (l : List Finding). made t b l n.vertices n.counts n.columns) (flat_more (row_findings codes t) rows r)
+    ∙ ap (λ (l : List Seen). made t b w.found l n.counts n.columns) (kept_if b (flat_map (row_vertices t) (rows ++ r ∷ [])) (flat_map (row_vertices t) rows) (row_vertices t r) (flat_more (row_vertices t) rows r))
+    ∙ ap (λ (l : List ℕ). made t b w.found w.vertices l n.columns) (kept_if b (map (vertex_count t) (rows ++ r ∷ [])) (map (vertex_count t) rows) (vertex_count t r ∷ []) (map_more (vertex_count t) rows r))
+    ∙ ap (λ (l : List PointColumn). made t b w.found w.vertices w.counts l) (columns_more codes t rows r 0 t.columns)
 
 -- the rows of a slice, one row more
 rows_front : (rows : List CodeRow) (i : ℕ) (r : CodeRow) → i < length rows → r ≡ get_or rows i r → rows_of (take (suc i) rows) ≡ rows_of (take i rows) ++ row_of r ∷ []
@@ -108,11 +108,11 @@ rows_front (q ∷ rows) (suc i) r lt e = ap (λ (rs : List Row). row_of q ∷ rs
 rows_next : (rows : List CodeRow) (i : ℕ) (r : CodeRow) → i < length rows → r ≡ get_or rows i r → rows_of (take (i + 1) rows) ≡ rows_of (take i rows) ++ row_of r ∷ []
 rows_next rows i r lt e = ap (λ (m : ℕ). rows_of (take m rows)) (let s : i + 1 ≡ suc i = omega arith in s) ∙ rows_front rows i r lt e
 
-pub kept_next : (codes : Codes) (t : Table) (rows : List CodeRow) (i : ℕ) (r : CodeRow) (old new : Kept) → i < length rows → r ≡ get_or rows i r → old ≡ kept codes t (rows_of (take i rows)) → new ≡ with_row codes t (row_of r) old
+pub kept_next : (codes : Codes) (t : Table) (rows : List CodeRow) (i : ℕ) (r : CodeRow) (old new : Kept) → i < length rows → r ≡ get_or rows i r → old ≡ kept codes t (rows_of (take i rows)) → new ≡ with_row codes (row_of r) old
     → new ≡ kept codes t (rows_of (take (i + 1) rows))
 kept_next codes t rows i r old new lt e o n =
     n
-    ∙ ap (with_row codes t (row_of r)) o
+    ∙ ap (with_row codes (row_of r)) o
     ∙ sym (kept_more codes t (rows_of (take i rows)) (row_of r))
     ∙ ap (kept codes t) (sym (rows_next rows i r lt e))
 
@@ -122,22 +122,12 @@ kept_at place g [] = []
 kept_at zero g (k ∷ ks) = g k ∷ ks
 kept_at (suc place) g (k ∷ ks) = k ∷ kept_at place g ks
 
-pub all_more : (codes : Codes) (ts : List Table) (transfer : List (List Row)) (n : ℕ) (t : Table) (r : Row) → slice_get ts n ≡ Some t
-    → all_kept codes ts (with_row_at n r transfer) ≡ kept_at n (with_row codes t r) (all_kept codes ts transfer)
-all_more codes [] transfer n t r e = absurd (cc)
-all_more codes (u ∷ ts) [] n t r e = refl
-all_more codes (u ∷ ts) (rows ∷ transfer) zero t r e =
-    ap (λ (k : Kept). k ∷ all_kept codes ts transfer) (kept_more codes u rows r ∙ ap (λ (v : Table). with_row codes v r (kept codes u rows)) (same u t e))
-  where
-    same : (u t : Table) → Some u ≡ Some t → u ≡ t
-    same u t e = cc
-all_more codes (u ∷ ts) (rows ∷ transfer) (suc n) t r e = ap (λ (ks : List Kept). kept codes u rows ∷ ks) (all_more codes ts transfer n t r e)
-
-pub all_beyond : (codes : Codes) (ts : List Table) (transfer : List (List Row)) (n : ℕ) (r : Row) → length ts ≤ n → all_kept codes ts (with_row_at n r transfer) ≡ all_kept codes ts transfer
-all_beyond codes [] transfer n r le = refl
-all_beyond codes (u ∷ ts) [] n r le = refl
-all_beyond codes (u ∷ ts) (rows ∷ transfer) zero r le = absurd (omega (arith, le))
-all_beyond codes (u ∷ ts) (rows ∷ transfer) (suc n) r le = ap (λ (ks : List Kept). kept codes u rows ∷ ks) (all_beyond codes ts transfer n r (omega (arith, le)))
+pub all_more : (codes : Codes) (ts : List Table) (transfer : List (List Row)) (n : ℕ) (r : Row)
+    → all_kept codes ts (with_row_at n r transfer) ≡ kept_at n (with_row codes r) (all_kept codes ts transfer)
+all_more codes [] transfer n r = refl
+all_more codes (u ∷ ts) [] n r = refl
+all_more codes (u ∷ ts) (rows ∷ transfer) zero r = ap (λ (k : Kept). k ∷ all_kept codes ts transfer) (kept_more codes u rows r)
+all_more codes (u ∷ ts) (rows ∷ transfer) (suc n) r = ap (λ (ks : List Kept). kept codes u rows ∷ ks) (all_more codes ts transfer n r)
 
 pub none_kept : (codes : Codes) (n : ℕ) (ts : List Table) → map (no_rows codes) ts ≡ all_kept codes ts (by_table_from n (map wanted_of ts) [])
 none_kept codes n [] = refl

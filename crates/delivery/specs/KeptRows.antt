@@ -47,9 +47,10 @@ pub record PointColumn : Type 0 where
   pub is_area : Bool
   pub points : List Placed
 
--- the findings of the rows; and if they are lines of an area, their vertices and how many each row
--- has
+-- the table, and the findings of its rows; and if these are lines of an area, their vertices and how
+-- many each row has
 pub record Kept : Type 0 where
+  pub table : Table
   pub found : List Finding
   pub is_lines : Bool
   pub vertices : List Seen
@@ -75,6 +76,7 @@ vertex_count t r = length (row_vertices t r)
 
 abbrev pub kept : Codes → Table → List Row → Kept
 kept codes t rows = record {
+  table = t;
   found = table_findings codes t rows;
   is_lines = is_of_area t.role;
   vertices = if is_of_area t.role then flat_map (row_vertices t) rows else [];
@@ -101,6 +103,7 @@ with_point line cells c =
 abbrev pub with_found : List Finding → Kept → Kept
 with_found found k =
     record {
+      table = k.table;
       found = k.found ++ found;
       is_lines = k.is_lines;
       vertices = k.vertices;
@@ -110,6 +113,7 @@ with_found found k =
 
 abbrev pub with_vertices : List Seen → Kept → Kept
 with_vertices vertices k = record {
+  table = k.table;
   found = k.found;
   is_lines = k.is_lines;
   vertices = if k.is_lines then k.vertices ++ vertices else k.vertices;
@@ -120,6 +124,7 @@ with_vertices vertices k = record {
 abbrev pub with_points : ℕ → List Cell → Kept → Kept
 with_points line cells k =
     record {
+      table = k.table;
       found = k.found;
       is_lines = k.is_lines;
       vertices = k.vertices;
@@ -127,10 +132,10 @@ with_points line cells k =
       columns = map (with_point line cells) k.columns;
     }
 
-abbrev pub with_row : Codes → Table → Row → Kept → Kept
-with_row codes t r k =
-    with_points r.line (row_cells codes t r)
-    (with_vertices (row_vertices t r) (with_found (row_findings codes t r) k))
+abbrev pub with_row : Codes → Row → Kept → Kept
+with_row codes r k =
+    with_points r.line (row_cells codes k.table r)
+    (with_vertices (row_vertices k.table r) (with_found (row_findings codes k.table r) k))
 
 -- ---- the rows of all tables
 abbrev pub all_kept : Codes → List Table → List (List Row) → List Kept
@@ -157,6 +162,7 @@ all_found (k ∷ ks) = k.found ++ all_found ks
 abbrev pub places_of : Kept → Kept
 places_of k =
     record {
+      table = k.table;
       found = [];
       is_lines = k.is_lines;
       vertices = k.vertices;

@@ -3,6 +3,7 @@ use Rattle.std.specs.Prelude.{◌≡◌, ℕ, List, map, Option}
 use Rattle.std.specs.Borrow.{Bor}
 use Rattle.std.specs.Option.{option_map}
 use Rattle.table_layout.specs.Layouts.{Layout}
+use Rattle.table_layout.specs.Values.{table_view}
 use Rattle.itf_reader.specs.declared.rows.values.Cell.{Cell as CodeCell}
 use Rattle.itf_reader.specs.Findings.{findings_of}
 use Rattle.itf_reader.specs.Forms.{Row}
@@ -25,6 +26,7 @@ point_columns_view cs = map column_view cs
 abbrev pub kept_of : TableKept → Kept
 kept_of k =
     record {
+      table = table_view k.reader.table.now;
       found = findings_of k.found.items;
       is_lines = k.is_lines;
       vertices = vertices_view k.vertices.items;

@@ -29,12 +29,12 @@ use std::alloc::Global;
 use table_layout::{Layout, TableId};
 
 // What is kept of the rows of the table of that number.
-fn kept_at(
+fn kept_at<'a>(
     alloc: Global,
-    layout: &Layout,
+    layout: &'a Layout,
     transfer: &Transfer,
     id: TableId,
-) -> Result<TableKept, Memory>
+) -> Result<TableKept<'a>, Memory>
     requires valid { IsValid (layout_view layout.now) }
     requires there { id.0 < length layout.now.tables.items }
     ensures { IfOk result (λ k. (t : GivenTable)

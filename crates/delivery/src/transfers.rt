@@ -125,8 +125,8 @@ fn judge_file<S: Shelf>(
 /// Reads the file of a transfer in pieces of 65,536 bytes, and judges it by the layout of its
 /// model. It is read to its end, or up to a piece past its limit, whatever its first lines hold.
 ///
-/// Cost: time in proportion to the file, for each object also to the POLYLINE attributes and the
-/// IDENT lists of its table, and what its findings and keys take to sort. Held are a piece, one
+/// Cost: time in proportion to the file, for each object also to the IDENT lists of its table, and
+/// what its findings and keys take to sort. Held are a piece, one
 /// line, the row that is open and the one that was closed last, and of all rows their findings and
 /// keys and the places that areas are drawn from.
 pub fn read_transfer<S: Shelf>(

@@ -3,8 +3,8 @@
 //!
 //! `check_values` goes over the rows of all tables and reports what is wrong with their values, in
 //! order of line, column and code (INTERLIS 1, SN 612030, the domains of attributes). `field_ok`
-//! asks the same of a mandatory column alone. Words are read by `field_values`, rows by `read_row`
-//! of `itf_reader`.
+//! asks the same of a mandatory column alone. Words are read by `field_values`, rows by a
+//! `RowReader` of `itf_reader`.
 //!
 //! - **Rows.** A row has one word for its identification and those of its columns, else `Count` is
 //!   reported at column 0 and nothing else. Its columns have the numbers from 1 on, its lines those

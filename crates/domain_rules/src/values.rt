@@ -10,7 +10,7 @@ ghost use Rattle.itf_reader.specs.Views.{rows_of, tables_rows_of, transfer_of};
 ghost use Rattle.domain_rules.specs.ValueFindings.{table_findings, tables_findings, value_findings};
 
 use ili_grammar::Codes;
-use itf_reader::{Finding, Row, RowValues, TableRows, Transfer, read_row, sort_findings};
+use itf_reader::{Finding, Row, RowReader, RowValues, TableRows, Transfer, sort_findings};
 use ports::Memory;
 use std::alloc::Global;
 use table_layout::{Layout, Table};
@@ -29,6 +29,7 @@ pub fn check_values(
     let mut values = RowValues::new(alloc);
     let mut findings = Vec::new(alloc);
     add_tables(
+        alloc,
         &layout.codes,
         &layout.tables,
         &transfer.tables,
@@ -41,6 +42,7 @@ pub fn check_values(
 
 // Adds what is wrong with the rows of each table.
 fn add_tables(
+    alloc: Global,
     codes: &Codes,
     tables: &[Table],
     transfer: &[TableRows],
@@ -53,7 +55,8 @@ fn add_tables(
         (tables_rows_of transfer.now))) }
 {
     for (table, objects) in tables.iter().zip(transfer) {
-        add_rows(codes, table, &objects.rows, values, findings)?;
+        let reader = RowReader::new(alloc, table)?;
+        add_rows(codes, &reader, &objects.rows, values, findings)?;
     }
     Ok(())
 }
@@ -61,17 +64,17 @@ fn add_tables(
 // The values of a row are kept up to the next one.
 fn add_rows(
     codes: &Codes,
-    table: &Table,
+    reader: &RowReader,
     rows: &[Row],
     values: &mut RowValues,
     findings: &mut Vec<Finding>,
 ) -> Result<(), Memory>
-    requires { HasFew (table_view table.now) }
     ensures { OnOk result (AddsFindings findings.old.items findings.new.items
-        (table_findings (codes_of codes.now) (table_view table.now) (rows_of rows.now))) }
+        (table_findings (codes_of codes.now) (table_view reader.now.table.now)
+        (rows_of rows.now))) }
 {
     for row in rows {
-        read_row(codes, table, row, values, findings)?;
+        reader.read(codes, row, values, findings)?;
     }
     Ok(())
 }

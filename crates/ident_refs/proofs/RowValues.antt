@@ -1,10 +1,11 @@
 -- The value at a place of a row.
-use Rattle.std.proofs.Common.{◌≡◌, ℕ, ◌+◌, ◌-◌, ◌<◌, ◌≤◌, List, length, take, drop, map, slice_index_or, None, IsTrue, sym, ap, ◌∙◌, arith, rules, length-drop}
+use Rattle.std.proofs.Common.{◌≡◌, ℕ, zero, suc, ◌+◌, ◌-◌, ◌<◌, ◌≤◌, List, [], ◌∷◌, ◌++◌, length, take, drop, map, replicate, slice_index_or, None, IsTrue, refl, sym, ap, ◌∙◌, arith, rules, length-drop}
 use Rattle.std.proofs.Math.ListN.{get_or-append}
 use Rattle.std.proofs.lemmas.List.{drop-drop, get_or-append_right, length-take-le}
 use Rattle.ili_grammar.specs.Syntax.{Codes}
+use Rattle.resolver.specs.Resolved.{LineForm}
 use Rattle.resolver.specs.Values.{form_of}
-use Rattle.table_layout.specs.Layouts.{Table}
+use Rattle.table_layout.specs.Layouts.{Role, Table}
 use Rattle.itf_reader.specs.Forms.{Vertex, Row}
 use Rattle.field_values.specs.Fields.{width}
 use Rattle.itf_reader.specs.RowFindings.{widths, is_counted}
@@ -44,10 +45,24 @@ column_got codes t r spans p s fields own e lt f same o =
     ∙ sym (f.value (drop 1 r.fields))
     ∙ sym (get_or-append (columns_values codes t.columns (drop 1 r.fields)) (lines_values t.role t.lines r.strokes) None p below)
 
-pub line_behind : (codes : Codes) (t : Table) (r : Row) (spans : List CodeSpan) (p n : ℕ) (strokes : List (List Vertex)) → map span_view spans ≡ spans_from 1 t.columns
-    → length spans ≤ p → n ≡ length spans → strokes ≡ r.strokes
+-- lines that are left out have no value
+no_value : (role : Role) (ls : List LineForm) (i : ℕ) → slice_index_or (lines_values role ls []) i None ≡ None
+no_value role [] i = refl
+no_value role (l ∷ ls) i = refl
+
+given_value : (role : Role) (ls : List LineForm) (ss : List (List Vertex)) (m i : ℕ) → slice_index_or (lines_values role ls ss) i None ≡ slice_index_or (lines_values role ls (ss ++ replicate m [])) i None
+given_value role [] ss m i = refl
+given_value role (l ∷ ls) (s ∷ ss) m zero = refl
+given_value role (l ∷ ls) (s ∷ ss) m (suc i) = given_value role ls ss m i
+given_value role (l ∷ ls) [] zero i = refl
+given_value role (l ∷ ls) [] (suc m) zero = refl
+given_value role (l ∷ ls) [] (suc m) (suc i) = sym (no_value role ls i) ∙ given_value role ls [] m i
+
+pub line_behind : (codes : Codes) (t : Table) (r : Row) (spans : List CodeSpan) (p n left_out : ℕ) (strokes : List (List Vertex)) → map span_view spans ≡ spans_from 1 t.columns
+    → length spans ≤ p → n ≡ length spans → strokes ++ replicate left_out [] ≡ r.strokes
     → slice_index_or (lines_values t.role t.lines strokes) (p - n) None ≡ slice_index_or (row_values codes t r) p None
-line_behind codes t r spans p n strokes e le m same =
+line_behind codes t r spans p n left_out strokes e le m same =
     let a : length (columns_values codes t.columns (drop 1 r.fields)) ≡ n = columns_values_length codes t.columns (drop 1 r.fields) ∙ sym (m ∙ spans_count t.columns spans e) in
-    ap (λ (ss : List (List Vertex)). slice_index_or (lines_values t.role t.lines ss) (p - n) None) same
+    given_value t.role t.lines strokes left_out (p - n)
+    ∙ ap (λ (ss : List (List Vertex)). slice_index_or (lines_values t.role t.lines ss) (p - n) None) same
     ∙ sym (get_or-append_right (columns_values codes t.columns (drop 1 r.fields)) (lines_values t.role t.lines r.strokes) n p None a (omega (arith, le, m)))

@@ -110,7 +110,7 @@ impl<'a> KeyReader<'a> {
         })
     }
 
-    // The value of the line of that number.
+    // The value of the line of that number among those that a row has.
     fn line_at<'b>(&self, strokes: &[Stroke], number: usize) -> Result<Option<Value<'b>>, Memory>
         ensures { IfOk result (λ value. option_map value_view value ≡ slice_index_or (lines_values
             (role_view self.now.table.now.role) (map line_of self.now.table.now.lines.items)
@@ -139,7 +139,7 @@ impl<'a> KeyReader<'a> {
     {
         match self.spans.get(place) {
             Some(span) => Ok(form_value(span.form, self.codes, span.words(&row.fields))),
-            None => self.line_at(&row.strokes, place - self.spans.len()),
+            None => self.line_at(&row.strokes.given, place - self.spans.len()),
         }
     }
 

@@ -7,11 +7,11 @@ pub mod Completes
 pub mod Counted
 pub mod Drive
 pub mod FeedLaws
-pub mod Filling
 pub mod Flags
 pub mod Fresh
 pub mod HeldRows
 pub mod KeyLaws
+pub mod LeftOut
 pub mod Numbers
 pub mod Openings
 pub mod Placed

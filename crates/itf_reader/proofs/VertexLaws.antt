@@ -14,8 +14,8 @@ use Rattle.itf_reader.specs.declared.findings.Code.TheVariants.{Arcs}
 use Rattle.itf_reader.specs.Findings.{Finding}
 use Rattle.itf_reader.specs.declared.rows.values.ReadVertex.{ReadVertex}
 use Rattle.itf_reader.specs.Forms.{Vertex}
-use Rattle.itf_reader.specs.RowReadings.{Stroke, SoundLine, FaultyLine, is_sound_read, sound_vertex, sound_vertices, sound_height, vertices_view, whole_stroke, stroke_of}
-use Rattle.itf_reader.specs.StrokeFindings.{Seen, is_on_arc, code_if, code_of, first_code, finding_at, seen, all_seen, place_of, heights_of, vertex_code, vertex_finding, is_clean, are_clean, is_short, is_whole, stroke_findings, short_finding, are_arcs, arc_findings, is_bad_arc}
+use Rattle.itf_reader.specs.RowReadings.{sound_vertex, sound_vertices, sound_height, vertices_view}
+use Rattle.itf_reader.specs.StrokeFindings.{Seen, is_on_arc, code_if, code_of, first_code, finding_at, seen, all_seen, place_of, heights_of, vertex_code, vertex_finding, is_clean, are_clean, is_short, is_whole, is_sound_stroke, stroke_findings, short_finding, are_arcs, arc_findings, is_bad_arc}
 use Rattle.itf_reader.specs.VertexReadings.{reading_by, vertex_reading}
 
 -- ---- columns
@@ -146,11 +146,11 @@ own_vertices old new lent rest more start s h e r =
     ap vertices_view r ∙ ap (λ (n : ℕ). vertices_view (drop n lent)) s ∙ ap (λ (l : List ReadVertex). vertices_view (drop (length old) l)) e ∙ tail_of old new more h
 
 -- a line whose vertices are all clean
-pub stroke_clean : (role : Role) (l : LineForm) (vs : List Vertex) (rest : List Seen) → rest ≡ sound_vertices l vs → are_clean l vs ≡ true → whole_stroke role rest ≡ stroke_of role l vs
+pub stroke_clean : (role : Role) (l : LineForm) (vs : List Vertex) (rest : List Seen) → rest ≡ sound_vertices l vs → are_clean l vs ≡ true → is_whole role rest ≡ is_sound_stroke role l vs
 stroke_clean role l vs rest e h = rw (e, clean_seen l vs h, h) refl
 
-pub stroke_unclean : (role : Role) (l : LineForm) (vs : List Vertex) (n : ℕ) → n ≡ length (sound_vertices l vs) → are_clean l vs ≡ false → FaultyLine n ≡ stroke_of role l vs
-stroke_unclean role l vs n e h = rw (e, h) refl
+pub stroke_unclean : (role : Role) (l : LineForm) (vs : List Vertex) → are_clean l vs ≡ false → false ≡ is_sound_stroke role l vs
+stroke_unclean role l vs h = rw h refl
 
 pub found_clean : (role : Role) (l : LineForm) (column : ℕ) (vs : List Vertex) (rest : List Seen) (old more new : List Finding) → rest ≡ sound_vertices l vs → are_clean l vs ≡ true
     → more ≡ old ++ flat_map (vertex_finding l column) vs → new ≡ more ++ (short_finding role column rest ++ arc_findings column rest) → new ≡ old ++ stroke_findings role l column vs
@@ -166,7 +166,3 @@ found_unclean role l column vs old more h m = m ∙ rw h refl
 
 pub err_same : (A : Type 0) (c d : Code) → c ≡ d → ◌≡◌ {A = Result A Code} (Err c) (Err d)
 err_same A c d h = cc
-
-pub sound_by : (b : Bool) (n m : ℕ) (s : Stroke) → s ≡ cond b (SoundLine n) (FaultyLine m) → is_sound_read s ≡ b
-sound_by true n m s h = ap is_sound_read h
-sound_by false n m s h = ap is_sound_read h

@@ -5,7 +5,7 @@ use Rattle.table_layout.specs.Layouts.{Role}
 use Rattle.table_layout.specs.Values.{lines_view}
 use Rattle.itf_reader.specs.declared.transfer.Stroke.{Stroke}
 use Rattle.itf_reader.specs.RowFindings.{lines_findings}
-use Rattle.itf_reader.specs.RowReadings.{lines_of, lines_vertices, lines_heights}
+use Rattle.itf_reader.specs.RowReadings.{lines_vertices, lines_heights}
 use Rattle.itf_reader.specs.Views.{strokes_of}
 
 -- nothing is left
@@ -17,12 +17,6 @@ findings_end role line column [] ss h = refl
 findings_end role line column (l ∷ ls) [] h = refl
 findings_end role line column (l ∷ ls) (s ∷ ss) (inl h) = cc
 findings_end role line column (l ∷ ls) (s ∷ ss) (inr h) = cc
-
-pub strokes_end : (role : Role) (ls : List LineForm) (ss : List Stroke) → (ls ≡ []) ⊎ (ss ≡ []) → lines_of role (lines_view ls) (strokes_of ss) ≡ []
-strokes_end role [] ss h = refl
-strokes_end role (l ∷ ls) [] h = refl
-strokes_end role (l ∷ ls) (s ∷ ss) (inl h) = cc
-strokes_end role (l ∷ ls) (s ∷ ss) (inr h) = cc
 
 pub vertices_end : (ls : List LineForm) (ss : List Stroke) → (ls ≡ []) ⊎ (ss ≡ []) → lines_vertices (lines_view ls) (strokes_of ss) ≡ []
 vertices_end [] ss h = refl

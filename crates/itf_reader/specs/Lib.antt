@@ -6,6 +6,7 @@ pub mod Findings
 pub mod Forms
 pub mod ReadRows
 pub mod Layouts
+pub mod LeftOut
 pub mod Machine
 pub mod MachineViews
 pub mod Names

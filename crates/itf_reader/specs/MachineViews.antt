@@ -37,7 +37,7 @@ in_row m =
       inside = in_table m.frame;
       line = m.open.line;
       fields = m.open.fields.items;
-      strokes = strokes_of m.open.strokes.items;
+      strokes = strokes_of m.open.strokes.given.items;
     }
 
 abbrev pub at_in : CodeState → Machine → Standing

@@ -67,10 +67,6 @@ abbrev pub shown_row : Option ℕ → Row → List (ℕ × Row)
 shown_row None row = []
 shown_row (Some table) row = (table, row) ∷ []
 
--- an object without strokes
-abbrev pub row_opened : ℕ → List (List ℕ) → Row
-row_opened number fields = record { line = number; fields = fields; strokes = [] }
-
 -- What a RowFeed is seen as: whether a call ran out of memory, of which nothing else is said then;
 -- its state; and the row that was closed last.
 pub record RowState : Type 0 where

@@ -4,7 +4,7 @@ use Rattle.std.specs.Prelude.{List, [], ◌∷◌, ◌++◌, length, take, drop,
 use Rattle.std.specs.List.{list_all, flat_map}
 use Rattle.ili_grammar.specs.Syntax.{Codes}
 use Rattle.resolver.specs.Resolved.{LineForm}
-use Rattle.table_layout.specs.Layouts.{Role, Column, Table}
+use Rattle.table_layout.specs.Layouts.{Column, Table}
 use Rattle.field_values.specs.declared.value.ValueFault.{ValueFault}
 use Rattle.field_values.specs.Fields.{is_undefined, width}
 use Rattle.field_values.specs.Places.{place_view}
@@ -13,14 +13,11 @@ use Rattle.field_values.specs.Views.{value_view}
 use Rattle.itf_reader.specs.declared.rows.values.Cell.{Cell as CodeCell}
 use Rattle.itf_reader.specs.declared.rows.values.Cell.TheVariants as cells
 use Rattle.itf_reader.specs.declared.rows.values.ReadVertex.{ReadVertex}
-use Rattle.itf_reader.specs.declared.rows.values.StrokeRead.{StrokeRead as CodeStroke}
-use Rattle.itf_reader.specs.declared.rows.values.StrokeRead.TheVariants as strokes
 use Rattle.itf_reader.specs.declared.rows.values.RowValues.{RowValues}
 use Rattle.itf_reader.specs.Forms.{Vertex, Row}
 use Rattle.itf_reader.specs.VertexLists.{kind_of}
 use Rattle.itf_reader.specs.RowFindings.{is_counted}
-use Rattle.itf_reader.specs.StrokeFindings.{Seen, seen, heights_of, is_clean, is_whole}
-use Rattle.itf_reader.specs.StrokeFindings.{is_sound_stroke}
+use Rattle.itf_reader.specs.StrokeFindings.{Seen, seen, heights_of, is_clean}
 
 -- ---- columns
 -- a column: its value, without the bytes of a word that stands for itself; undefined, as an
@@ -63,36 +60,7 @@ sound_height l v = if is_clean l v then heights_of l v else []
 abbrev pub sound_heights : LineForm → List Vertex → List ℤ
 sound_heights l vs = flat_map (sound_height l) vs
 
--- a line: undefined, sound or not, with how many of its vertices are sound
-pub data Stroke : Type 0 where
-  UndefinedLine : Stroke
-  SoundLine FaultyLine : ℕ → Stroke
-
-abbrev pub is_sound_read : Stroke → Bool
-is_sound_read UndefinedLine = false
-is_sound_read (SoundLine n) = true
-is_sound_read (FaultyLine n) = false
-
-abbrev pub stroke_of : Role → LineForm → List Vertex → Stroke
-stroke_of role l vs =
-    if is_sound_stroke role l vs
-    then SoundLine (length (sound_vertices l vs))
-    else FaultyLine (length (sound_vertices l vs))
-
-abbrev pub line_of : Role → LineForm → List Vertex → Stroke
-line_of role l [] = UndefinedLine
-line_of role l (v ∷ vs) = stroke_of role l (v ∷ vs)
-
--- vertices that are all sound
-abbrev pub whole_stroke : Role → List Seen → Stroke
-whole_stroke role vs = if is_whole role vs then SoundLine (length vs) else FaultyLine (length vs)
-
 -- the lines of a row, one after the other
-abbrev pub lines_of : Role → List LineForm → List (List Vertex) → List Stroke
-lines_of role [] ss = []
-lines_of role (l ∷ ls) [] = []
-lines_of role (l ∷ ls) (s ∷ ss) = line_of role l s ∷ lines_of role ls ss
-
 abbrev pub lines_vertices : List LineForm → List (List Vertex) → List Seen
 lines_vertices [] ss = []
 lines_vertices (l ∷ ls) [] = []
@@ -118,25 +86,15 @@ vertex_view v = record { at = place_view v.at; line = v.line; kind = kind_of v.k
 abbrev pub vertices_view : List ReadVertex → List Seen
 vertices_view vs = map vertex_view vs
 
-abbrev pub stroke_view : CodeStroke → Stroke
-stroke_view strokes.Undefined = UndefinedLine
-stroke_view (strokes.Sound n) = SoundLine n
-stroke_view (strokes.Faulty n) = FaultyLine n
-
-abbrev pub strokes_view : List CodeStroke → List Stroke
-strokes_view ss = map stroke_view ss
-
 -- nothing was read
 pub record AreNone (values : RowValues) : Type 0 where
   pub cells : cells_view values.cells.items ≡ []
-  pub strokes : strokes_view values.strokes.items ≡ []
   pub vertices : vertices_view values.vertices.items ≡ []
   pub heights : values.heights.items ≡ []
 
 -- what was read are the values of a row
 pub record AreRead (codes : Codes) (t : Table) (r : Row) (values : RowValues) : Type 0 where
   pub cells : cells_view values.cells.items ≡ cells_of codes t.columns (drop 1 r.fields)
-  pub strokes : strokes_view values.strokes.items ≡ lines_of t.role t.lines r.strokes
   pub vertices : vertices_view values.vertices.items ≡ lines_vertices t.lines r.strokes
   pub heights : values.heights.items ≡ lines_heights t.lines r.strokes
 

@@ -1,8 +1,9 @@
 -- Rows of the code, without where they lie in memory.
-use Rattle.std.specs.Prelude.{List, map}
+use Rattle.std.specs.Prelude.{List, [], ◌++◌, map, replicate}
 use Rattle.itf_reader.specs.declared.vertices.Vertex.{Vertex as CodeVertex}
 use Rattle.itf_reader.specs.declared.vertices.VertexSlice.{VertexSlice}
 use Rattle.itf_reader.specs.declared.transfer.Stroke.{Stroke as CodeStroke}
+use Rattle.itf_reader.specs.declared.transfer.Strokes.{Strokes as CodeStrokes}
 use Rattle.itf_reader.specs.declared.transfer.Row.{Row as CodeRow}
 use Rattle.itf_reader.specs.declared.transfer.TableRows.{TableRows as CodeTableRows}
 use Rattle.itf_reader.specs.declared.transfer.Transfer.{Transfer}
@@ -22,8 +23,12 @@ stroke_of s = s.vertices
 abbrev pub strokes_of : List CodeStroke → List (List Vertex)
 strokes_of ss = map stroke_of ss
 
+-- those that are left out are undefined
+abbrev pub all_strokes : CodeStrokes → List (List Vertex)
+all_strokes s = strokes_of s.given.items ++ replicate s.left_out []
+
 abbrev pub row_of : CodeRow → Row
-row_of r = record { line = r.line; fields = r.fields.items; strokes = strokes_of r.strokes.items }
+row_of r = record { line = r.line; fields = r.fields.items; strokes = all_strokes r.strokes }
 
 abbrev pub rows_of : List CodeRow → List Row
 rows_of rows = map row_of rows

@@ -38,12 +38,14 @@
 //!   the line of four slashes each word may come, and after ENDE none.
 //!
 //! Cost: `Names` sorts the names of a layout, n log n for every layout, and each line TOPI or TABL
-//! looks one up by binary search. A feed goes over the lines once and copies their fields; each
-//! object takes time for each POLYLINE attribute of its table too, also for those that it leaves
-//! out. A vertex takes 12 bytes, and 16 for each of its fields. A `RowFeed` holds the open row and
-//! the one that was closed last, and the numbers of the topics and tables so far; the lists of a
-//! row's fields and strokes are used again. A `TransferFeed` holds all rows, each moved out of the
-//! feed below, and sorts the names anew for each piece.
+//! looks one up by binary search. A feed goes over the lines once and copies their fields. The
+//! strokes that an object leaves out are counted and not made, so that it costs nothing how many
+//! lines its table has. A vertex takes 12 bytes, and 16 for each of its fields. A `RowFeed` holds
+//! the open row and the one that was closed last, and the numbers of the topics and tables so far;
+//! the lists of a row's fields and strokes are used again. A `TransferFeed` holds all rows, each
+//! moved out of the feed below, and sorts the names anew for each piece. A `RowReader` finds the
+//! mandatory lines of its table once; reading a row then takes time in proportion to its words and
+//! vertices, to those mandatory lines that it has strokes for, and to its findings.
 #![tactic(auto)]
 
 mod fields;
@@ -69,9 +71,7 @@ pub use order::sort_findings;
 pub use reading::read_transfer;
 pub use refusal::ReadRefusal;
 pub use row_feed::RowFeed;
-pub use rows::{
-    Cell, ReadVertex, RowValues, StrokeRead, code_of, is_counted, is_sound_line, read_row,
-};
-pub use transfer::{Row, Stroke, Structure, TableRows, Transfer, VertexKind};
+pub use rows::{Cell, ReadVertex, RowReader, RowValues, code_of, is_counted, is_sound_line};
+pub use transfer::{Row, Stroke, Strokes, Structure, TableRows, Transfer, VertexKind};
 pub use transfer_feed::TransferFeed;
 pub use vertices::{Vertex, VertexSlice, Vertices};

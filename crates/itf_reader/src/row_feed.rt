@@ -79,8 +79,7 @@ impl RowFeed {
     /// The row is then `closed`, up to the next line. After the first line at fault nothing is
     /// taken, and no row is closed.
     ///
-    /// Cost: time and memory in proportion to the line; where it closes an object, also to the
-    /// POLYLINE attributes of its table, since each missing line is an undefined stroke.
+    /// Cost: time and memory in proportion to the line.
     pub fn take(&mut self, names: &Names, line: &Line) -> Result<Option<TableId>, Memory>
         ensures at { OnOk result
             (self.new.at ≡ next (form_in names.now) self.old.at (line_view line.now)) }

@@ -11,6 +11,6 @@ mod vertices;
 
 pub use counting::is_counted;
 pub use lines::is_sound_line;
-pub use reading::read_row;
+pub use reading::RowReader;
 pub use report::code_of;
-pub use values::{Cell, ReadVertex, RowValues, StrokeRead};
+pub use values::{Cell, ReadVertex, RowValues};

@@ -19,12 +19,21 @@ pub struct Stroke {
     pub vertices: Vertices,
 }
 
-/// An object: the number and the fields of its line, and as many strokes as its table has lines.
+/// The strokes of an object, one for each line of its table. The last ones may be left out, which
+/// makes them undefined; they are only counted, since a table may have many lines and its objects
+/// few strokes.
+#[derive(Drop)]
+pub struct Strokes {
+    pub given: Vec<Stroke>,
+    pub left_out: usize,
+}
+
+/// An object: the number and the fields of its line, and its strokes.
 #[derive(Drop)]
 pub struct Row {
     pub line: u32,
     pub fields: Vec<Field>,
-    pub strokes: Vec<Stroke>,
+    pub strokes: Strokes,
 }
 
 /// The objects of a table in the order of the text.

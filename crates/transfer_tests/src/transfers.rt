@@ -105,8 +105,11 @@ fn add_stroke(text: &mut String, stroke: &Stroke) -> Result<(), Memory> {
 fn add_row(text: &mut String, row: &Row) -> Result<(), Memory> {
     write!(text, "{}", row.line)?;
     add_fields(text, &row.fields)?;
-    for stroke in &row.strokes {
+    for stroke in &row.strokes.given {
         add_stroke(text, stroke)?;
+    }
+    for _ in 0..row.strokes.left_out {
+        text.push_str(" |")?;
     }
     text.push_str("; ")?;
     Ok(())

@@ -18,7 +18,7 @@ ghost use Rattle.delivery.specs.KeptViews.{cell_there, column_view, kept_of, poi
 use crate::drawings::point_at;
 use field_values::ColumnValue;
 use ili_grammar::Codes;
-use itf_reader::{Cell, Finding, ReadVertex, Row, RowValues, read_row};
+use itf_reader::{Cell, Finding, ReadVertex, Row, RowReader, RowValues};
 use plane::Placed;
 use ports::Memory;
 use resolver::Form;
@@ -34,11 +34,12 @@ pub struct PointColumn {
     pub points: Vec<Placed>,
 }
 
-/// The findings of a table's rows, and the places that areas are drawn from: where the rows are
-/// lines of an area, their vertices one row after another, with how many each row has, and the
-/// points of the columns.
+/// How the rows of a table are read, their findings, and the places that areas are drawn from:
+/// where the rows are lines of an area, their vertices one row after another, with how many each
+/// row has, and the points of the columns.
 #[derive(Drop)]
-pub struct TableKept {
+pub struct TableKept<'a> {
+    pub reader: RowReader<'a>,
     pub found: Vec<Finding>,
     pub is_lines: bool,
     pub vertices: Vec<ReadVertex>,
@@ -148,14 +149,17 @@ fn add_after(kept: &mut Vec<ReadVertex>, vertices: &mut Vec<ReadVertex>) -> Resu
     Ok(())
 }
 
-impl TableKept {
+impl<'a> TableKept<'a> {
     /// No row.
-    pub fn new(alloc: Global, table: &Table) -> Result<TableKept, Memory>
+    pub fn new(alloc: Global, table: &'a Table) -> Result<TableKept<'a>, Memory>
+        requires { HasFew (table_view table.now) }
         ensures { IfOk result (λ k. (codes : GivenCodes)
             → kept_of k ≡ kept codes (table_view table.now) []) }
     {
         let columns = point_columns(alloc, &table.columns)?;
+        let reader = RowReader::new(alloc, table)?;
         Ok(TableKept {
+            reader,
             found: Vec::new(alloc),
             is_lines: is_of_area(table.role),
             vertices: Vec::new(alloc),
@@ -180,15 +184,13 @@ impl TableKept {
     pub fn add_row(
         &mut self,
         codes: &Codes,
-        table: &Table,
         row: &Row,
         values: &mut RowValues,
     ) -> Result<(), Memory>
-        requires { HasFew (table_view table.now) }
         ensures { OnOk result (kept_of self.new ≡ with_row (codes_of codes.now)
-            (table_view table.now) (row_of row.now) (kept_of self.old)) }
+            (row_of row.now) (kept_of self.old)) }
     {
-        read_row(codes, table, row, values, &mut self.found)?;
+        self.reader.read(codes, row, values, &mut self.found)?;
         self.add_vertices(&mut values.vertices)?;
         add_points(row.line, &values.cells, &mut self.columns)
     }
@@ -197,9 +199,9 @@ impl TableKept {
     pub fn of_rows(
         alloc: Global,
         codes: &Codes,
-        table: &Table,
+        table: &'a Table,
         rows: &[Row],
-    ) -> Result<TableKept, Memory>
+    ) -> Result<TableKept<'a>, Memory>
         requires { HasFew (table_view table.now) }
         ensures { IfOk result (λ k. kept_of k ≡ kept (codes_of codes.now) (table_view table.now)
             (rows_of rows.now)) }
@@ -207,7 +209,7 @@ impl TableKept {
         let mut kept = TableKept::new(alloc, table)?;
         let mut values = RowValues::new(alloc);
         for row in rows {
-            kept.add_row(codes, table, row, &mut values)?;
+            kept.add_row(codes, row, &mut values)?;
         }
         Ok(kept)
     }

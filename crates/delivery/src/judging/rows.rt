@@ -1,21 +1,25 @@
 // How the rows of a transfer are judged, one after another.
 ghost use Rattle.std.specs.Prelude.{◌≡◌, ◌++◌, ◌∷◌, ℕ, List, [], false, IfOk, OnOk, map};
+ghost use Rattle.std.specs.List.{All};
 ghost use Rattle.itf_lines.specs.Views.{line_view};
+ghost use Rattle.itf_reader.specs.Few.{HasFew};
 ghost use Rattle.itf_reader.specs.Forms.{Row as GivenRow};
 ghost use Rattle.itf_reader.specs.Layouts.{form_of};
 ghost use Rattle.itf_reader.specs.Machine.{start};
 ghost use Rattle.itf_reader.specs.Names.{form_in};
 ghost use Rattle.itf_reader.specs.RowFeeds.{next, shows, standing};
-ghost use Rattle.table_layout.specs.Layouts.{Layout as GivenLayout};
+ghost use Rattle.table_layout.specs.Layouts.{Table as GivenTable};
 ghost use Rattle.table_layout.specs.Valid.{IsValid};
 ghost use Rattle.table_layout.specs.Values.{layout_view, tables_view};
 ghost use Rattle.ili_grammar.specs.Syntax.{Codes as GivenCodes};
+ghost use Rattle.ili_grammar.specs.Values.{codes_of};
 ghost use Rattle.itf_reader.specs.Views.{row_of};
 ghost use Rattle.delivery.specs.KeptRows.{all_kept, no_rows, with_row_at};
 ghost use Rattle.delivery.specs.KeptViews.{HasTaken, kept_in};
 
 use super::kept::TableKept;
 use ident_refs::KeyFeed;
+use ili_grammar::Codes;
 use itf_lines::Line;
 use itf_reader::{Names, Row, RowFeed, RowValues};
 use ports::Memory;
@@ -26,7 +30,7 @@ use table_layout::{Layout, Table, TableId};
 /// keys.
 #[derive(Drop)]
 pub struct TransferKept<'a> {
-    pub tables: Vec<TableKept>,
+    pub tables: Vec<TableKept<'a>>,
     pub keys: KeyFeed<'a>,
 }
 
@@ -40,7 +44,8 @@ pub struct RowJudge<'a> {
 }
 
 // The tables of a layout, without rows.
-fn empty_tables(alloc: Global, tables: &[Table]) -> Result<Vec<TableKept>, Memory>
+fn empty_tables<'a>(alloc: Global, tables: &'a [Table]) -> Result<Vec<TableKept<'a>>, Memory>
+    requires { All HasFew (tables_view tables.now) }
     ensures { IfOk result (λ kept. (codes : GivenCodes)
         → kept_in kept.items ≡ map (no_rows codes) (tables_view tables.now)) }
 {
@@ -54,25 +59,20 @@ fn empty_tables(alloc: Global, tables: &[Table]) -> Result<Vec<TableKept>, Memor
 // Adds a row to what is kept of the table at that place, if there is one.
 fn add_at(
     kept: &mut [TableKept],
-    layout: &Layout,
+    codes: &Codes,
     place: usize,
     row: &Row,
     values: &mut RowValues,
 ) -> Result<(), Memory>
-    requires { IsValid (layout_view layout.now) }
-    ensures { OnOk result ((transfer : List (List GivenRow))
-        → kept_in kept.old ≡ all_kept (layout_view layout.now).codes
-        (layout_view layout.now).tables transfer
-        → kept_in kept.new ≡ all_kept (layout_view layout.now).codes
-        (layout_view layout.now).tables (with_row_at place (row_of row.now) transfer)) }
+    ensures { OnOk result ((tables : List GivenTable) (transfer : List (List GivenRow))
+        → kept_in kept.old ≡ all_kept (codes_of codes.now) tables transfer
+        → kept_in kept.new ≡ all_kept (codes_of codes.now) tables
+        (with_row_at place (row_of row.now) transfer)) }
 {
-    if layout.tables.len() <= place {
-        return Ok(());
-    }
     if kept.len() <= place {
         return Ok(());
     }
-    kept[place].add_row(&layout.codes, &layout.tables[place], row, values)
+    kept[place].add_row(codes, row, values)
 }
 
 impl<'a> RowJudge<'a> {
@@ -94,7 +94,6 @@ impl<'a> RowJudge<'a> {
 
     // Judges the row that was closed last, which is one of that table.
     fn judge(&mut self, layout: &Layout, table: TableId) -> Result<(), Memory>
-        requires { IsValid (layout_view layout.now) }
         ensures taken { OnOk result ((rows : List (ℕ × GivenRow))
             → HasTaken (layout_view layout.now) rows self.old.kept
             → HasTaken (layout_view layout.now)
@@ -103,7 +102,8 @@ impl<'a> RowJudge<'a> {
     {
         let row = self.feed.closed();
         let place = table.0 as usize;
-        add_at(&mut self.kept.tables, layout, place, row, &mut self.values)?;
+        let tables = &mut self.kept.tables;
+        add_at(tables, &layout.codes, place, row, &mut self.values)?;
         self.kept.keys.add_row(table, row)
     }
 

@@ -9,7 +9,7 @@ ghost use Rattle.itf_reader.specs.RowFeeds.{after_line, standing, Shows};
 ghost use Rattle.itf_reader.specs.MachineViews.{at_of, in_table, in_row};
 
 use super::Machine;
-use super::rows::{fill, open_row};
+use super::rows::open_row;
 use super::state::State;
 use itf_lines::{Line, LineWord};
 use ports::Memory;
@@ -38,27 +38,27 @@ impl Machine {
             line.now.fields.items))) }
         ensures closed { self.new.closed ≡ self.old.closed }
     {
-        self.open.strokes.clear();
+        self.open.strokes.given.clear();
         open_row(self.alloc, &mut self.open, self.frame.lines, line)?;
         self.frame.state = State::InObject;
         Ok(())
     }
 
-    // Closes the open object: missing strokes are undefined.
-    fn close_row(&mut self) -> Result<(), Memory>
-        ensures row { OnOk result (row_of self.new.closed ≡ row_closed (in_row self.old)) }
+    // Closes the open object: the lines of its table for which it has no stroke are left out.
+    fn close_row(&mut self)
+        ensures row { row_of self.new.closed ≡ row_closed (in_row self.old) }
         ensures frame { self.new.frame ≡ self.old.frame }
     {
-        fill(self.alloc, &mut self.open.strokes, self.frame.lines)?;
+        let given = self.open.strokes.given.len();
+        self.open.strokes.left_out = self.frame.lines.saturating_sub(given);
         swap(&mut self.open, &mut self.closed);
-        Ok(())
     }
 
     // Whether the table of the object has a line for one more stroke.
     fn has_room(&self) -> bool
         ensures { result ≡ has_room (in_row self.now) }
     {
-        self.open.strokes.len() < self.frame.lines
+        self.open.strokes.given.len() < self.frame.lines
     }
 
     // After the line of an object or one of its strokes.
@@ -70,11 +70,11 @@ impl Machine {
     {
         match line.word {
             LineWord::Obje => {
-                self.close_row()?;
+                self.close_row();
                 self.start_object(line)
             }
             LineWord::Etab => {
-                self.close_row()?;
+                self.close_row();
                 self.close_table()
             }
             LineWord::Stpt if self.has_room() => self.start_polyline(line),

@@ -32,7 +32,7 @@ impl Machine {
         ensures { OnOk result (at_of self.new ≡ standing
             (strokes (with_stroke (in_row self.old) []))) }
     {
-        self.open.strokes.push(Stroke {
+        self.open.strokes.given.push(Stroke {
             vertices: Vertices::new(self.alloc),
         })?;
         self.frame.state = State::InObject;
@@ -56,7 +56,7 @@ impl Machine {
             self.old.polyline))) }
     {
         let vertices = replace(&mut self.polyline, Vertices::new(self.alloc));
-        self.open.strokes.push(Stroke { vertices })?;
+        self.open.strokes.given.push(Stroke { vertices })?;
         self.frame.state = State::InObject;
         Ok(())
     }

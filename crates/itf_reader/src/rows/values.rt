@@ -19,22 +19,13 @@ pub struct ReadVertex {
     pub kind: VertexKind,
 }
 
-/// A line, with how many of its vertices are sound.
-#[derive(Clone, Copy)]
-pub enum StrokeRead {
-    Undefined,
-    Sound(usize),
-    Faulty(usize),
-}
-
 /// The values of a row: a cell for each column, all sound vertices of its lines one after the
-/// other, the heights of those that have one, and how each line was read.
+/// other, and the heights of those that have one.
 #[derive(Drop)]
 pub struct RowValues {
     pub cells: Vec<Cell>,
     pub vertices: Vec<ReadVertex>,
     pub heights: Vec<i64>,
-    pub strokes: Vec<StrokeRead>,
 }
 
 impl RowValues {
@@ -48,7 +39,6 @@ impl RowValues {
             cells: Vec::new(alloc),
             vertices: Vec::new(alloc),
             heights: Vec::new(alloc),
-            strokes: Vec::new(alloc),
         }
     }
 
@@ -59,6 +49,5 @@ impl RowValues {
         self.cells.clear();
         self.vertices.clear();
         self.heights.clear();
-        self.strokes.clear();
     }
 }

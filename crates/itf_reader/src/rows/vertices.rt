@@ -59,7 +59,6 @@ fn add_vertex(
     ensures heights { OnOk result (values.new.heights.items ≡ values.old.heights.items ++
         sound_height (line_of form.now) (vertex_of vertex.entry)) }
     ensures cells { OnOk result (values.new.cells.items ≡ values.old.cells.items) }
-    ensures strokes { OnOk result (values.new.strokes.items ≡ values.old.strokes.items) }
     ensures findings { OnOk result (AddsFindings findings.old.items findings.new.items
         (vertex_finding (line_of form.now) column (vertex_of vertex.entry))) }
 {
@@ -85,7 +84,6 @@ fn add_sound(vertex: Vertex, value: VertexValue, values: &mut RowValues) -> Resu
     ensures heights { OnOk result (values.new.heights.items ≡ values.old.heights.items ++
         option_to_list value.height) }
     ensures cells { OnOk result (values.new.cells.items ≡ values.old.cells.items) }
-    ensures strokes { OnOk result (values.new.strokes.items ≡ values.old.strokes.items) }
 {
     values.vertices.push(ReadVertex {
         at: value.at,
@@ -120,7 +118,6 @@ pub fn add_vertices(
     ensures heights { OnOk result (values.new.heights.items ≡ values.old.heights.items ++
         sound_heights (line_of form.now) (slice_of vertices.entry)) }
     ensures cells { OnOk result (values.new.cells.items ≡ values.old.cells.items) }
-    ensures strokes { OnOk result (values.new.strokes.items ≡ values.old.strokes.items) }
     ensures findings { OnOk result (AddsFindings findings.old.items findings.new.items
         (flat_map (vertex_finding (line_of form.now) column) (slice_of vertices.entry))) }
 {

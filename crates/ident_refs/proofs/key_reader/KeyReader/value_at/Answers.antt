@@ -1,6 +1,7 @@
-use Rattle.std.proofs.Common.{List, map, sym, ap, ◌∙◌, arith}
+use Rattle.std.proofs.Common.{List, [], ◌++◌, map, replicate, sym, ap, ◌∙◌, arith}
 use Rattle.ili_grammar.specs.Values.{codes_of}
 use Rattle.table_layout.specs.Values.{columns_view, table_view}
+use Rattle.itf_reader.specs.declared.transfer.Stroke.{Stroke}
 use Rattle.itf_reader.specs.Views.{row_of, strokes_of}
 use Rattle.ident_refs.specs.declared.key_reader.Span.{Span}
 use Rattle.ident_refs.specs.Spans.{span_view}
@@ -41,7 +42,7 @@ returns-in-Some c =
 pub returns-in-None : goal.returns-in-None
 returns-in-None c =
     same_answer c.line_at.result _ _
-    (line_behind (codes_of c.args.self.now.codes.now) (table_view c.args.self.now.table.now) (row_of c.args.row.now) c.deref.result.now c.args.place c.len.result (strokes_of c.deref-in-None.result.now)
+    (line_behind (codes_of c.args.self.now.codes.now) (table_view c.args.self.now.table.now) (row_of c.args.row.now) c.deref.result.now c.args.place c.len.result c.args.row.now.strokes.left_out (strokes_of c.deref-in-None.result.now)
     (ap (λ (l : List Span). map span_view l) c.deref.ensures.value ∙ c.args.self.now.spread) c.in-None.ensures.lookup.3
-    (c.len.ensures ∙ sym c.deref.ensures.len) (ap strokes_of c.deref-in-None.ensures.value))
+    (c.len.ensures ∙ sym c.deref.ensures.len) (ap (λ (ss : List Stroke). strokes_of ss ++ replicate c.args.row.now.strokes.left_out []) c.deref-in-None.ensures.value))
     c.line_at.ensures

@@ -17,7 +17,6 @@ invariant-loop-vertex l =
       vertices : vertices_view l.values.vertices.items ++ sound_vertices line rest ≡ vertices_view l.fn.values.vertices.items ++ sound_vertices line all;
       heights : l.values.heights.items ++ sound_heights line rest ≡ l.fn.values.heights.items ++ sound_heights line all;
       cells : l.values.cells.items ≡ l.fn.values.cells.items;
-      strokes : l.values.strokes.items ≡ l.fn.values.strokes.items;
       findings : findings_of l.findings.items ++ flat_map (vertex_finding line l.column) rest ≡ findings_of l.fn.findings.items ++ flat_map (vertex_finding line l.column) all;
     }
 

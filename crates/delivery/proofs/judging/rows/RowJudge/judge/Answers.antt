@@ -17,7 +17,7 @@ returns-clause-taken c =
     record {
       kept =
           ap kept_in (with_items_is c.args.self.now.kept.tables c.add_at.new.kept (c.add_at.auto.kept ∙ c.deref_mut.ensures.len))
-          ∙ c.in_ok-add_at.ensures t (ap kept_in c.deref_mut.ensures.value ∙ h.kept)
+          ∙ c.in_ok-add_at.ensures l.tables t (ap kept_in c.deref_mut.ensures.value ∙ h.kept)
           ∙ ap (λ (r : Row). all_kept l.codes l.tables (with_row_at c.args.table.0 r t)) c.closed-row.ensures
           ∙ ap (all_kept l.codes l.tables) (sym (row_came l c.args.table.0 rows c.args.self.now.feed.closed));
       keys = subst (λ (r : Row). HasRows l c.add_row.new.self (rows ++ (c.args.table.0, r) ∷ [])) c.closed-row.ensures (k l rows h.keys);

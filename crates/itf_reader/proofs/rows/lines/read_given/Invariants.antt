@@ -4,9 +4,9 @@ use Rattle.std.specs.Slice.Iter.{iter_rest}
 use Rattle.table_layout.specs.Values.{role_view, lines_view}
 use Rattle.itf_reader.specs.Findings.{findings_of}
 use Rattle.itf_reader.specs.RowFindings.{lines_findings}
-use Rattle.itf_reader.specs.RowReadings.{lines_heights, lines_of, lines_vertices, strokes_view, vertices_view}
+use Rattle.itf_reader.specs.RowReadings.{lines_heights, lines_vertices, vertices_view}
 use Rattle.itf_reader.specs.Views.{strokes_of}
-use Rattle.itf_reader.proofs.rows.lines.read_lines.Given as goal
+use Rattle.itf_reader.proofs.rows.lines.read_given.Given as goal
 
 abbrev pub invariant-loop-form : goal.invariant-loop-form
 invariant-loop-form l =
@@ -17,7 +17,6 @@ invariant-loop-form l =
       is_finite : (goal.iterator-loop-form).is_finite l.form-iterator;
       column : l.column + length (iter_rest (zip_first l.form-iterator)) ≡ l.first + length l.forms;
       cells : l.values.cells.items ≡ l.fn.values.cells.items;
-      strokes : strokes_view l.values.strokes.items ++ lines_of (role_view l.role) forms rest ≡ strokes_view l.fn.values.strokes.items ++ lines_of (role_view l.role) (lines_view l.forms) (strokes_of l.strokes);
       vertices : vertices_view l.values.vertices.items ++ lines_vertices forms rest ≡ vertices_view l.fn.values.vertices.items ++ lines_vertices (lines_view l.forms) (strokes_of l.strokes);
       heights : l.values.heights.items ++ lines_heights forms rest ≡ l.fn.values.heights.items ++ lines_heights (lines_view l.forms) (strokes_of l.strokes);
       findings :
