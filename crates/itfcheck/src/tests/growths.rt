@@ -1,5 +1,5 @@
-//! Deliveries that a test may run with a refused growth: the answer is the defined one, or out of
-//! memory with nothing done.
+//! Calls that a test may run with a refused growth: the answer is the defined one, or out of memory
+//! with nothing done.
 
 use super::calls::{CHECK, VERIFY, certificate, words_of};
 use delivery::{Status, run};
@@ -65,6 +65,58 @@ const TWO_DRAWINGS: &str =
 const TWO_ANSWERS: &str =
     "AREA Cover Parcel Form ON 23 9\nAREA Cover Parcel Zone MEETING 15 19\nVERDICT REJECTED\n";
 
+// A call over the files M and T, and C where it is there before it; what it answers and puts, and
+// what C holds after it.
+struct Call {
+    words: &'static [&'static str],
+    model: &'static str,
+    transfer: &'static str,
+    before: Option<&'static str>,
+    status: Status,
+    report: &'static str,
+    after: Option<&'static str>,
+}
+
+const CALLS: [Call; 4] = [
+    Call {
+        words: CHECK,
+        model: MODEL,
+        transfer: SEVEN,
+        before: None,
+        status: Status::Accepted,
+        report: "VERDICT ACCEPTED 1\n",
+        after: Some("ITFCERT 1\nAREAS 0\n"),
+    },
+    Call {
+        words: CHECK,
+        model: PARCELS,
+        transfer: SQUARE,
+        before: None,
+        status: Status::Accepted,
+        report: PROVED,
+        after: Some(FILED),
+    },
+    Call {
+        words: VERIFY,
+        model: PARCELS,
+        transfer: SQUARE,
+        before: Some(FILED),
+        status: Status::Accepted,
+        report: PROVED,
+        after: Some(FILED),
+    },
+    // One area at fault rejects the transfer, and the other is answered too.
+    Call {
+        words: CHECK,
+        model: TWO_AREAS,
+        transfer: TWO_DRAWINGS,
+        before: None,
+        status: Status::Rejected,
+        report: TWO_ANSWERS,
+        after: None,
+    },
+];
+
 #[test]
 fn each_answer_has_its_exit_status(rt: HostRuntime) {
     for (status, number) in &NUMBERS {
@@ -72,82 +124,40 @@ fn each_answer_has_its_exit_status(rt: HostRuntime) {
     }
 }
 
+// The files before a call, with room for what it writes.
+fn files_of(alloc: Global, call: &Call) -> Result<MemoryShelf, Fail> {
+    let mut shelf = MemoryShelf::new(alloc);
+    shelf.with_file("M", call.model.as_bytes())?;
+    shelf.with_file("T", call.transfer.as_bytes())?;
+    if let Some(text) = call.before {
+        shelf.with_file("C", text.as_bytes())?;
+    }
+    shelf.make_room("C", 256)?;
+    Ok(shelf)
+}
+
+// The call is answered as it is to be, or memory ran out and nothing was done.
+fn is_answered(rt: &impl Abort, alloc: Global, call: &Call) -> Result<(), Fail> {
+    let mut shelf = files_of(alloc, call)?;
+    let mut out = MemorySink::new(alloc);
+    out.make_room(256)?;
+    let status = run(alloc, &words_of(alloc, call.words)?, &mut shelf, &mut out);
+    let filed = certificate(alloc, &mut shelf)?;
+    if status == Status::Memory {
+        assert_eq!(rt; out.bytes(), b"".as_slice());
+        assert_eq!(rt; filed.as_deref(), call.before);
+        return Ok(());
+    }
+    assert_eq!(rt; status, call.status);
+    assert_eq!(rt; out.bytes(), call.report.as_bytes());
+    assert_eq!(rt; filed.as_deref(), call.after);
+    Ok(())
+}
+
 #[test]
 fn a_refused_growth_leaves_all_as_it_was(rt: HostRuntime) -> Result<(), Fail> {
-    let alloc = rt.alloc();
-    let words = words_of(alloc, CHECK)?;
-    let mut shelf = MemoryShelf::new(alloc);
-    shelf.with_file("M", MODEL.as_bytes())?;
-    shelf.with_file("T", SEVEN.as_bytes())?;
-    shelf.make_room("C", 64)?;
-    let mut out = MemorySink::new(alloc);
-    out.make_room(64)?;
-    let status = run(alloc, &words, &mut shelf, &mut out);
-    let written = certificate(alloc, &mut shelf)?;
-    if status == Status::Memory {
-        assert_eq!(rt; out.bytes(), b"".as_slice());
-        assert!(rt; written.is_none());
-        return Ok(());
+    for call in &CALLS {
+        is_answered(&rt, rt.alloc(), call)?;
     }
-    assert_eq!(rt; status, Status::Accepted);
-    assert_eq!(rt; out.bytes(), b"VERDICT ACCEPTED 1\n".as_slice());
-    assert_eq!(rt; written.as_deref(), Some("ITFCERT 1\nAREAS 0\n"));
-    Ok(())
-}
-
-// Calls over the files of the square, where `C` is what a call before has left.
-fn answer(
-    rt: &impl Abort,
-    alloc: Global,
-    words: &[&str],
-    shelf: &mut MemoryShelf,
-) -> Result<bool, Fail> {
-    let mut out = MemorySink::new(alloc);
-    out.make_room(256)?;
-    let status = run(alloc, &words_of(alloc, words)?, shelf, &mut out);
-    if status == Status::Memory {
-        assert_eq!(rt; out.bytes(), b"".as_slice());
-        return Ok(false);
-    }
-    assert_eq!(rt; status, Status::Accepted);
-    assert_eq!(rt; out.bytes(), PROVED.as_bytes());
-    Ok(true)
-}
-
-#[test]
-fn the_certificate_of_a_square_is_filed_and_verified(rt: HostRuntime) -> Result<(), Fail> {
-    let alloc = rt.alloc();
-    let mut shelf = MemoryShelf::new(alloc);
-    shelf.with_file("M", PARCELS.as_bytes())?;
-    shelf.with_file("T", SQUARE.as_bytes())?;
-    let accepted = answer(&rt, alloc, CHECK, &mut shelf)?;
-    let text = certificate(alloc, &mut shelf)?;
-    if !accepted {
-        assert_eq!(rt; text.as_deref(), None);
-        return Ok(());
-    }
-    assert_eq!(rt; text.as_deref(), Some(FILED));
-    let _verified = answer(&rt, alloc, VERIFY, &mut shelf)?;
-    let text = certificate(alloc, &mut shelf)?;
-    assert_eq!(rt; text.as_deref(), Some(FILED));
-    Ok(())
-}
-
-#[test]
-fn one_area_at_fault_rejects_the_transfer(rt: HostRuntime) -> Result<(), Fail> {
-    let alloc = rt.alloc();
-    let words = words_of(alloc, CHECK)?;
-    let mut shelf = MemoryShelf::new(alloc);
-    shelf.with_file("M", TWO_AREAS.as_bytes())?;
-    shelf.with_file("T", TWO_DRAWINGS.as_bytes())?;
-    let mut out = MemorySink::new(alloc);
-    out.make_room(256)?;
-    let status = run(alloc, &words, &mut shelf, &mut out);
-    if status == Status::Memory {
-        assert_eq!(rt; out.bytes(), b"".as_slice());
-        return Ok(());
-    }
-    assert_eq!(rt; status, Status::Rejected);
-    assert_eq!(rt; out.bytes(), TWO_ANSWERS.as_bytes());
     Ok(())
 }

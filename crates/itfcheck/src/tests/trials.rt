@@ -1,6 +1,8 @@
 //! Trials: the words that spell a size, the text of the smallest transfer, and what the program
 //! says of small ones by their files and of the largest by its words.
 
+ghost use Rattle.std.specs.Prelude.{◌≤◌};
+
 use super::calls::{CHECK, words_of};
 use commands::trial::{model_text, size_of, transfer_text, trial_of};
 use delivery::{Status, run};
@@ -106,15 +108,19 @@ fn the_smallest_transfer_has_four_straights_and_a_cell(rt: HostRuntime) -> Resul
     Ok(())
 }
 
+// The files of a trial of that size.
+fn files_of(alloc: Global, size: u32) -> Result<MemoryShelf, Fail>
+    requires { size ≤ 500 }
+{
+    let mut shelf = MemoryShelf::new(alloc);
+    shelf.with_file("M", &model_text(alloc)?)?;
+    shelf.with_file("T", &transfer_text(alloc, size)?)?;
+    Ok(shelf)
+}
+
 fn reports(rt: &impl Abort, alloc: Global, size: u32, report: &str) -> Result<(), Fail> {
     assert!(rt; size <= 500, "a size");
-    let model = model_text(alloc)?;
-    let transfer = transfer_text(alloc, size)?;
-    let model = std::str::from_utf8(&model).unwrap_or("");
-    let transfer = std::str::from_utf8(&transfer).unwrap_or("");
-    let mut shelf = MemoryShelf::new(alloc);
-    shelf.with_file("M", model.as_bytes())?;
-    shelf.with_file("T", transfer.as_bytes())?;
+    let mut shelf = files_of(alloc, size)?;
     let mut out = MemorySink::new(alloc);
     let status = run(alloc, &words_of(alloc, CHECK)?, &mut shelf, &mut out);
     assert_eq!(rt; status, Status::Accepted, "size {size}");
