@@ -6,10 +6,12 @@
 # in out/, and proves anew those that have changed since.
 #
 # usage: bench/edits.sh [NAME..]      (all crates of bench/edits/ where none is given)
+# Of other crates it says that they have none there.
 . "$(dirname "${BASH_SOURCE[0]}")/begin.sh"
-if [ $# -eq 0 ]; then
-    set -- $(ls "$top/bench/edits")
-fi
+[ $# -gt 0 ] || set -- $(ls "$top/bench/edits")
+for name in "$@"; do
+    [ -d "$top/bench/edits/$name" ] || { echo "$name has no edits in bench/edits: rt must-fail $name tries those of the gate" >&2; exit 1; }
+done
 
 cp "$top/crates.txt" "$top/HANDLES" "$work"
 for folder in "$top"/crates/*; do
