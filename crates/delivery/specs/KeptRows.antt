@@ -47,8 +47,8 @@ pub record PointColumn : Type 0 where
   pub is_area : Bool
   pub points : List Placed
 
--- the table, and the findings of its rows; and if these are lines of an area, their vertices and how
--- many each row has
+-- the table, and the findings of its rows; and if these are lines of an area, their vertices and
+-- how many each row has
 pub record Kept : Type 0 where
   pub table : Table
   pub found : List Finding

@@ -1,7 +1,7 @@
 -- Bounds and overlaps at a scale: in units of the last of so many decimals.
-use Rattle.std.specs.Prelude.{ℕ, ◌+◌, ◌-◌, ◌*◌, ◌/◌, ◌^◌, min, max, ℤ, pos, negsuc, neg_ℤ, ◌-ℤ◌, int_lt}
-use Rattle.std.specs.Prelude.{int_le, unsigned_abs, nat_le, Bool, false, ◌&&◌, ◌||◌, ◌==◌, List, []}
-use Rattle.std.specs.Prelude.{◌∷◌}
+use Rattle.std.specs.Prelude.{ℕ, ◌+◌, ◌-◌, ◌*◌, ◌/◌, ◌^◌, min, max, ℤ, pos, negsuc, neg_ℤ}
+use Rattle.std.specs.Prelude.{◌-ℤ◌, int_lt, int_le, unsigned_abs, nat_le, Bool, false, ◌&&◌, ◌||◌}
+use Rattle.std.specs.Prelude.{◌==◌, List, [], ◌∷◌}
 use Rattle.ili_grammar.specs.Syntax.{Decimal, Span, TypeSyntax, Coord2, Coord3, Dim1, Dim2, Radians}
 use Rattle.ili_grammar.specs.Syntax.{Grads, Degrees, Range, Enumeration, Element, an_element}
 use Rattle.ili_grammar.specs.Syntax.{Elements, no_elements, and_element}

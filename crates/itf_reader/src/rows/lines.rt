@@ -71,8 +71,8 @@ pub fn add_left_out(
     Ok(())
 }
 
-/// Reads the polylines that the row at `line` of the transfer has, and adds what is wrong with them.
-/// The first of them has the column `first`.
+/// Reads the polylines that the row at `line` of the transfer has, and adds what is wrong with
+/// them. The first of them has the column `first`.
 pub fn read_given(
     role: Role,
     line: u32,
