@@ -45,6 +45,21 @@ fn put<S: Shelf>(shelf: &mut S, name: &str, page: &mut Page, bytes: &[u8]) -> Re
     shelf.append(name, bytes)
 }
 
+// Adds a byte.
+fn put_byte<S: Shelf>(shelf: &mut S, name: &str, page: &mut Page, byte: u8) -> Result<(), Failed>
+    ensures written { Writes name.now (byte ∷ []) (S.held shelf.old) page.old result
+        (S.held shelf.new) page.new }
+    ensures room { NeedsRoom (byte ∷ []) (S.space shelf.old name.now) page.old result
+        (S.space shelf.new name.now) page.new }
+    ensures faults { OnlyWritesFail (S.read_faults shelf.old) (S.write_faults shelf.old) result
+        (S.read_faults shelf.new) (S.write_faults shelf.new) }
+{
+    if page.add_byte(byte) {
+        return Ok(());
+    }
+    put(shelf, name, page, &[byte])
+}
+
 // Adds a number in decimal.
 fn put_number<S: Shelf>(
     shelf: &mut S,
@@ -72,7 +87,7 @@ fn put_across<S: Shelf>(shelf: &mut S, name: &str, page: &mut Page, half: u64) -
     ensures faults { OnlyWritesFail (S.read_faults shelf.old) (S.write_faults shelf.old) result
         (S.read_faults shelf.new) (S.write_faults shelf.new) }
 {
-    put(shelf, name, page, b"C")?;
+    put_byte(shelf, name, page, b'C')?;
     put_number(shelf, name, page, half)
 }
 
@@ -111,7 +126,7 @@ fn put_next<S: Shelf>(
     ensures faults { OnlyWritesFail (S.read_faults shelf.old) (S.write_faults shelf.old) result
         (S.read_faults shelf.new) (S.write_faults shelf.new) }
 {
-    put(shelf, name, page, b" ")?;
+    put_byte(shelf, name, page, b' ')?;
     put_word(shelf, name, page, word)
 }
 
@@ -152,5 +167,5 @@ pub fn put_line<S: Shelf>(
 {
     put(shelf, name, page, first)?;
     put_words(shelf, name, page, words)?;
-    put(shelf, name, page, b"\n")
+    put_byte(shelf, name, page, b'\n')
 }

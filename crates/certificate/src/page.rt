@@ -1,5 +1,5 @@
 // The buffer of a file that is appended to.
-ghost use Rattle.std.specs.Prelude.{◌≡◌, ◌++◌, [], IsTrue, IsFalse};
+ghost use Rattle.std.specs.Prelude.{◌≡◌, ◌++◌, ◌∷◌, [], IsTrue, IsFalse};
 
 use std::marker::Model;
 
@@ -53,6 +53,19 @@ impl Page {
         let end = self.len + bytes.len();
         self.bytes[self.len..end].copy_from_slice(bytes);
         self.len = end;
+        true
+    }
+
+    /// Adds a byte, where it has room.
+    pub fn add_byte(&mut self, byte: u8) -> bool
+        ensures added { IsTrue result → self.new ≡ self.old ++ byte ∷ [] }
+        ensures full { IsFalse result → self.new ≡ self.old }
+    {
+        if self.len == SIZE {
+            return false;
+        }
+        self.bytes[self.len] = byte;
+        self.len += 1;
         true
     }
 

@@ -34,7 +34,7 @@
 //!
 //! Cost: a certificate whose edges or points are not as many as the drawing's is answered by
 //! counting the curves, before any edge or tube is made. Any other takes O((m + p) log (m + p))
-//! for m edges and p points, and what the live list moves: at each event one chunk of it, 8,192
+//! for m edges and p points, and what the live list moves: at each event one chunk of it, 1,024
 //! edges at most, and a step over each chunk before the place (`straight_predicates::ChunkedList`).
 //! A half arc has 2^(level + 2) + 1 edges. For each point that is placed in a tube that tube is
 //! made and freed again. About 130 bytes an edge, 4 a curve and 25 a point are taken at the start;

@@ -13,3 +13,4 @@ pub mod RankPasses
 pub mod Rankings
 pub mod RootRanks
 pub mod Searches
+pub mod SortedRoots

@@ -19,9 +19,10 @@
 //!   the least numbers of steps is a law (`laws`).
 //! - **Not here:** which object a face belongs to, and which half-edges are roots.
 //!
-//! Cost: linear in the half-edges and the cells. While `label` searches it takes 12 bytes a
-//! half-edge and 8 a cell, and `links` the same; neither keeps them. The places of the rows are
-//! numbers of 32 bits: 2^31 cells and more, some 26 GB of them, are answered as out of memory.
+//! Cost: linear in the half-edges and the cells; `links` also sorts its p roots, p log p. While
+//! `label` searches it takes 12 bytes a half-edge and 8 a cell, and `links` the same and 4 a root;
+//! neither keeps them. The places of the rows are numbers of 32 bits: 2^31 cells and more, some
+//! 26 GB of them, are answered as out of memory.
 #![tactic(auto)]
 
 mod graph;

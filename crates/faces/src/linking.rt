@@ -11,7 +11,7 @@ ghost use Rattle.faces.specs.Searching.{IsGraph};
 
 use super::graph::Graph;
 use super::labelled::Labelled;
-use super::ranks::ranks_from;
+use super::ranks::ranks_by_number;
 use certificate::{HalfNote, Link};
 use half_edges::HalfEdgeId;
 use line_sweep::Cell;
@@ -22,8 +22,9 @@ use std::alloc::Global;
 /// rank, and the first step of such a way as the link. A step goes to the next or the previous
 /// half-edge or across a cell between two edges; where several begin such a way, the next one
 /// counts before the previous one, and that before those across cells, by number. The only error is
-/// out of memory. It takes time linear in the half-edges and the cells, and for a while 12 bytes a
-/// half-edge and 8 a cell; the notes take 16 bytes a half-edge.
+/// out of memory. It takes time linear in the half-edges and the cells, and p log p for p roots,
+/// and for a while 12 bytes a half-edge, 8 a cell and 4 a root; the notes take 16 bytes a
+/// half-edge.
 pub fn links(
     alloc: Global,
     labelled: &Labelled,
@@ -37,7 +38,7 @@ pub fn links(
         roots.now notes.items) }
 {
     let graph = Graph::new(alloc, &labelled.mesh, cells)?;
-    let ranks = ranks_from(alloc, &graph, roots)?;
+    let ranks = ranks_by_number(alloc, &graph, roots)?;
     notes_of(alloc, &graph, &ranks)
 }
 

@@ -1,5 +1,5 @@
 // Ranks of half-edges: how many steps lead to a root.
-ghost use Rattle.std.specs.Prelude.{◌≡◌, ℕ, ◌+◌, ◌<◌, ◌≤◌, [], IfOk, length, slice_index, vec_len};
+ghost use Rattle.std.specs.Prelude.{◌≡◌, ◌↔◌, ℕ, ◌+◌, ◌<◌, ◌≤◌, [], IfOk, length, slice_index, vec_len};
 ghost use Rattle.std.specs.Prelude.{replicate, vec_capacity};
 ghost use Rattle.plane.specs.Lists.{Has};
 ghost use Rattle.half_edges.specs.HalfEdges.{size};
@@ -66,7 +66,7 @@ impl Ranks {
 }
 
 /// The rank of each half-edge. It takes time linear in the half-edges and the cells.
-pub fn ranks_from(alloc: Global, graph: &Graph, roots: &[HalfEdgeId]) -> Result<Vec<u32>, Memory>
+fn ranks_from(alloc: Global, graph: &Graph, roots: &[HalfEdgeId]) -> Result<Vec<u32>, Memory>
     requires graph { IsGraph graph.now }
     requires within { (h : ℕ) → Has h roots.now → h < size graph.now.mesh.now }
     requires rooted { AreRooted graph.now.mesh.now (gaps_of graph.now.cells.now) roots.now }
@@ -79,6 +79,36 @@ pub fn ranks_from(alloc: Global, graph: &Graph, roots: &[HalfEdgeId]) -> Result<
         pass(graph, &mut search);
     }
     Ok(search.ranks)
+}
+
+fn key(half: &HalfEdgeId) -> u32 {
+    half.0
+}
+
+/// The half-edges by number.
+fn sorted(alloc: Global, halves: &[HalfEdgeId]) -> Result<Vec<HalfEdgeId>, Memory>
+    ensures { IfOk result (λ sorted. (h : ℕ) → Has h sorted.items ↔ Has h halves.now) }
+{
+    let mut sorted = Vec::from_slice(alloc, halves)?;
+    sorted.sort_unstable_by_key(key);
+    Ok(sorted)
+}
+
+/// The rank of each half-edge. The search begins from the roots by number and goes through memory
+/// much as they stand there, since half-edges of one face mostly have numbers near each other.
+pub fn ranks_by_number(
+    alloc: Global,
+    graph: &Graph,
+    roots: &[HalfEdgeId],
+) -> Result<Vec<u32>, Memory>
+    requires graph { IsGraph graph.now }
+    requires within { (h : ℕ) → Has h roots.now → h < size graph.now.mesh.now }
+    requires rooted { AreRooted graph.now.mesh.now (gaps_of graph.now.cells.now) roots.now }
+    ensures { IfOk result (λ ranks. AreRanks graph.now.mesh.now (gaps_of graph.now.cells.now)
+        roots.now ranks.items) }
+{
+    let sorted = sorted(alloc, roots)?;
+    ranks_from(alloc, graph, &sorted)
 }
 
 /// Gives the roots rank 0.

@@ -20,3 +20,4 @@ pub mod AllMapped
 pub mod Collecting
 pub mod NoRows
 pub mod NeighbouringKeys
+pub mod SharedSteps

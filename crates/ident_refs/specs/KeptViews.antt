@@ -1,5 +1,6 @@
 -- What the code keeps of rows, without where it lies in memory.
-use Rattle.std.specs.Prelude.{◌≡◌, ℕ, List, map, Option}
+use Rattle.std.specs.Prelude.{◌≡◌, ℕ, List, map, take, drop, Option}
+use Rattle.std.specs.List.{flat_map}
 use Rattle.ili_grammar.specs.Values.{codes_of}
 use Rattle.table_layout.specs.Layouts.{Layout}
 use Rattle.table_layout.specs.Values.{table_view}
@@ -23,13 +24,20 @@ list_view l = record { column = l.column; places = l.places.now; keys = l.keys.i
 abbrev pub lists_view : List CodeList → List KeptList
 lists_view ls = map list_view ls
 
+-- the element at a place, if there is one
+abbrev pub picked_one : {X : Type 0} → List X → ℕ → List X
+picked_one xs place = take 1 (drop place xs)
+
+abbrev pub picked : {X : Type 0} → List X → List ℕ → List X
+picked xs places = flat_map (picked_one xs) places
+
 abbrev pub kept_view : TableKeys → Kept
 kept_view t = record {
   codes = codes_of t.reader.codes.now;
   table = table_view t.reader.table.now;
   lines = t.lines.items;
   ids = t.ids.items;
-  lists = lists_view t.lists.items;
+  lists = picked (lists_view t.lists.items) t.order.items;
   refs = refs_view t.refs.items;
 }
 

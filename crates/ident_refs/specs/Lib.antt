@@ -8,3 +8,4 @@ pub mod KeptViews
 pub mod FedRows
 pub mod Spans
 pub mod DistinctKeys
+pub mod SharedLists

@@ -1,5 +1,5 @@
 // What is kept of the rows of a table.
-ghost use Rattle.std.specs.Prelude.{◌≡◌, ◌≤◌, ◌<◌, [], length, map, OnOk, IfOk};
+ghost use Rattle.std.specs.Prelude.{◌≡◌, ◌≤◌, ◌<◌, ◌∷◌, ℕ, List, [], length, map, OnOk, IfOk, IsTrue};
 ghost use Rattle.std.specs.List.{All, flat_map};
 ghost use Rattle.ili_grammar.specs.Syntax.{Codes as GivenCodes};
 ghost use Rattle.ili_grammar.specs.Values.{codes_of};
@@ -8,7 +8,9 @@ ghost use Rattle.table_layout.specs.Layouts.{Table as GivenTable};
 ghost use Rattle.table_layout.specs.Values.{table_view};
 ghost use Rattle.itf_reader.specs.Findings.{AddsFindings};
 ghost use Rattle.itf_reader.specs.Views.{row_of};
-ghost use Rattle.ident_refs.specs.KeptRows.{kept_table, kept_lists, list_findings, ref_findings};
+ghost use Rattle.ident_refs.specs.SharedLists.{AreBare, bare_list};
+ghost use Rattle.ident_refs.specs.KeptViews.{picked, picked_one};
+ghost use Rattle.ident_refs.specs.KeptRows.{kept_table, kept_lists, ref_findings};
 ghost use Rattle.ident_refs.specs.KeptRows.{kept_findings, with_key, with_row};
 ghost use Rattle.ident_refs.specs.KeptViews.{ids_view, kept_view, list_view, lists_view, refs_view};
 
@@ -17,9 +19,10 @@ use super::key_cell::KeyCell;
 use super::key_reader::{KeyReader, column_of};
 use super::references::{KeptRef, add_dangling, add_refs};
 use super::repeats::KeyColumn;
+use super::shared_lists::{add_shared, first_such, list_names};
 use ili_grammar::Codes;
 use itf_reader::{Code, Finding, Row};
-use ports::Memory;
+use ports::{Memory, SortedKeys};
 use resolver::Places;
 use std::alloc::Global;
 use table_layout::Table;
@@ -33,7 +36,8 @@ pub struct KeptList<'a> {
 }
 
 /// What is kept of the rows of a table: their lines and identifications, the keys of its IDENT
-/// lists, and the references.
+/// lists, lists of the same places once, of each IDENT list the number of its own among these, and
+/// the references.
 #[derive(Drop)]
 pub struct TableKeys<'a> {
     alloc: Global,
@@ -41,25 +45,71 @@ pub struct TableKeys<'a> {
     pub lines: Vec<u32>,
     pub ids: Vec<KeyCell>,
     pub lists: Vec<KeptList<'a>>,
+    pub order: Vec<usize>,
     pub refs: Vec<KeptRef>,
 }
 
-// The lists of a table, without rows.
-fn empty_lists<'a>(alloc: Global, lists: &'a [Places]) -> Result<Vec<KeptList<'a>>, Memory>
-    requires { All (All (λ p. p < 4194306)) (places_of lists.now) }
-    ensures { IfOk result (λ kept. (codes : GivenCodes) (t : GivenTable)
-        → lists_view kept.items ≡ kept_lists
-        codes t [] (places_of lists.now)) }
+// Whether two lists have the same places.
+fn are_same(a: &[u32], b: &[u32]) -> bool
+    ensures { IsTrue result → a.now ≡ b.now }
 {
-    let mut kept = Vec::with_capacity(alloc, lists.len())?;
-    for list in lists {
-        kept.push(KeptList {
-            column: column_of(&list.places),
-            places: &list.places,
-            keys: Vec::new(alloc),
-        })?;
+    *a == *b
+}
+
+// The number of a list among those that are kept: the one supposed, if it has these places, else
+// that of one more.
+fn number_of<'a>(
+    alloc: Global,
+    supposed: usize,
+    places: &'a [u32],
+    kept: &mut Vec<KeptList<'a>>,
+) -> Result<usize, Memory>
+    requires places { All (λ p. p < 4194306) places.now }
+    requires bare { AreBare kept.now.items }
+    ensures bare { OnOk result (AreBare kept.new.items) }
+    ensures grown { OnOk result ((order : List ℕ)
+        → All (λ j. j < length kept.old.items) order
+        → picked (lists_view kept.new.items) order ≡ picked (lists_view kept.old.items) order) }
+    ensures more { OnOk result (length kept.old.items ≤ length kept.new.items) }
+    ensures own { IfOk result (λ number. picked_one (lists_view kept.new.items) number
+        ≡ bare_list places.now ∷ []) }
+    ensures within { IfOk result (λ number. number < length kept.new.items) }
+{
+    if let Some(known) = kept.get(supposed) {
+        if are_same(known.places, places) {
+            return Ok(supposed);
+        }
     }
-    Ok(kept)
+    let number = kept.len();
+    kept.push(KeptList {
+        column: column_of(places),
+        places,
+        keys: Vec::new(alloc),
+    })?;
+    Ok(number)
+}
+
+// The lists of a table, without rows, those of the same places once; and of each list the number
+// of its own.
+fn empty_lists<'a>(
+    alloc: Global,
+    lists: &'a [Places],
+) -> Result<(Vec<KeptList<'a>>, Vec<usize>), Memory>
+    requires { All (All (λ p. p < 4194306)) (places_of lists.now) }
+    ensures { IfOk result (λ r. (codes : GivenCodes) (t : GivenTable)
+        → picked (lists_view r.0.items) r.1.items
+        ≡ kept_lists codes t [] (places_of lists.now)) }
+{
+    let names = list_names(alloc, lists)?;
+    let sorted = SortedKeys::new(alloc, &names)?;
+    let mut kept = Vec::new(alloc);
+    let mut order = Vec::with_capacity(alloc, lists.len())?;
+    for (place, list) in lists.iter().enumerate() {
+        let supposed = first_such(&names, &sorted, place, &order);
+        let number = number_of(alloc, supposed, &list.places, &mut kept)?;
+        order.push(number)?;
+    }
+    Ok((kept, order))
 }
 
 // Adds the key of a row by a list.
@@ -79,35 +129,6 @@ fn add_keys(reader: &KeyReader, lists: &mut [KeptList], row: &Row) -> Result<(),
 {
     for place in 0..lists.len() {
         add_key(reader, &mut lists[place], row)?;
-    }
-    Ok(())
-}
-
-// Adds what repeats a key of an IDENT list.
-fn add_list(
-    alloc: Global,
-    lines: &[u32],
-    list: &KeptList,
-    findings: &mut Vec<Finding>,
-) -> Result<(), Memory>
-    ensures { OnOk result (AddsFindings findings.old.items findings.new.items
-        (list_findings lines.now (list_view list.now))) }
-{
-    let column = KeyColumn::new(alloc, lines, &list.keys)?;
-    column.add_repeats(Code::Ident, list.column, findings)
-}
-
-fn add_lists(
-    alloc: Global,
-    lines: &[u32],
-    lists: &[KeptList],
-    findings: &mut Vec<Finding>,
-) -> Result<(), Memory>
-    ensures { OnOk result (AddsFindings findings.old.items findings.new.items
-        (flat_map (list_findings lines.now) (lists_view lists.now))) }
-{
-    for list in lists {
-        add_list(alloc, lines, list, findings)?;
     }
     Ok(())
 }
@@ -135,13 +156,14 @@ impl<'a> TableKeys<'a> {
         ensures { IfOk result (λ keys. kept_view keys ≡ kept_table (codes_of codes.now)
             (table_view table.now) []) }
     {
-        let lists = empty_lists(alloc, &table.idents)?;
+        let (lists, order) = empty_lists(alloc, &table.idents)?;
         Ok(TableKeys {
             alloc,
             reader: KeyReader::new(alloc, codes, table)?,
             lines: Vec::new(alloc),
             ids: Vec::new(alloc),
             lists,
+            order,
             refs: Vec::new(alloc),
         })
     }
@@ -177,7 +199,7 @@ impl<'a> TableKeys<'a> {
             (kept_findings (ids_view ids.now) (kept_view self.now))) }
     {
         own.add_repeats(Code::Tid, 0, findings)?;
-        add_lists(self.alloc, &self.lines, &self.lists, findings)?;
+        add_shared(self.alloc, &self.lines, &self.lists, &self.order, findings)?;
         add_references(self.alloc, ids, &self.refs, findings)
     }
 }

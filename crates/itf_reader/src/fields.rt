@@ -20,12 +20,3 @@ pub fn add_copies(alloc: Global, into: &mut Vec<Field>, fields: &[Field]) -> Res
     }
     Ok(())
 }
-
-/// Replaces some fields by copies of others.
-pub fn refill(alloc: Global, into: &mut Vec<Field>, fields: &[Field]) -> Result<(), Memory>
-    ensures { OnOk result (into.new.items ≡ fields.now) }
-{
-    into.clear();
-    into.reserve_exact(fields.len())?;
-    add_copies(alloc, into, fields)
-}

@@ -38,14 +38,15 @@
 //!   the line of four slashes each word may come, and after ENDE none.
 //!
 //! Cost: `Names` sorts the names of a layout, n log n for every layout, and each line TOPI or TABL
-//! looks one up by binary search. A feed goes over the lines once and copies their fields. The
-//! strokes that an object leaves out are counted and not made, so that it costs nothing how many
-//! lines its table has. A vertex takes 12 bytes, and 16 for each of its fields. A `RowFeed` holds
-//! the open row and the one that was closed last, and the numbers of the topics and tables so far;
-//! the lists of a row's fields and strokes are used again. A `TransferFeed` holds all rows, each
-//! moved out of the feed below, and sorts the names anew for each piece. A `RowReader` finds the
-//! mandatory lines of its table once; reading a row then takes time in proportion to its words and
-//! vertices, to those mandatory lines that it has strokes for, and to its findings.
+//! looks one up by binary search. A feed goes over the lines once: a `RowFeed` moves their fields,
+//! and a `TransferFeed` copies them. The strokes that an object leaves out are counted and not
+//! made, so that it costs nothing how many lines its table has. A vertex takes 12 bytes, and 16
+//! for each of its fields. A `RowFeed` holds the open row and the one that was closed last, and
+//! the numbers of the topics and tables so far; the lists of a row's fields and strokes are used
+//! again. A `TransferFeed` holds all rows, each moved out of the feed below, and sorts the names
+//! anew for each piece. A `RowReader` finds the mandatory lines of its table once; reading a row
+//! then takes time in proportion to its words and vertices, to those mandatory lines that it has
+//! strokes for, and to its findings.
 #![tactic(auto)]
 
 mod fields;

@@ -103,12 +103,12 @@ impl Machine {
         }
     }
 
-    /// Takes a line. Where one was at fault, nothing changes.
-    pub fn step(&mut self, names: &Names, line: &Line) -> Result<(), Memory>
+    /// Takes a line, whose fields are moved out. Where one was at fault, nothing changes.
+    pub fn step(&mut self, names: &Names, line: &mut Line) -> Result<(), Memory>
         ensures at { OnOk result (at_of self.new ≡ next (form_in names.now) (at_of self.old)
-            (line_view line.now)) }
+            (line_view line.old)) }
         // The object that it closes is shown.
-        ensures row { OnOk result (Shows (shows (at_of self.old) line.now.word)
+        ensures row { OnOk result (Shows (shows (at_of self.old) line.old.word)
             (row_of self.new.closed)) }
     {
         match self.frame.state {

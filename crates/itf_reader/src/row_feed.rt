@@ -77,14 +77,15 @@ impl RowFeed {
 
     /// Takes a line by the names of a layout: the table whose row it closes, where it closes one.
     /// The row is then `closed`, up to the next line. After the first line at fault nothing is
-    /// taken, and no row is closed.
+    /// taken, and no row is closed. The fields of the line are moved; nothing is said of what it
+    /// holds then.
     ///
     /// Cost: time and memory in proportion to the line.
-    pub fn take(&mut self, names: &Names, line: &Line) -> Result<Option<TableId>, Memory>
+    pub fn take(&mut self, names: &Names, line: &mut Line) -> Result<Option<TableId>, Memory>
         ensures at { OnOk result
-            (self.new.at ≡ next (form_in names.now) self.old.at (line_view line.now)) }
+            (self.new.at ≡ next (form_in names.now) self.old.at (line_view line.old)) }
         ensures closed { IfOk result (λ table.
-            shown_row (id_view table) self.new.closed ≡ shows self.old.at line.now.word) }
+            shown_row (id_view table) self.new.closed ≡ shows self.old.at line.old.word) }
         // The only error is out of memory, after which each call has it.
         ensures sound { OnOk result ((self.old.failed ≡ false) × (self.new.failed ≡ false)) }
         ensures failed { OnErr result (self.new.failed ≡ true) }

@@ -15,6 +15,7 @@ ghost use Rattle.itf_reader.specs.RowFeeds.{next, shows, after_lines, shown_rows
 mod placing;
 mod read_tables;
 
+use super::fields::add_copies;
 use super::machine::Names;
 use super::refusal::ReadRefusal;
 use super::row_feed::RowFeed;
@@ -49,6 +50,19 @@ impl Model for TransferFeed {
     } };
 }
 
+// A copy of a line.
+fn copy(alloc: Global, line: &Line) -> Result<Line, Memory>
+    ensures { IfOk result (λ copy. line_view copy ≡ line_view line.now) }
+{
+    let mut fields = Vec::with_capacity(alloc, line.fields.len())?;
+    add_copies(alloc, &mut fields, &line.fields)?;
+    Ok(Line {
+        number: line.number,
+        word: line.word,
+        fields,
+    })
+}
+
 impl TransferFeed {
     /// Before a text that is read by a layout. It takes no memory yet.
     pub fn new(alloc: Global, _layout: &Layout) -> Result<TransferFeed, Memory>
@@ -71,7 +85,8 @@ impl TransferFeed {
             (self.new.rows ≡ self.old.rows ++ shows self.old.at line.now.word) }
         ensures failed { self.new.failed ≡ self.old.failed }
     {
-        if let Some(table) = self.feed.take(names, line)? {
+        let mut line = copy(self.alloc, line)?;
+        if let Some(table) = self.feed.take(names, &mut line)? {
             let row = self.feed.take_closed();
             self.tables.add(table, row)?;
         }

@@ -5,7 +5,6 @@ ghost use Rattle.itf_reader.specs.Forms.{vertex};
 ghost use Rattle.itf_reader.specs.VertexLists.{kind_of};
 ghost use Rattle.itf_reader.specs.Views.{slice_of, vertex_of};
 
-use super::fields::add_copies;
 use super::transfer::VertexKind;
 use itf_lines::Field;
 use ports::Memory;
@@ -52,17 +51,17 @@ impl Model for Vertices {
 
 // Adds a vertex to what is kept of others.
 fn add(
-    alloc: Global,
     heads: &mut Vec<Head>,
     kept: &mut Vec<Field>,
     head: Head,
-    fields: &[Field],
+    fields: &mut Vec<Field>,
 ) -> Result<(), Memory>
     ensures heads { OnOk result (heads.new.items ≡ heads.old.items ++ head ∷ []) }
-    ensures fields { OnOk result (kept.new.items ≡ kept.old.items ++ fields.now) }
+    ensures fields { OnOk result (kept.new.items ≡ kept.old.items ++ fields.old.items) }
 {
     heads.push(head)?;
-    add_copies(alloc, kept, fields)
+    kept.append(fields)?;
+    Ok(())
 }
 
 impl Vertices {
@@ -88,22 +87,22 @@ impl Vertices {
         Ok(())
     }
 
-    /// Adds a vertex. The only error is out of memory, also where a line has more than 2^32 - 1
-    /// fields; nothing is then said of the vertices.
+    /// Adds a vertex, whose fields are moved. The only error is out of memory, also where a line
+    /// has more than 2^32 - 1 fields; nothing is then said of the vertices.
     pub fn push(
         &mut self,
-        alloc: Global,
         kind: VertexKind,
         line: u32,
-        fields: &[Field],
+        fields: &mut Vec<Field>,
     ) -> Result<(), Memory>
-        ensures { OnOk result (self.new ≡ self.old ++ vertex (kind_of kind) line fields.now ∷ []) }
+        ensures { OnOk result (self.new
+            ≡ self.old ++ vertex (kind_of kind) line fields.old.items ∷ []) }
     {
         let Ok(count) = u32::try_from(fields.len()) else {
             return Err(Memory);
         };
         let head = Head { line, count, kind };
-        let added = add(alloc, &mut self.heads, &mut self.fields, head, fields);
+        let added = add(&mut self.heads, &mut self.fields, head, fields);
         if added.is_err() {
             self.heads.clear();
             self.fields.clear();

@@ -7,7 +7,7 @@ use std::test::Fail;
 use straight_predicates::ChunkedList;
 
 // A change: from which place on, how many values go, and the first and the last number of those
-// that come in their place, the last one left out. A chunk has at most 8,192 values.
+// that come in their place, the last one left out. A chunk has at most 1,024 values.
 type Change = (usize, usize, u32, u32);
 
 const CHANGES: [Change; 8] = [

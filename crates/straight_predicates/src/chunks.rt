@@ -7,8 +7,8 @@ use super::chunk::{Chunk, insert_values};
 use ports::Memory;
 use std::alloc::Global;
 
-// The most values in a chunk, so that a change of one moves 64 KiB at most.
-const MOST: usize = 8192;
+// The most values in a chunk, so that a change of one moves 1,024 values at most.
+const MOST: usize = 1024;
 
 /// A place of the list: its chunk, and its place there.
 #[derive(Clone, Copy)]

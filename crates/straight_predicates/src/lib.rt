@@ -16,7 +16,7 @@
 //!   there, by number, and those that start there, by slope and then by number; it also gives the
 //!   events of each edge's ends (`edge_events`), for a mesh of them. `cut` finds the place of a
 //!   point in a list of edges; it promises the two edges beside the place and asks for no order of
-//!   the list. `ChunkedList` is a list that is changed in place, in chunks of at most 8,192 values.
+//!   the list. `ChunkedList` is a list that is changed in place, in chunks of at most 1,024 values.
 //!   A sweep and a replay both work with these three; neither is here.
 //! - **Slopes.** `slope` compares directions to the right or straight up. Those have one strict
 //!   order, which a sort needs; directions of all ways round have none.
@@ -28,10 +28,10 @@
 //! are one load, but `edge_events`, which is linear and takes 8 bytes an edge, and `widest`, which
 //! is linear in the events.
 //!
-//! A `ChunkedList` to which m values were put in in all has at most m / 2,048 + 1 chunks, since a
+//! A `ChunkedList` to which m values were put in in all has at most m / 256 + 1 chunks, since a
 //! chunk is only cut where it is full; on maps it is one. `get` counts the chunks before a place,
 //! one load each. `cut` takes a turn for each halving of the list, and counts as `get` does.
-//! `replace` counts, and moves the values of one chunk, 8,192 at most, beside those that come and
+//! `replace` counts, and moves the values of one chunk, 1,024 at most, beside those that come and
 //! go; it takes memory where a chunk grows or is cut. `copy_part` takes what it copies.
 #![tactic(auto)]
 

@@ -52,18 +52,18 @@ fn take_last(
     layout: &Layout,
     names: &Names,
     whole: bool,
-    line: &Line,
+    line: &mut Line,
 ) -> Result<(), Memory>
     requires valid { IsValid (layout_view layout.now) }
     requires named { form_in names.now ≡ form_of (layout_view layout.now) }
     ensures at { OnOk result (rows.new.feed.at ≡ after_lines (form_of (layout_view layout.now))
-        rows.old.feed.at (line_if whole (line_view line.now))) }
+        rows.old.feed.at (line_if whole (line_view line.old))) }
     ensures sound { OnOk result (rows.old.feed.failed ≡ false
         → rows.new.feed.failed ≡ false) }
     ensures taken { OnOk result ((came : List (ℕ × GivenRow))
         → HasTaken (layout_view layout.now) came rows.old.kept
         → HasTaken (layout_view layout.now) (came ++ shown_rows
-        (form_of (layout_view layout.now)) rows.old.feed.at (line_if whole (line_view line.now)))
+        (form_of (layout_view layout.now)) rows.old.feed.at (line_if whole (line_view line.old)))
         rows.new.kept) }
 {
     if whole {
@@ -90,7 +90,7 @@ impl<'a> Judge<'a> {
         numbers_rise();
         itf_reader::from_the_opening();
         let (whole, end) = lines.finish_line(&mut line)?;
-        take_last(&mut rows, layout, names, whole, &line)?;
+        take_last(&mut rows, layout, names, whole, &mut line)?;
         rows.feed.finish(end)?;
         Ok(rows.kept)
     }

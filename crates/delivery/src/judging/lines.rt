@@ -48,7 +48,7 @@ impl<'a> Judge<'a> {
     {
         let mut at = 0;
         while let Some(n) = self.lines.next(&piece[at..], &mut self.line)? {
-            self.rows.take(layout, names, &self.line)?;
+            self.rows.take(layout, names, &mut self.line)?;
             at += n;
         }
         Ok(())

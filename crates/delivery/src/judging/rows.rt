@@ -109,16 +109,16 @@ impl<'a> RowJudge<'a> {
 
     /// Takes a line by the names of a layout, and judges the row that it closes. After the first
     /// line at fault nothing is taken.
-    pub fn take(&mut self, layout: &Layout, names: &Names, line: &Line) -> Result<(), Memory>
+    pub fn take(&mut self, layout: &Layout, names: &Names, line: &mut Line) -> Result<(), Memory>
         requires valid { IsValid (layout_view layout.now) }
         requires named { form_in names.now ≡ form_of (layout_view layout.now) }
         ensures at { OnOk result (self.new.feed.at ≡ next (form_of (layout_view layout.now))
-            self.old.feed.at (line_view line.now)) }
+            self.old.feed.at (line_view line.old)) }
         ensures sound { OnOk result (self.new.feed.failed ≡ false) }
         ensures taken { OnOk result ((rows : List (ℕ × GivenRow))
             → HasTaken (layout_view layout.now) rows self.old.kept
             → HasTaken (layout_view layout.now)
-            (rows ++ shows self.old.feed.at line.now.word) self.new.kept) }
+            (rows ++ shows self.old.feed.at line.old.word) self.new.kept) }
     {
         match self.feed.take(names, line)? {
             Some(table) => self.judge(layout, table),

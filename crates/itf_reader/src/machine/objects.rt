@@ -17,9 +17,9 @@ use std::mem::swap;
 
 impl Machine {
     // After TABL, before the first object.
-    pub fn in_table(&mut self, line: &Line) -> Result<(), Memory>
+    pub fn in_table(&mut self, line: &mut Line) -> Result<(), Memory>
         ensures { (form : Form) → OnOk result (at_of self.new ≡ after_line form
-            (objects (in_table self.old.frame)) (line_view line.now)) }
+            (objects (in_table self.old.frame)) (line_view line.old)) }
     {
         match line.word {
             LineWord::Obje => self.start_object(line),
@@ -32,14 +32,18 @@ impl Machine {
     }
 
     // Opens the object of a line.
-    fn start_object(&mut self, line: &Line) -> Result<(), Memory>
+    fn start_object(&mut self, line: &mut Line) -> Result<(), Memory>
         ensures at { OnOk result (at_of self.new ≡ standing
-            (strokes (opened_row (in_table self.old.frame) line.now.number
-            line.now.fields.items))) }
+            (strokes (opened_row (in_table self.old.frame) line.old.number
+            line.old.fields.items))) }
         ensures closed { self.new.closed ≡ self.old.closed }
     {
+        // The room of a stroke of the row before the last is used again.
+        if let Some(stroke) = self.open.strokes.given.pop() {
+            self.polyline = stroke.vertices;
+        }
         self.open.strokes.given.clear();
-        open_row(self.alloc, &mut self.open, self.frame.lines, line)?;
+        open_row(&mut self.open, self.frame.lines, line)?;
         self.frame.state = State::InObject;
         Ok(())
     }
@@ -62,10 +66,10 @@ impl Machine {
     }
 
     // After the line of an object or one of its strokes.
-    pub fn in_object(&mut self, line: &Line) -> Result<(), Memory>
+    pub fn in_object(&mut self, line: &mut Line) -> Result<(), Memory>
         ensures at { (form : Form) → OnOk result (at_of self.new ≡ after_line form
-            (strokes (in_row self.old)) (line_view line.now)) }
-        ensures row { OnOk result (Shows (closes (strokes (in_row self.old)) line.now.word)
+            (strokes (in_row self.old)) (line_view line.old)) }
+        ensures row { OnOk result (Shows (closes (strokes (in_row self.old)) line.old.word)
             (row_of self.new.closed)) }
     {
         match line.word {

@@ -17,14 +17,13 @@ use std::mem::replace;
 
 impl Machine {
     // Adds the vertex of a line to the open polyline.
-    fn add_vertex(&mut self, kind: VertexKind, line: &Line) -> Result<(), Memory>
+    fn add_vertex(&mut self, kind: VertexKind, line: &mut Line) -> Result<(), Memory>
         ensures vertices { OnOk result (self.new.polyline ≡ self.old.polyline ++ vertex
-            (kind_of kind) line.now.number line.now.fields.items ∷ []) }
+            (kind_of kind) line.old.number line.old.fields.items ∷ []) }
         ensures frame { self.new.frame ≡ self.old.frame }
         ensures row { self.new.open ≡ self.old.open }
     {
-        self.polyline
-            .push(self.alloc, kind, line.number, &line.fields)
+        self.polyline.push(kind, line.number, &mut line.fields)
     }
 
     // Adds an undefined stroke to the open object.
@@ -40,9 +39,9 @@ impl Machine {
     }
 
     // Begins a polyline.
-    pub fn start_polyline(&mut self, line: &Line) -> Result<(), Memory>
+    pub fn start_polyline(&mut self, line: &mut Line) -> Result<(), Memory>
         ensures { OnOk result (at_of self.new ≡ standing (vertices (in_row self.old)
-            (vertex Start line.now.number line.now.fields.items ∷ []))) }
+            (vertex Start line.old.number line.old.fields.items ∷ []))) }
     {
         self.polyline.restart()?;
         self.add_vertex(VertexKind::Start, line)?;
@@ -62,10 +61,10 @@ impl Machine {
     }
 
     // After a vertex that is no ARCP.
-    pub fn in_polyline(&mut self, line: &Line) -> Result<(), Memory>
+    pub fn in_polyline(&mut self, line: &mut Line) -> Result<(), Memory>
         ensures { (form : Form) → OnOk result (at_of self.new ≡ after_line form
             (vertices (in_row self.old) self.old.polyline)
-            (line_view line.now)) }
+            (line_view line.old)) }
     {
         match line.word {
             LineWord::Lipt => {
@@ -83,10 +82,10 @@ impl Machine {
     }
 
     // After ARCP.
-    pub fn after_arc_point(&mut self, line: &Line) -> Result<(), Memory>
+    pub fn after_arc_point(&mut self, line: &mut Line) -> Result<(), Memory>
         ensures { (form : Form) → OnOk result (at_of self.new ≡ after_line form
             (arc (in_row self.old) self.old.polyline)
-            (line_view line.now)) }
+            (line_view line.old)) }
     {
         match line.word {
             LineWord::Lipt => {

@@ -1,11 +1,11 @@
 // Objects, built up line by line.
 ghost use Rattle.std.specs.Prelude.{◌≡◌, [], OnOk};
 
-use crate::fields::refill;
 use crate::transfer::{Row, Strokes};
 use itf_lines::Line;
 use ports::Memory;
 use std::alloc::Global;
+use std::mem::swap;
 
 /// No object.
 pub fn no_row(alloc: Global) -> Row {
@@ -21,13 +21,14 @@ pub fn no_row(alloc: Global) -> Row {
 
 /// Makes a row without strokes the object of a line. It keeps its room, and where its table has
 /// lines it gets room for one stroke, since a transfer has millions of objects with one.
-pub fn open_row(alloc: Global, row: &mut Row, lines: usize, line: &Line) -> Result<(), Memory>
+pub fn open_row(row: &mut Row, lines: usize, line: &mut Line) -> Result<(), Memory>
     requires { row.old.strokes.given.items ≡ [] }
-    ensures line { OnOk result (row.new.line ≡ line.now.number) }
-    ensures fields { OnOk result (row.new.fields.items ≡ line.now.fields.items) }
+    ensures line { OnOk result (row.new.line ≡ line.old.number) }
+    ensures fields { OnOk result (row.new.fields.items ≡ line.old.fields.items) }
     ensures strokes { OnOk result (row.new.strokes.given.items ≡ []) }
 {
     row.line = line.number;
     row.strokes.given.reserve_exact(lines.min(1))?;
-    refill(alloc, &mut row.fields, &line.fields)
+    swap(&mut row.fields, &mut line.fields);
+    Ok(())
 }

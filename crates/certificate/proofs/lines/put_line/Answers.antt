@@ -23,9 +23,9 @@ returns-in_err-put_words-clause-written g c =
 
 pub returns-clause-written : goal.returns-clause-written
 returns-clause-written g c =
-    let h = writes_then c.args.name.now (flat_map next_word c.args.words.now) (codes "\n") (g.S.Shelf.held c.put.new.shelf) c.put.new.page (g.S.Shelf.held c.put_words.new.shelf) c.put_words.new.page c.put-2.result (g.S.Shelf.held c.put-2.new.shelf) c.put-2.new.page c.in_ok-put_words.ensures.written c.put-2.ensures.written in
-    subst (λ (t : List ℕ). Writes c.args.name.now t (g.S.Shelf.held c.args.shelf.now) c.args.page.now c.put-2.result (g.S.Shelf.held c.put-2.new.shelf) c.put-2.new.page) (sym (line_words c.args.first.now c.args.words.now))
-    (writes_then c.args.name.now (c.args.first.now) ((flat_map next_word c.args.words.now) ++ (codes "\n")) (g.S.Shelf.held c.args.shelf.now) c.args.page.now (g.S.Shelf.held c.put.new.shelf) c.put.new.page c.put-2.result (g.S.Shelf.held c.put-2.new.shelf) c.put-2.new.page c.in_ok-put.ensures.written h)
+    let h = writes_then c.args.name.now (flat_map next_word c.args.words.now) (codes "\n") (g.S.Shelf.held c.put.new.shelf) c.put.new.page (g.S.Shelf.held c.put_words.new.shelf) c.put_words.new.page c.put_byte.result (g.S.Shelf.held c.put_byte.new.shelf) c.put_byte.new.page c.in_ok-put_words.ensures.written c.put_byte.ensures.written in
+    subst (λ (t : List ℕ). Writes c.args.name.now t (g.S.Shelf.held c.args.shelf.now) c.args.page.now c.put_byte.result (g.S.Shelf.held c.put_byte.new.shelf) c.put_byte.new.page) (sym (line_words c.args.first.now c.args.words.now))
+    (writes_then c.args.name.now (c.args.first.now) ((flat_map next_word c.args.words.now) ++ (codes "\n")) (g.S.Shelf.held c.args.shelf.now) c.args.page.now (g.S.Shelf.held c.put.new.shelf) c.put.new.page c.put_byte.result (g.S.Shelf.held c.put_byte.new.shelf) c.put_byte.new.page c.in_ok-put.ensures.written h)
 
 pub returns-in_err-put-clause-room : goal.returns-in_err-put-clause-room
 returns-in_err-put-clause-room g c =
@@ -43,6 +43,6 @@ returns-in_err-put_words-clause-room g c =
 
 pub returns-clause-room : goal.returns-clause-room
 returns-clause-room g c =
-    let h = needs_then (flat_map next_word c.args.words.now) (codes "\n") (g.S.Shelf.space c.put.new.shelf c.args.name.now) c.put.new.page (g.S.Shelf.space c.put_words.new.shelf c.args.name.now) c.put_words.new.page c.put-2.result (g.S.Shelf.space c.put-2.new.shelf c.args.name.now) c.put-2.new.page c.in_ok-put_words.ensures.room c.put-2.ensures.room in
-    subst (λ (t : List ℕ). NeedsRoom t (g.S.Shelf.space c.args.shelf.now c.args.name.now) c.args.page.now c.put-2.result (g.S.Shelf.space c.put-2.new.shelf c.args.name.now) c.put-2.new.page) (sym (line_words c.args.first.now c.args.words.now))
-    (needs_then (c.args.first.now) ((flat_map next_word c.args.words.now) ++ (codes "\n")) (g.S.Shelf.space c.args.shelf.now c.args.name.now) c.args.page.now (g.S.Shelf.space c.put.new.shelf c.args.name.now) c.put.new.page c.put-2.result (g.S.Shelf.space c.put-2.new.shelf c.args.name.now) c.put-2.new.page c.in_ok-put.ensures.room h)
+    let h = needs_then (flat_map next_word c.args.words.now) (codes "\n") (g.S.Shelf.space c.put.new.shelf c.args.name.now) c.put.new.page (g.S.Shelf.space c.put_words.new.shelf c.args.name.now) c.put_words.new.page c.put_byte.result (g.S.Shelf.space c.put_byte.new.shelf c.args.name.now) c.put_byte.new.page c.in_ok-put_words.ensures.room c.put_byte.ensures.room in
+    subst (λ (t : List ℕ). NeedsRoom t (g.S.Shelf.space c.args.shelf.now c.args.name.now) c.args.page.now c.put_byte.result (g.S.Shelf.space c.put_byte.new.shelf c.args.name.now) c.put_byte.new.page) (sym (line_words c.args.first.now c.args.words.now))
+    (needs_then (c.args.first.now) ((flat_map next_word c.args.words.now) ++ (codes "\n")) (g.S.Shelf.space c.args.shelf.now c.args.name.now) c.args.page.now (g.S.Shelf.space c.put.new.shelf c.args.name.now) c.put.new.page c.put_byte.result (g.S.Shelf.space c.put_byte.new.shelf c.args.name.now) c.put_byte.new.page c.in_ok-put.ensures.room h)

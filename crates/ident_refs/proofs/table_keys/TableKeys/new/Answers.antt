@@ -4,7 +4,7 @@ use Rattle.resolver.specs.declared.models.Places.{Places}
 use Rattle.resolver.specs.Values.{places_of}
 use Rattle.table_layout.specs.Values.{table_view}
 use Rattle.ident_refs.specs.KeptRows.{kept_lists}
-use Rattle.ident_refs.specs.KeptViews.{lists_view, refs_view}
+use Rattle.ident_refs.specs.KeptViews.{lists_view, picked, refs_view}
 use Rattle.ident_refs.proofs.NoRows.{kept_none}
 use Rattle.ident_refs.proofs.table_keys.TableKeys.new.Goals as goal
 
@@ -12,6 +12,6 @@ pub returns : goal.returns
 returns c =
     let codes = codes_of c.args.codes.now in
     let table = table_view c.args.table.now in
-    kept_none (codes_of c.in_ok-new.field-0.codes.now) codes (table_view c.in_ok-new.field-0.table.now) table c.new-2.result.items c.new-3.result.items (lists_view c.in_ok-lists.lists.items) (refs_view c.new-4.result.items)
+    kept_none (codes_of c.in_ok-new.field-0.codes.now) codes (table_view c.in_ok-new.field-0.table.now) table c.new-2.result.items c.new-3.result.items (picked (lists_view c.in_ok-lists.lists.items) c.in_ok-lists.order.items) (refs_view c.new-4.result.items)
     (ap codes_of c.in_ok-new.ensures.codes) (ap table_view c.in_ok-new.ensures.table) c.new-2.ensures.items c.new-3.ensures.items
     (c.in_ok-lists.ensures codes table ∙ ap (λ (ps : List Places). kept_lists codes table [] (places_of ps)) c.deref.ensures.value) (ap refs_view c.new-4.ensures.items)

@@ -10,7 +10,7 @@ loop-n-preserved c =
     record {
       within = f.0;
       takes =
-          one_more l c.args.self.now c.loop-n.self (record { lines = c.next.new.self; line = c.next.new.line; rows = c.take.new.self }) c.args.piece.now c.loop-n.at c.in-Some.n c.in_ok-n.field-0 (line_view c.next.new.line)
+          one_more l c.args.self.now c.loop-n.self (record { lines = c.next.new.self; line = c.take.new.line; rows = c.take.new.self }) c.args.piece.now c.loop-n.at c.in-Some.n c.in_ok-n.field-0 (line_view c.next.new.line)
           c.loop-n.invariant.takes c.in-Some.is c.in_ok-n.ensures.line c.in_ok-take.ensures.at c.in_ok-take.ensures.sound c.in_ok-take.ensures.taken;
       few = f.1;
     }
