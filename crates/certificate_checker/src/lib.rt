@@ -12,8 +12,9 @@
 //!   beside it, the slopes of the edges that start there and the labels of new neighbours; 8 the
 //!   labels of each edge: that of its tube within and one outside each chain, else at most the
 //!   number of points; 9 the cell of each point, or the tube that holds it and its side of the
-//!   circle; 10 the link of each half-edge. They are judged in this order, 4 to 7 event by event.
-//!   The place of rule 8 is the curve of the first edge that has not the labels it needs.
+//!   circle; 10 the link of each half-edge; 11 of each curve that its two sides have two labels.
+//!   They are judged in this order, 4 to 7 event by event. The place of rule 8 is the curve of the
+//!   first edge that has not the labels it needs.
 //! - **How.** The edges of the drawing at the certificate's level give its events; the certificate
 //!   says where each stands in the live list. The replay keeps the list, turns the mesh of events,
 //!   marks each half-edge that was beside a border, across a cell from the one that its note names,
@@ -44,6 +45,7 @@
 mod case;
 mod chains;
 mod checking;
+mod curve_sides;
 mod edge_labels;
 mod events;
 mod firsts;
