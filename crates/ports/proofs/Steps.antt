@@ -1,6 +1,8 @@
 -- One call after another: counts, and what is left of a room.
 use Rattle.std.proofs.Common.{◌≡◌, ℕ, ◌+◌, ◌≤◌, List, Option, Some, None, refl, ◌∙◌, subst, arith}
 use Rattle.ports.specs.Faults.{CountsStay}
+use Rattle.ports.specs.Files.{Files}
+use Rattle.ports.specs.Reading.{OnlyReads}
 use Rattle.ports.specs.Rooms.{HasRoom, FellBy, StaysReady}
 
 pub stay_none : (reads : List ℕ → ℕ) (writes : ℕ) → CountsStay reads writes reads writes
@@ -9,11 +11,54 @@ stay_none reads writes = record { reads = λ q. refl; writes = refl }
 pub stay_then : (reads : List ℕ → ℕ) (writes : ℕ) (reads_mid : List ℕ → ℕ) (writes_mid : ℕ) (reads_now : List ℕ → ℕ) (writes_now : ℕ) → CountsStay reads writes reads_mid writes_mid → CountsStay reads_mid writes_mid reads_now writes_now → CountsStay reads writes reads_now writes_now
 stay_then reads writes reads_mid writes_mid reads_now writes_now h k = record { reads = λ q. k.reads q ∙ h.reads q; writes = k.writes ∙ h.writes }
 
+-- no less room than before
+no_less : (room : Option ℕ) → FellBy 0 room room
+no_less None = tt
+no_less (Some n) = omega arith
+
+no_less_then : (room mid now : Option ℕ) → FellBy 0 room mid → FellBy 0 mid now → FellBy 0 room now
+no_less_then None mid now h k = tt
+no_less_then (Some n) None now h k = absurd h
+no_less_then (Some n) (Some m) None h k = absurd k
+no_less_then (Some n) (Some m) (Some l) h k = omega (arith, h, k)
+
 pub ready_none : (readable : List ℕ → Type 0) (space : List ℕ → Option ℕ) → StaysReady readable space readable space
-ready_none readable space = record { readable = λ q h. h; space = λ q. refl }
+ready_none readable space = record { readable = λ q h. h; space = λ q. no_less (space q) }
 
 pub ready_then : (readable : List ℕ → Type 0) (space : List ℕ → Option ℕ) (readable_mid : List ℕ → Type 0) (space_mid : List ℕ → Option ℕ) (readable_now : List ℕ → Type 0) (space_now : List ℕ → Option ℕ) → StaysReady readable space readable_mid space_mid → StaysReady readable_mid space_mid readable_now space_now → StaysReady readable space readable_now space_now
-ready_then readable space readable_mid space_mid readable_now space_now h k = record { readable = λ q r. k.readable q (h.readable q r); space = λ q. k.space q ∙ h.space q }
+ready_then readable space readable_mid space_mid readable_now space_now h k = record {
+  readable = λ q r. k.readable q (h.readable q r);
+  space = λ q. no_less_then (space q) (space_mid q) (space_now q) (h.space q) (k.space q);
+}
+
+pub reads_none : (surely : Type 0) (held : Option Files) (reads : List ℕ → ℕ) (writes : ℕ)
+    (readable : List ℕ → Type 0) (space : List ℕ → Option ℕ)
+    → OnlyReads surely held reads writes readable space held reads writes readable space
+reads_none surely held reads writes readable space = record {
+  held = refl;
+  reads = λ q. omega arith;
+  writes = omega arith;
+  ready = ready_none readable space;
+  stay = λ h. stay_none reads writes;
+}
+
+-- one call after another, where what the whole reads can be read, then what each of the two reads
+pub reads_then : (surely first second : Type 0) (held : Option Files) (reads : List ℕ → ℕ)
+    (writes : ℕ) (readable : List ℕ → Type 0) (space : List ℕ → Option ℕ) (held_mid : Option Files)
+    (reads_mid : List ℕ → ℕ) (writes_mid : ℕ) (readable_mid : List ℕ → Type 0)
+    (space_mid : List ℕ → Option ℕ) (held_now : Option Files) (reads_now : List ℕ → ℕ)
+    (writes_now : ℕ) (readable_now : List ℕ → Type 0) (space_now : List ℕ → Option ℕ)
+    → (surely → first) → (surely → second)
+    → OnlyReads first held reads writes readable space held_mid reads_mid writes_mid readable_mid space_mid
+    → OnlyReads second held_mid reads_mid writes_mid readable_mid space_mid held_now reads_now writes_now readable_now space_now
+    → OnlyReads surely held reads writes readable space held_now reads_now writes_now readable_now space_now
+reads_then surely first second held reads writes readable space held_mid reads_mid writes_mid readable_mid space_mid held_now reads_now writes_now readable_now space_now f s h k = record {
+  held = k.held ∙ h.held;
+  reads = λ q. omega (arith, h.reads q, k.reads q);
+  writes = omega (arith, h.writes, k.writes);
+  ready = ready_then readable space readable_mid space_mid readable_now space_now h.ready k.ready;
+  stay = λ r. stay_then reads writes reads_mid writes_mid reads_now writes_now (h.stay (f r)) (k.stay (s r));
+}
 
 pub same_room : (m n : ℕ) (room : Option ℕ) → m ≡ n → HasRoom m room → HasRoom n room
 same_room m n room e h = subst (λ (k : ℕ). HasRoom k room) e h
@@ -27,3 +72,9 @@ pub room_left : (n more : ℕ) (room now : Option ℕ) → HasRoom (n + more) ro
 room_left n more None now h f = absurd h
 room_left n more (Some r) None h f = absurd f
 room_left n more (Some r) (Some s) h f = omega (arith, h, f)
+
+-- as much room as before
+pub same_space : (n : ℕ) (room now : Option ℕ) → FellBy 0 room now → HasRoom n room → HasRoom n now
+same_space n None now f h = absurd h
+same_space n (Some r) None f h = absurd f
+same_space n (Some r) (Some s) f h = omega (arith, f, h)

@@ -10,10 +10,12 @@ use Rattle.resolver.specs.Resolved.{ModelTable, Topic, ResolvedModel}
 use Rattle.resolver.specs.Sound.{listed, IsSound, IsSoundTable, IsSoundTopic}
 use Rattle.table_layout.specs.Layouts.{Role, Main, AreaLines, SurfaceLines, Table, AreaOf, Layout}
 use Rattle.table_layout.specs.Tables.{Owner, areas_in, surfaces_in, numbers_from, area_tables, surface_table, main_table, with_helpers, tables_beside, topic_tables, tables_from, column_name, area_of, areas_from, topic_names_of}
+use Rattle.table_layout.specs.ByTopic.{AreByTopic}
 use Rattle.table_layout.specs.Few.{IsSmallTable, IsSmallTopic, numbers_in}
 use Rattle.table_layout.specs.Valid.{IsMain, IsTable, IsArea, Rise, HasArea, IsValid}
 use Rattle.table_layout.proofs.Counts.{length-areas, length-with_helpers, length-topic, numbers_few, small_topics}
 use Rattle.table_layout.proofs.Steps.{length-numbers}
+use Rattle.table_layout.proofs.TopicOrder.{tables_by_topic}
 use Rattle.table_layout.proofs.HelpersValid.{get_at, with_helpers_valid}
 use Rattle.table_layout.proofs.NamesValid.{Declared, tables_named, topics_named}
 
@@ -138,6 +140,7 @@ valid m l h codes names e areas =
       areas = subst (λ s. All (IsArea l.tables) s) (sym areas) (areas_valid l.tables 0 l.tables [] refl refl);
       in_order = subst (Rise 0) (sym areas) (areas_rise l.tables 0 l.tables);
       complete = λ n m c t e f. subst (λ s. HasArea s n) (sym areas) (subst (HasArea (areas_from l.tables 0 l.tables)) (plain n) (all_there l.tables 0 l.tables n m c t e f));
+      by_topic = subst (λ ts. AreByTopic 0 (length l.topics) ts) (sym e) (subst (λ names. AreByTopic 0 (length names) (tables_from 0 0 m.topics)) (sym names) (tables_by_topic m));
     }
   where
     plain : (n : ℕ) → 0 + n ≡ n

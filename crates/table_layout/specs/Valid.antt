@@ -7,6 +7,7 @@ use Rattle.ili_grammar.specs.Limits.{AreCodes}
 use Rattle.resolver.specs.Resolved.{Form, AreaPoint, Reference, LineForm}
 use Rattle.resolver.specs.Rules.{helper_name}
 use Rattle.resolver.specs.Sound.{IsNarrow}
+use Rattle.table_layout.specs.ByTopic.{AreByTopic}
 use Rattle.table_layout.specs.Layouts.{Role, Main, AreaLines, SurfaceLines, Column, Table, AreaOf}
 use Rattle.table_layout.specs.Layouts.{Layout}
 use Rattle.table_layout.specs.Tables.{column_name}
@@ -118,6 +119,7 @@ pub record IsValid (l : Layout) : Type 0 where
   pub areas : All (IsArea l.tables) l.areas
   pub in_order : Rise 0 l.areas
   pub complete : HasAll l.tables l.areas
+  pub by_topic : AreByTopic 0 (length l.topics) l.tables
 
 -- an area by its names: those of its main table, of that table's topic, and its own
 pub record IsNamedArea (l : Layout) (a : AreaOf) : Type 0 where
