@@ -14,6 +14,7 @@ import json
 import math
 import os
 import re
+import shutil
 import subprocess
 import sys
 import xml.etree.ElementTree as tree
@@ -120,14 +121,14 @@ def straights():
     svg, features, _ = pictures("a square", MODEL, transfer(line(1, SQUARE), ""), "EMPTY 9 LEFT")
     hold(titles(svg, "curve") == ["line 9", "line 10", "line 11", "line 12"], titles(svg, "curve"))
     hold(titles(svg, "fault") == ["line 9"] and titles(svg, "side") == ["LEFT"], "marks")
-    hold(faults(features) == [("curve", 9), ("side", None)], faults(features))
+    hold(faults(features) == [("region", None), ("curve", 9), ("side", None)], faults(features))
     hold(features[-1]["geometry"]["coordinates"] == [[150, 100], [150, 110]], features[-1])
     turned = transfer(line(1, SQUARE[::-1]), "")
     _, features, _ = pictures("a square the other way", MODEL, turned, "EMPTY 9 RIGHT")
     hold(features[-1]["geometry"]["coordinates"] == [[100, 150], [110, 150]], features[-1])
     for answer, objects, marks, part in [
             ("TWO 16 17", ["150 150", "160 160"], ["line 16", "line 17"],
-             [("point", 16), ("point", 17)]),
+             [("region", None), ("point", 16), ("point", 17)]),
             ("OUTSIDE 17", ["150 150", "300 300"], ["line 17"], [("point", 17)]),
             ("ON 16 12", ["100 150"], ["line 16"], [("curve", 12), ("point", 16)])]:
         rows = "".join(f"OBJE {number} {place}\n" for number, place in enumerate(objects))
@@ -207,13 +208,152 @@ def surroundings():
         hold(titles(svg, "fault") == [f"line {4 * first + 9}"], titles(svg, "fault"))
 
 
+def regions():
+    """The region of EMPTY and TWO, with its holes left out, and its size."""
+    inner = line(2, ["120 120", "120 140", "140 140", "140 120", "120 120"])
+    round_ = line(3, ["180 160", "A160 180", "140 160", "A160 140", "180 160"])
+    rows = "OBJE 1 130 130\nOBJE 2 160 160\n"
+    circle = math.pi * 20 * 20
+    outer = 100 * 100 - 20 * 20 - circle
+    for name, objects, answer, wanted, rings in [
+            ("a square with two holes", rows, "EMPTY 9 LEFT", outer, 3),
+            ("two points beside holes", rows + "OBJE 3 110 110\nOBJE 4 190 190\n", "TWO 32 33",
+             outer, 3),
+            ("two points in a circle", rows + "OBJE 3 110 110\nOBJE 4 165 165\n", "TWO 31 33",
+             circle, 1)]:
+        text = transfer(line(1, SQUARE) + inner + round_, objects)
+        svg, features, _ = pictures(name, MODEL, text, answer)
+        region = features[[one["properties"].get("part") for one in features].index("region")]
+        hold(abs(region["properties"]["size"] - wanted) < 1e-5, name, region["properties"])
+        rings_of = region["geometry"]["coordinates"]
+        hold(len(rings_of) == rings and all(ring[0] == ring[-1] for ring in rings_of), name)
+        hold(sum(map(shoelace, rings_of)) - wanted < 5, name, [shoelace(ring) for ring in rings_of])
+        told = [part.text for part in of_class(svg, "legend")]
+        hold(any(f"its size is {wanted:.2f}"[:-1] in line for line in told), name, told)
+        hold(titles(svg, "region")[0].startswith("size"), name)
+    far = transfer(line(1, ["0 0", "1000 0", "1000 1000", "0 1000", "0 0"])
+                   + line(2, ["500 500", "501 500", "501 501", "500 501", "500 500"]),
+                   "OBJE 1 500.5 500.5\n")
+    _, features, _ = pictures("a region far from its fault", MODEL, far, "EMPTY 9 LEFT")
+    hold([one["properties"].get("size") for one in features if "size" in one["properties"]]
+         == [999999.0], "size")
+
+
+def shoelace(ring):
+    return sum(a[0] * b[1] - b[0] * a[1] for a, b in zip(ring, ring[1:])) / 2
+
+
+def names():
+    """Names of curves and points that lie near each other do not lie on one another."""
+    ring = ["600 500", "A500 600", "400 500", "A500 400", "600 500"]
+    thin = transfer(line(1, SQUARE) + line(2, ["200 100", "200.002 150", "200 200"]), "OBJE 1 150 150\n")
+    many = "".join(f"OBJE {k} {450 + k % 10 * 0.3:.3f} {500 + k // 10 * 0.2:.3f}\n" for k in range(60))
+    crossed = line(1, ["100 100", "300 200"]) + line(2, ["100 200", "300 101"])
+    for name, text, answer, named in [
+            ("a sliver", thin, "EMPTY 10 RIGHT", ["10"]),
+            ("sixty points", transfer(line(1, ring), many), "TWO 16 17", ["16", "17"]),
+            ("two lines that cross", transfer(crossed, ""), "MEETING 9 13", ["9", "13"])]:
+        svg, _, _ = pictures(name, MODEL, text, answer)
+        boxes = [(float(part.get("x")), float(part.get("y")), 11.2 * len(part.text), part.text)
+                 for kind in ("name", "number") for part in of_class(svg, kind)]
+        hold([box[3] for box in boxes][:len(named)] == named, name, boxes[:4])
+        for k, (x, y, wide, _) in enumerate(boxes):
+            for x1, y1, wide1, _ in boxes[:k]:
+                hold(x >= x1 + wide1 or x1 >= x + wide or abs(y - y1) >= 16, name, boxes)
+
+
+def findings():
+    """The places of findings, and what cannot be read left out."""
+    objects = ("OBJE 1 150 150\nOBJE 1 160 160\nOBJE 2 1\nOBJE 3 150 1150\n")
+    text = transfer(line(1, SQUARE) + line(2, ["300 300", "310 x", "320 300", "330 300"]), objects)
+    put("M", MODEL)
+    put("T", text)
+    report = run(sys.argv[1], "check", "M", "T", "C").stdout
+    put("R", report)
+    done = run("python3", sys.argv[2], "M", "T", "R", "out")
+    hold(done.returncode == 0 and "1 findings have no place" in done.stdout, done)
+    with open("out/areas.geojson") as file:
+        features = json.load(file)["features"]
+    told = {one["properties"]["line"]: (one["properties"]["answer"], one["geometry"]["coordinates"])
+            for one in features if one["properties"]["kind"] == "finding"}
+    wanted = {16: ("FINDING 16 number 1", [300, 300]), 23: ("FINDING 23 tid 0 22", [160, 160]),
+              25: ("FINDING 25 range 1", [150, 1150])}
+    hold(told == wanted, told, report)
+    curves = [one["properties"]["line"] for one in features if one["properties"]["kind"] == "curve"]
+    hold(curves == [9, 10, 11, 12, 18], curves)
+    with open("out/Cover.Parcel.Form.svg") as file:
+        svg = tree.fromstring(file.read())
+    hold(titles(svg, "ring") == ["line 16", "line 23"], titles(svg, "ring"))
+    done = run("python3", sys.argv[2], "--whole", "M", "T", "R", "out")
+    with open("out/Cover.Parcel.Form.svg") as file:
+        svg = tree.fromstring(file.read())
+    hold(titles(svg, "ring") == ["line 16", "line 23", "line 25"], titles(svg, "ring"))
+    hold([part.text for part in of_class(svg, "name")] == ["16 number", "23 tid", "25 range"], "names")
+    print("the places of 3 findings")
+
+
+def faults_alone():
+    """With --faults no curve and no point but those of faults, and no picture of a good area."""
+    model = MODEL.replace("NO IDENT END Parcel;", "NO IDENT END Parcel;\nTABLE Zone = Form: AREA WITH"
+                          " (STRAIGHTS) VERTEX Koord; NO IDENT END Zone;")
+    zone = "TABL Zone_Form\n" + line(1, SQUARE) + "ETAB\nTABL Zone\nOBJE 1 150 150\nETAB\n"
+    text = transfer(line(1, SQUARE), "").replace("ETOP\n", zone + "ETOP\n")
+    shutil.rmtree("out")
+    _, features, _ = pictures("one of two areas", model, text, "EMPTY 9 LEFT", words=["--faults"])
+    hold(sorted(os.listdir("out")) == ["Cover.Parcel.Form.svg", "areas.geojson", "faults.dxf"], os.listdir("out"))
+    hold({one["properties"]["kind"] for one in features} == {"fault"}, features)
+    hold(faults(features) == [("region", None), ("curve", 9), ("side", None)], faults(features))
+
+
+def entities():
+    """The kind, the layer and the other values of each entity of faults.dxf, vertices within."""
+    with open("out/faults.dxf", newline="\r\n") as file:
+        words = file.read().split("\r\n")
+    hold(words[:4] == ["0", "SECTION", "2", "ENTITIES"], words[:4])
+    hold(words[-5:] == ["0", "ENDSEC", "0", "EOF", ""], words[-5:])
+    found = []
+    for code, value in zip(words[4:-5:2], words[5:-5:2]):
+        if code == "0":
+            found.append([value])
+        else:
+            found[-1].append((int(code), value))
+    return found
+
+
+def places(found):
+    return [(float(dict(one[1:])[10]), float(dict(one[1:])[20])) for one in found if 10 in dict(one[1:])]
+
+
+def for_a_cad():
+    """The faults in faults.dxf."""
+    pictures("a square", MODEL, transfer(line(1, SQUARE), ""), "EMPTY 9 LEFT")
+    found = entities()
+    kinds = [one[0] for one in found]
+    hold(kinds == ["POLYLINE"] + ["VERTEX"] * 4 + ["SEQEND", "POLYLINE", "VERTEX", "VERTEX", "SEQEND", "TEXT"], kinds)
+    hold(all(one[1] == (8, "ITFCHECK_EMPTY") for one in found), found)
+    hold(places(found) == [(100, 100), (200, 100), (200, 200), (100, 200), (100, 100), (200, 100), (100, 100)], found)
+    hold(found[-1][-1] == (1, "Cover Parcel Form EMPTY 9 LEFT"), found[-1])
+    crossed = line(1, ["100 100", "300 200"]) + line(2, ["100 200", "300 101"])
+    pictures("two lines that cross", MODEL, transfer(crossed, ""), "MEETING 9 13")
+    found = entities()
+    hold([one[0] for one in found].count("CIRCLE") == 1, found)
+    hold(places(found)[-1] == (200.50251, 150.25126), found[-1])
+    arc = transfer(line(1, ["600 500", "A500 600", "400 500"]), "OBJE 1 500 600\n")
+    pictures("a point on an arc", MODEL, arc, "ON 14 9", )
+    found = entities()
+    hold([one[0] for one in found].count("VERTEX") == 19, found)
+    hold(all(abs(math.dist(place, (500, 500)) - 100) < 1e-4 for place in places(found)), found)
+    pictures("a good square", MODEL, transfer(line(1, SQUARE), "OBJE 1 150 150\n"), "PROVED 0 4 1")
+    hold(entities() == [], entities())
+
+
 def refusals():
     """Nothing is drawn, and the reason is told."""
     good = transfer(line(1, SQUARE), "OBJE 1 150 150\n")
     told = "AREA Cover Parcel Form PROVED 0 4 1\nVERDICT ACCEPTED 2\n"
     for text, report, reason in [
             (good, "STRUCTURE 9 end\nVERDICT REJECTED\n", "structure fault"),
-            (good, "FINDING 16 count 0\nVERDICT REJECTED\n", "findings"),
+            (good, "FINDING 99 count 0\nVERDICT REJECTED\n", "no such line 99"),
             (good, told.replace("PROVED 0 4 1", "MEETING 9 13"), "no curve in line 13"),
             (good, told.replace("PROVED 0 4 1", "OUTSIDE 9"), "no point in line 9"),
             (good, told.replace("PROVED 0 4 1", "ROUND 9"), "an answer that is none"),
@@ -237,5 +377,10 @@ straights()
 arcs()
 columns()
 surroundings()
+regions()
+names()
+findings()
+faults_alone()
+for_a_cad()
 refusals()
 PY
