@@ -1,7 +1,7 @@
 // Numbers by their marks.
 ghost use Rattle.std.specs.Prelude.{◌≡◌, ◌↔◌, ◌^◌, ◌<◌, IfOk, IsTrue, length};
 ghost use Rattle.near_pairs.specs.Boxes.{mark_of};
-ghost use Rattle.area_search.specs.CurvePoints.{AreMarkedTo};
+ghost use Rattle.area_search.specs.Unsettled.CurvePoints.{AreMarkedTo};
 
 use ports::Memory;
 use std::alloc::Global;

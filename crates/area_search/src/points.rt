@@ -1,6 +1,5 @@
-// Points by number: where they lie, and the first of them outside.
-ghost use Rattle.std.specs.Prelude.{◌≡◌, ◌^◌, ◌<◌, IfOk, length, map};
-ghost use Rattle.area_search.specs.PointFaces.{IsFirstOutside};
+// Points by number.
+ghost use Rattle.std.specs.Prelude.{◌≡◌, IfOk, map};
 
 use plane::{Placed, Point};
 use ports::Memory;
@@ -22,17 +21,4 @@ pub(crate) fn points_at(alloc: Global, points: &[Placed]) -> Result<Vec<Point>, 
         at.push(point.at)?;
     }
     Ok(at)
-}
-
-/// The first point in face 0.
-pub(crate) fn first_outside(faces: &[u32]) -> Option<u32>
-    requires few { length faces.now < 2 ^ 30 }
-    ensures { IsFirstOutside faces.now result }
-{
-    for point in 0..faces.len() {
-        if faces[point] == 0 {
-            return Some(point as u32);
-        }
-    }
-    None
 }

@@ -1,21 +1,36 @@
-// The answer to a drawing that no level settles.
+// A drawing that no level settles into its answer: a bad pair, a point on a curve, or the least
+// pair that breaks level 5.
+//
+// Bad pairs are looked for, two straights first and then the least pair with a half arc, then
+// points on curves (`on_curves`), then the least pair that breaks level 5. Where half arcs have
+// many others near them, curves that are near each other at level 5 are first set aside, until it
+// settles the drawing of the others (`settling`, `rest`): then only pairs with one of these are
+// tested (`aside`). Where many are set aside, curves that break level 5 with no other one are
+// looked for (`alone`, `standing`), and no pair with one that is found is tested for a break.
 ghost use Rattle.std.specs.Prelude.{◌≡◌, ◌≤◌, IfOk, length};
 ghost use Rattle.level_breaks.specs.LevelLists.{AreBreaksMarked, HasNoBadStraights};
 ghost use Rattle.plane.specs.Rule.Plans.{plan};
 ghost use Rattle.meetings.specs.StraightRuns.{IsClearRun};
 ghost use Rattle.area_search.specs.Answers.{AreClear, HasNoBadPair, IsAnswer, IsUnsettled};
-ghost use Rattle.area_search.specs.CurvePoints.{IsLeastOf, LiesOnStraight};
-ghost use Rattle.area_search.specs.SetAside.{AreAside};
+ghost use Rattle.area_search.specs.Unsettled.CurvePoints.{IsLeastOf, LiesOnStraight};
+ghost use Rattle.area_search.specs.Unsettled.SetAside.{AreAside};
 
-use super::alone::alone_curves;
-use super::aside::{Aside, set_aside};
-use super::at_fault::meeting;
-use super::kinds::{AreaAnswer, AreaFinding};
-use super::on_curves::{first_on_curve, first_on_straight};
-use super::points::OnCurve;
+mod alone;
+mod aside;
+mod on_curves;
+mod rest;
+mod settling;
+mod standing;
+
+use crate::kinds::{AreaAnswer, AreaFinding};
+use crate::level::meeting;
+use crate::points::OnCurve;
+use alone::alone_curves;
+use aside::{Aside, set_aside};
 use level_breaks::first_break_among;
 use line_sweep::Swept;
 use meetings::{StraightRun, Straights, arc_meeting_among, sweep_straights};
+use on_curves::{first_on_curve, first_on_straight};
 use plane::Drawing;
 use ports::Memory;
 use std::alloc::Global;

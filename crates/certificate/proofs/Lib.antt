@@ -1,12 +1,10 @@
 pub mod Digits
-pub mod Files
+pub mod Texts
 pub mod FirstBadLine
 pub mod FirstLines
 pub mod FormLaws
 pub mod Loop
 pub mod Pairs
 pub mod PartLaws
-pub mod Rooms
 pub mod Stops
 pub mod TextLaws
-pub mod Whole

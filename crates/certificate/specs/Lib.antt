@@ -3,4 +3,4 @@ pub mod Parts
 pub mod Reading
 pub mod FirstBad
 pub mod Views
-pub mod Appending
+pub mod Words

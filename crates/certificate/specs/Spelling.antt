@@ -27,37 +27,45 @@ line [] = codes "\n"
 line (word ∷ []) = word ++ codes "\n"
 line (word ∷ next ∷ words) = word ++ (codes " " ++ line (next ∷ words))
 
+-- the word of a link
 abbrev pub link_word : Link → List ℕ
 link_word Root = codes "R"
 link_word Next = codes "N"
 link_word Prev = codes "P"
 link_word (Across half) = codes "C" ++ decimal half
 
+-- I for inside the circle, O for outside
 abbrev pub side_word : Bool → List ℕ
 side_word true = codes "I"
 side_word false = codes "O"
 
+-- the line of an event, with its position
 abbrev pub event_line : ℕ → List ℕ
 event_line position = line (codes "V" ∷ decimal position ∷ [])
 
+-- the line of an edge, with the notes of its two half-edges
 abbrev pub edge_line : HalfNote × HalfNote → List ℕ
 edge_line e =
     line (codes "E" ∷ decimal e.0.label ∷ link_word e.0.link ∷ decimal e.0.rank ∷ decimal e.1.label
     ∷ link_word e.1.link ∷ decimal e.1.rank ∷ [])
 
+-- the line of a point, with its place
 abbrev pub place_line : PointPlace → List ℕ
 place_line (Cell position) = line (codes "P" ∷ decimal position ∷ [])
 place_line (Tube curve inside) =
     line (codes "P" ∷ codes "T" ∷ decimal curve ∷ side_word inside ∷ [])
 
+-- the line of the area's names
 abbrev pub title_line : Plain → List ℕ
 title_line c = line (codes "AREA" ∷ c.topic ∷ c.table ∷ c.attribute ∷ [])
 
+-- the line of the level and of how many edges, events and points there are
 abbrev pub sizes_line : Plain → List ℕ
 sizes_line c =
     line (codes "SIZES" ∷ decimal c.level ∷ decimal (length c.edges) ∷ decimal (length c.positions)
     ∷ decimal (length c.places) ∷ [])
 
+-- the text of a certificate
 abbrev pub certificate_text : Plain → List ℕ
 certificate_text c =
     title_line c
@@ -76,25 +84,29 @@ spelling cs =
 abbrev pub is_name_byte : ℕ → Bool
 is_name_byte c = not (c == 32) && not (c == 10)
 
--- one or more such bytes
+-- a name in a certificate: one or more such bytes
 pub record IsName (name : List ℕ) : Type 0 where
   pub some : 0 < length name
   pub bytes : AllByRecursion (λ c. is_name_byte c ≡ true) name
 
+-- the number of a link, if it has one, is below 2 ^ 32
 abbrev pub FitsLink : Link → Type 0
 FitsLink Root = ⊤
 FitsLink Next = ⊤
 FitsLink Prev = ⊤
 FitsLink (Across half) = half < 2 ^ 32
 
+-- the numbers of a half-edge's note are below 2 ^ 32
 pub record FitsHalf (note : HalfNote) : Type 0 where
   pub label : note.label < 2 ^ 32
   pub link : FitsLink note.link
   pub rank : note.rank < 2 ^ 32
 
+-- the numbers of the notes of both half-edges are below 2 ^ 32
 abbrev pub FitsEdge : HalfNote × HalfNote → Type 0
 FitsEdge e = FitsHalf e.0 × FitsHalf e.1
 
+-- the number of a point's place is below 2 ^ 32
 abbrev pub FitsPlace : PointPlace → Type 0
 FitsPlace (Cell position) = position < 2 ^ 32
 FitsPlace (Tube curve inside) = curve < 2 ^ 32
@@ -122,6 +134,7 @@ pub record HasNamesAndCounts (c : Plain) : Type 0 where
   pub edge_count : length c.edges < 2 ^ 32
   pub place_count : length c.places < 2 ^ 32
 
+-- fewer than 2 ^ 32 certificates, each such as can be written and read back
 abbrev pub AreSpelt : List Plain → Type 0
 AreSpelt cs = (length cs < 2 ^ 32) × AllByRecursion Fits cs
 

@@ -9,9 +9,9 @@
 //! - **The definition.** `specs/Spelling.antt` has the text as a function of the list. Its lines
 //!   are words with one blank between, and LF after each line.
 //! - **`write`** appends exactly that text to the named file and changes no other. It takes no
-//!   memory: bytes are gathered in a page of 4,096 bytes on the stack, a file system's block, so
-//!   that some two hundred lines go out in one call. After a failure the file has a front of the
-//!   text. It does not fail where the shelf has space for the text.
+//!   memory: its parts are put into a page on the stack, which is appended when it is full
+//!   (`file_pages`), so that some two hundred lines go out in one call. After a failure the file
+//!   has a front of the text. It does not fail where the shelf has space for the text.
 //! - **`read`** gives the one list that the bytes spell, or the first bad line: `Short` where the
 //!   text ends before it, `Number` where it has its form but a number with a leading zero or one
 //!   above 4,294,967,295, `Line` where it has not its form. `specs/Parts.antt` has the forms.
@@ -36,11 +36,9 @@ mod forms;
 mod laws;
 mod lines;
 mod notes;
-mod page;
 mod parts;
 mod reading;
 mod text;
-mod words;
 mod writing;
 
 pub use fault::CertFault;

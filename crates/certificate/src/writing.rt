@@ -1,41 +1,30 @@
-// A certificate's text, written line by line.
-ghost use Rattle.std.specs.Prelude.{◌≡◌, ◌≤◌, ◌++◌, ◌∷◌, ◌<◌, [], OnOk, OnErr};
+// A certificate's text, put line by line into the page of a file.
+ghost use Rattle.std.specs.Prelude.{◌≡◌, ◌≤◌, ◌++◌, ◌∷◌, ◌<◌, [], OnOk, OnErr, codes};
 ghost use Rattle.std.specs.Prelude.{IfSome, IfNone, IsOk, length};
 ghost use Rattle.std.specs.List.{flat_map};
 ghost use Rattle.ports.specs.Faults.{NoReadFell, Rose, CountsStay};
 ghost use Rattle.ports.specs.Files.{Puts, Gained, OthersStay, bytes_of};
 ghost use Rattle.ports.specs.Rooms.{HasRoom};
+ghost use Rattle.file_pages.specs.Writing.{sight, Wrote};
 ghost use Rattle.certificate.specs.Spelling.{event_line, edge_line, place_line, pairs, title_line};
 ghost use Rattle.certificate.specs.Spelling.{sizes_line, certificate_text, spelling, view, views};
-ghost use Rattle.certificate.specs.Appending.{OnlyWritesFail, NeedsRoom, Writes};
 
-use crate::lines::{flush, put_line};
+use crate::lines::{put_end, put_note, put_number, put_side, put_word};
 use crate::notes::{Certificate, HalfNote, PointPlace};
-use crate::page::Page;
-use crate::words::{Word, link_word, side_word};
+use file_pages::{Page, finish, put};
 use ports::{Failed, Shelf};
 
 // The line of an event.
-fn put_event<S: Shelf>(
-    shelf: &mut S,
-    name: &str,
-    page: &mut Page,
-    position: u32,
-) -> Result<(), Failed>
-    ensures written { Writes name.now (event_line position) (S.held shelf.old) page.old result
-        (S.held shelf.new) page.new }
-    ensures room { NeedsRoom (event_line position) (S.space shelf.old name.now) page.old result
-        (S.space shelf.new name.now) page.new }
-    ensures faults { OnlyWritesFail (S.read_faults shelf.old) (S.write_faults shelf.old) result
-        (S.read_faults shelf.new) (S.write_faults shelf.new) }
+fn put_event<S: Shelf>(shelf: &mut S, name: &str, page: &mut Page, position: u32)
+    ensures { Wrote name.now (event_line position)
+        (sight (S.held shelf.old) (S.space shelf.old name.now) (S.read_faults shelf.old)
+        (S.write_faults shelf.old)) page.old
+        (sight (S.held shelf.new) (S.space shelf.new name.now) (S.read_faults shelf.new)
+        (S.write_faults shelf.new)) page.new }
 {
-    put_line(
-        shelf,
-        name,
-        page,
-        b"V",
-        &[Word::Number(u64::from(position))],
-    )
+    put(shelf, name, page, b"V");
+    put_number(shelf, name, page, u64::from(position));
+    put_end(shelf, name, page);
 }
 
 // The line of an edge.
@@ -45,80 +34,73 @@ fn put_edge<S: Shelf>(
     page: &mut Page,
     below: &HalfNote,
     above: &HalfNote,
-) -> Result<(), Failed>
-    ensures written { Writes name.now (edge_line (below.now, above.now)) (S.held shelf.old) page.old
-        result (S.held shelf.new) page.new }
-    ensures room { NeedsRoom (edge_line (below.now, above.now)) (S.space shelf.old name.now)
-        page.old result (S.space shelf.new name.now) page.new }
-    ensures faults { OnlyWritesFail (S.read_faults shelf.old) (S.write_faults shelf.old) result
-        (S.read_faults shelf.new) (S.write_faults shelf.new) }
+)
+    ensures { Wrote name.now (edge_line (below.now, above.now))
+        (sight (S.held shelf.old) (S.space shelf.old name.now) (S.read_faults shelf.old)
+        (S.write_faults shelf.old)) page.old
+        (sight (S.held shelf.new) (S.space shelf.new name.now) (S.read_faults shelf.new)
+        (S.write_faults shelf.new)) page.new }
 {
-    let words = [
-        Word::Number(u64::from(below.label)),
-        link_word(below.link),
-        Word::Number(u64::from(below.rank)),
-        Word::Number(u64::from(above.label)),
-        link_word(above.link),
-        Word::Number(u64::from(above.rank)),
-    ];
-    put_line(shelf, name, page, b"E", &words)
+    put(shelf, name, page, b"E");
+    put_note(shelf, name, page, below);
+    put_note(shelf, name, page, above);
+    put_end(shelf, name, page);
+}
+
+// The line of a point in a cell.
+fn put_cell<S: Shelf>(shelf: &mut S, name: &str, page: &mut Page, position: u32)
+    ensures { Wrote name.now (place_line (PointPlace.Cell position))
+        (sight (S.held shelf.old) (S.space shelf.old name.now) (S.read_faults shelf.old)
+        (S.write_faults shelf.old)) page.old
+        (sight (S.held shelf.new) (S.space shelf.new name.now) (S.read_faults shelf.new)
+        (S.write_faults shelf.new)) page.new }
+{
+    put(shelf, name, page, b"P");
+    put_number(shelf, name, page, u64::from(position));
+    put_end(shelf, name, page);
+}
+
+// The line of a point in a tube.
+fn put_tube<S: Shelf>(shelf: &mut S, name: &str, page: &mut Page, curve: u32, inside: bool)
+    ensures { Wrote name.now (place_line (PointPlace.Tube curve inside))
+        (sight (S.held shelf.old) (S.space shelf.old name.now) (S.read_faults shelf.old)
+        (S.write_faults shelf.old)) page.old
+        (sight (S.held shelf.new) (S.space shelf.new name.now) (S.read_faults shelf.new)
+        (S.write_faults shelf.new)) page.new }
+{
+    put(shelf, name, page, b"P T");
+    put_number(shelf, name, page, u64::from(curve));
+    put_side(shelf, name, page, inside);
+    put_end(shelf, name, page);
 }
 
 // The line of a point.
-fn put_place<S: Shelf>(
-    shelf: &mut S,
-    name: &str,
-    page: &mut Page,
-    place: &PointPlace,
-) -> Result<(), Failed>
-    ensures written { Writes name.now (place_line place.now) (S.held shelf.old) page.old result
-        (S.held shelf.new) page.new }
-    ensures room { NeedsRoom (place_line place.now) (S.space shelf.old name.now) page.old result
-        (S.space shelf.new name.now) page.new }
-    ensures faults { OnlyWritesFail (S.read_faults shelf.old) (S.write_faults shelf.old) result
-        (S.read_faults shelf.new) (S.write_faults shelf.new) }
+fn put_place<S: Shelf>(shelf: &mut S, name: &str, page: &mut Page, place: &PointPlace)
+    ensures { Wrote name.now (place_line place.now)
+        (sight (S.held shelf.old) (S.space shelf.old name.now) (S.read_faults shelf.old)
+        (S.write_faults shelf.old)) page.old
+        (sight (S.held shelf.new) (S.space shelf.new name.now) (S.read_faults shelf.new)
+        (S.write_faults shelf.new)) page.new }
 {
     match *place {
-        PointPlace::Cell(position) => {
-            put_line(
-                shelf,
-                name,
-                page,
-                b"P",
-                &[Word::Number(u64::from(position))],
-            )
-        }
-        PointPlace::Tube { curve, inside } => {
-            let words = [
-                Word::Text(b"T"),
-                Word::Number(u64::from(curve)),
-                side_word(inside),
-            ];
-            put_line(shelf, name, page, b"P", &words)
-        }
+        PointPlace::Cell(position) => put_cell(shelf, name, page, position),
+        PointPlace::Tube { curve, inside } => put_tube(shelf, name, page, curve, inside),
     }
 }
 
 // The line of the names.
-fn put_title<S: Shelf>(
-    shelf: &mut S,
-    name: &str,
-    page: &mut Page,
-    certificate: &Certificate,
-) -> Result<(), Failed>
-    ensures written { Writes name.now (title_line (view certificate.now)) (S.held shelf.old)
-        page.old result (S.held shelf.new) page.new }
-    ensures room { NeedsRoom (title_line (view certificate.now)) (S.space shelf.old name.now)
-        page.old result (S.space shelf.new name.now) page.new }
-    ensures faults { OnlyWritesFail (S.read_faults shelf.old) (S.write_faults shelf.old) result
-        (S.read_faults shelf.new) (S.write_faults shelf.new) }
+fn put_title<S: Shelf>(shelf: &mut S, name: &str, page: &mut Page, certificate: &Certificate)
+    ensures { Wrote name.now (title_line (view certificate.now))
+        (sight (S.held shelf.old) (S.space shelf.old name.now) (S.read_faults shelf.old)
+        (S.write_faults shelf.old)) page.old
+        (sight (S.held shelf.new) (S.space shelf.new name.now) (S.read_faults shelf.new)
+        (S.write_faults shelf.new)) page.new }
 {
-    let words = [
-        Word::Text(certificate.topic.bytes()),
-        Word::Text(certificate.table.bytes()),
-        Word::Text(certificate.attribute.bytes()),
-    ];
-    put_line(shelf, name, page, b"AREA", &words)
+    put(shelf, name, page, b"AREA");
+    put_word(shelf, name, page, certificate.topic.bytes());
+    put_word(shelf, name, page, certificate.table.bytes());
+    put_word(shelf, name, page, certificate.attribute.bytes());
+    put_end(shelf, name, page);
 }
 
 // How many edges have notes.
@@ -130,46 +112,32 @@ fn edge_count(notes: &[HalfNote]) -> u64
 }
 
 // The line of the level and the counts.
-fn put_sizes<S: Shelf>(
-    shelf: &mut S,
-    name: &str,
-    page: &mut Page,
-    certificate: &Certificate,
-) -> Result<(), Failed>
-    ensures written { Writes name.now (sizes_line (view certificate.now)) (S.held shelf.old)
-        page.old result (S.held shelf.new) page.new }
-    ensures room { NeedsRoom (sizes_line (view certificate.now)) (S.space shelf.old name.now)
-        page.old result (S.space shelf.new name.now) page.new }
-    ensures faults { OnlyWritesFail (S.read_faults shelf.old) (S.write_faults shelf.old) result
-        (S.read_faults shelf.new) (S.write_faults shelf.new) }
+fn put_sizes<S: Shelf>(shelf: &mut S, name: &str, page: &mut Page, certificate: &Certificate)
+    ensures { Wrote name.now (sizes_line (view certificate.now))
+        (sight (S.held shelf.old) (S.space shelf.old name.now) (S.read_faults shelf.old)
+        (S.write_faults shelf.old)) page.old
+        (sight (S.held shelf.new) (S.space shelf.new name.now) (S.read_faults shelf.new)
+        (S.write_faults shelf.new)) page.new }
 {
-    let words = [
-        Word::Number(u64::from(certificate.level)),
-        Word::Number(edge_count(&certificate.notes)),
-        Word::Number(certificate.positions.len() as u64),
-        Word::Number(certificate.places.len() as u64),
-    ];
-    put_line(shelf, name, page, b"SIZES", &words)
+    put(shelf, name, page, b"SIZES");
+    put_number(shelf, name, page, u64::from(certificate.level));
+    put_number(shelf, name, page, edge_count(&certificate.notes));
+    put_number(shelf, name, page, certificate.positions.len() as u64);
+    put_number(shelf, name, page, certificate.places.len() as u64);
+    put_end(shelf, name, page);
 }
 
 // The lines of the events.
-fn put_events<S: Shelf>(
-    shelf: &mut S,
-    name: &str,
-    page: &mut Page,
-    positions: &[u32],
-) -> Result<(), Failed>
-    ensures written { Writes name.now (flat_map event_line positions.now) (S.held shelf.old)
-        page.old result (S.held shelf.new) page.new }
-    ensures room { NeedsRoom (flat_map event_line positions.now) (S.space shelf.old name.now)
-        page.old result (S.space shelf.new name.now) page.new }
-    ensures faults { OnlyWritesFail (S.read_faults shelf.old) (S.write_faults shelf.old) result
-        (S.read_faults shelf.new) (S.write_faults shelf.new) }
+fn put_events<S: Shelf>(shelf: &mut S, name: &str, page: &mut Page, positions: &[u32])
+    ensures { Wrote name.now (flat_map event_line positions.now)
+        (sight (S.held shelf.old) (S.space shelf.old name.now) (S.read_faults shelf.old)
+        (S.write_faults shelf.old)) page.old
+        (sight (S.held shelf.new) (S.space shelf.new name.now) (S.read_faults shelf.new)
+        (S.write_faults shelf.new)) page.new }
 {
     for position in positions {
-        put_event(shelf, name, page, *position)?;
+        put_event(shelf, name, page, *position);
     }
-    Ok(())
 }
 
 // The notes of the first edge, and the notes after them.
@@ -185,112 +153,75 @@ fn split_edge(notes: &[HalfNote]) -> Option<(HalfNote, HalfNote, &[HalfNote])>
 }
 
 // The lines of the edges.
-fn put_edges<S: Shelf>(
-    shelf: &mut S,
-    name: &str,
-    page: &mut Page,
-    notes: &[HalfNote],
-) -> Result<(), Failed>
-    ensures written { Writes name.now (flat_map edge_line (pairs notes.now)) (S.held shelf.old)
-        page.old result (S.held shelf.new) page.new }
-    ensures room { NeedsRoom (flat_map edge_line (pairs notes.now)) (S.space shelf.old name.now)
-        page.old result (S.space shelf.new name.now) page.new }
-    ensures faults { OnlyWritesFail (S.read_faults shelf.old) (S.write_faults shelf.old) result
-        (S.read_faults shelf.new) (S.write_faults shelf.new) }
+fn put_edges<S: Shelf>(shelf: &mut S, name: &str, page: &mut Page, notes: &[HalfNote])
+    ensures { Wrote name.now (flat_map edge_line (pairs notes.now))
+        (sight (S.held shelf.old) (S.space shelf.old name.now) (S.read_faults shelf.old)
+        (S.write_faults shelf.old)) page.old
+        (sight (S.held shelf.new) (S.space shelf.new name.now) (S.read_faults shelf.new)
+        (S.write_faults shelf.new)) page.new }
 {
     let mut rest = notes;
     while let Some((below, above, others)) = split_edge(rest) {
-        put_edge(shelf, name, page, &below, &above)?;
+        put_edge(shelf, name, page, &below, &above);
         rest = others;
     }
-    Ok(())
 }
 
 // The lines of the points.
-fn put_places<S: Shelf>(
-    shelf: &mut S,
-    name: &str,
-    page: &mut Page,
-    places: &[PointPlace],
-) -> Result<(), Failed>
-    ensures written { Writes name.now (flat_map place_line places.now) (S.held shelf.old) page.old
-        result (S.held shelf.new) page.new }
-    ensures room { NeedsRoom (flat_map place_line places.now) (S.space shelf.old name.now) page.old
-        result (S.space shelf.new name.now) page.new }
-    ensures faults { OnlyWritesFail (S.read_faults shelf.old) (S.write_faults shelf.old) result
-        (S.read_faults shelf.new) (S.write_faults shelf.new) }
+fn put_places<S: Shelf>(shelf: &mut S, name: &str, page: &mut Page, places: &[PointPlace])
+    ensures { Wrote name.now (flat_map place_line places.now)
+        (sight (S.held shelf.old) (S.space shelf.old name.now) (S.read_faults shelf.old)
+        (S.write_faults shelf.old)) page.old
+        (sight (S.held shelf.new) (S.space shelf.new name.now) (S.read_faults shelf.new)
+        (S.write_faults shelf.new)) page.new }
 {
     for place in places {
-        put_place(shelf, name, page, place)?;
+        put_place(shelf, name, page, place);
     }
-    Ok(())
 }
 
 // The lines of a certificate.
-fn put_certificate<S: Shelf>(
-    shelf: &mut S,
-    name: &str,
-    page: &mut Page,
-    certificate: &Certificate,
-) -> Result<(), Failed>
-    ensures written { Writes name.now (certificate_text (view certificate.now)) (S.held shelf.old)
-        page.old result (S.held shelf.new) page.new }
-    ensures room { NeedsRoom (certificate_text (view certificate.now)) (S.space shelf.old name.now)
-        page.old result (S.space shelf.new name.now) page.new }
-    ensures faults { OnlyWritesFail (S.read_faults shelf.old) (S.write_faults shelf.old) result
-        (S.read_faults shelf.new) (S.write_faults shelf.new) }
+fn put_certificate<S: Shelf>(shelf: &mut S, name: &str, page: &mut Page, certificate: &Certificate)
+    ensures { Wrote name.now (certificate_text (view certificate.now))
+        (sight (S.held shelf.old) (S.space shelf.old name.now) (S.read_faults shelf.old)
+        (S.write_faults shelf.old)) page.old
+        (sight (S.held shelf.new) (S.space shelf.new name.now) (S.read_faults shelf.new)
+        (S.write_faults shelf.new)) page.new }
 {
-    put_title(shelf, name, page, certificate)?;
-    put_sizes(shelf, name, page, certificate)?;
-    put_events(shelf, name, page, &certificate.positions)?;
-    put_edges(shelf, name, page, &certificate.notes)?;
-    put_places(shelf, name, page, &certificate.places)?;
-    put_line(shelf, name, page, b"END", &[])
+    put_title(shelf, name, page, certificate);
+    put_sizes(shelf, name, page, certificate);
+    put_events(shelf, name, page, &certificate.positions);
+    put_edges(shelf, name, page, &certificate.notes);
+    put_places(shelf, name, page, &certificate.places);
+    put(shelf, name, page, b"END\n");
 }
 
 // The lines of the certificates.
-fn put_certificates<S: Shelf>(
-    shelf: &mut S,
-    name: &str,
-    page: &mut Page,
-    all: &[Certificate],
-) -> Result<(), Failed>
-    ensures written { Writes name.now (flat_map certificate_text (views all.now)) (S.held shelf.old)
-        page.old result (S.held shelf.new) page.new }
-    ensures room { NeedsRoom (flat_map certificate_text (views all.now))
-        (S.space shelf.old name.now) page.old result (S.space shelf.new name.now) page.new }
-    ensures faults { OnlyWritesFail (S.read_faults shelf.old) (S.write_faults shelf.old) result
-        (S.read_faults shelf.new) (S.write_faults shelf.new) }
+fn put_certificates<S: Shelf>(shelf: &mut S, name: &str, page: &mut Page, all: &[Certificate])
+    ensures { Wrote name.now (flat_map certificate_text (views all.now))
+        (sight (S.held shelf.old) (S.space shelf.old name.now) (S.read_faults shelf.old)
+        (S.write_faults shelf.old)) page.old
+        (sight (S.held shelf.new) (S.space shelf.new name.now) (S.read_faults shelf.new)
+        (S.write_faults shelf.new)) page.new }
 {
     for certificate in all {
-        put_certificate(shelf, name, page, certificate)?;
+        put_certificate(shelf, name, page, certificate);
     }
-    Ok(())
 }
 
 // The whole text.
-fn put_text<S: Shelf>(
-    shelf: &mut S,
-    name: &str,
-    page: &mut Page,
-    all: &[Certificate],
-) -> Result<(), Failed>
-    ensures written { Writes name.now (spelling (views all.now)) (S.held shelf.old) page.old result
-        (S.held shelf.new) page.new }
-    ensures room { NeedsRoom (spelling (views all.now)) (S.space shelf.old name.now) page.old result
-        (S.space shelf.new name.now) page.new }
-    ensures faults { OnlyWritesFail (S.read_faults shelf.old) (S.write_faults shelf.old) result
-        (S.read_faults shelf.new) (S.write_faults shelf.new) }
+fn put_text<S: Shelf>(shelf: &mut S, name: &str, page: &mut Page, all: &[Certificate])
+    ensures { Wrote name.now (spelling (views all.now))
+        (sight (S.held shelf.old) (S.space shelf.old name.now) (S.read_faults shelf.old)
+        (S.write_faults shelf.old)) page.old
+        (sight (S.held shelf.new) (S.space shelf.new name.now) (S.read_faults shelf.new)
+        (S.write_faults shelf.new)) page.new }
 {
-    put_line(shelf, name, page, b"ITFCERT", &[Word::Text(b"1")])?;
-    put_line(
-        shelf,
-        name,
-        page,
-        b"AREAS",
-        &[Word::Number(all.len() as u64)],
-    )?;
-    put_certificates(shelf, name, page, all)
+    put(shelf, name, page, b"ITFCERT 1\n");
+    put(shelf, name, page, b"AREAS");
+    put_number(shelf, name, page, all.len() as u64);
+    put_end(shelf, name, page);
+    put_certificates(shelf, name, page, all);
 }
 
 /// Appends the text of the certificates to the file of that name, makes the file if there is none,
@@ -316,6 +247,6 @@ pub fn write<S: Shelf>(all: &[Certificate], shelf: &mut S, name: &str) -> Result
         (S.read_faults shelf.new) (S.write_faults shelf.new)) }
 {
     let mut page = Page::new();
-    put_text(shelf, name, &mut page, all)?;
-    flush(shelf, name, &mut page)
+    put_text(shelf, name, &mut page, all);
+    finish(shelf, name, page)
 }

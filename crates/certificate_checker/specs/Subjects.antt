@@ -31,6 +31,7 @@ pub record Claims : Type 0 where
   pub notes : List HalfNote
   pub places : List PointPlace
 
+-- what a certificate claims, as lists
 abbrev pub claims : Certificate → Claims
 claims c =
     record {
@@ -54,30 +55,39 @@ subject d edges points table c =
     record { drawing = d; edges = edges; points = points; table = table; claims = claims c }
 
 -- ---- by number; beyond the last one nothing is meant
+-- the edge of a number
 abbrev pub edge : Subject → ℕ → Edge
 edge s = edge_of s.edges
 
+-- the point of a number in a list
 abbrev pub point_in : List Placed → ℕ → Point
 point_in points j = (get_or points j (record { at = record { x = pos 0; y = pos 0 }; line = 0 })).at
 
+-- the point of a number
 abbrev pub point_at : Subject → ℕ → Point
 point_at s j = point_in s.points j
 
+-- the event of a number
 abbrev pub event : Subject → ℕ → Timed
 event s k = get_or s.table k no_event
 
+-- the claimed position of an event
 abbrev pub position_at : Subject → ℕ → ℕ
 position_at s k = get_or s.claims.positions k 0
 
+-- the claimed place of a point
 abbrev pub place_at : Subject → ℕ → PointPlace
 place_at s j = get_or s.claims.places j (place.Cell 0)
 
+-- the note of a half-edge in a list
 abbrev pub note_in : List HalfNote → Half → HalfNote
 note_in notes h = get_or notes (number h) (record { label = 0; link = link.Root; rank = 0 })
 
+-- the claimed note of a half-edge
 abbrev pub note_at : Subject → Half → HalfNote
 note_at s h = note_in s.claims.notes h
 
+-- the claimed rank of a half-edge
 abbrev pub rank : Subject → Half → ℕ
 rank s h = (note_at s h).rank
 
@@ -89,6 +99,7 @@ labels_in notes =
       above = λ e. (note_in notes (over e)).label;
     }
 
+-- the claimed labels
 abbrev pub labels : Subject → Labels
 labels s = labels_in s.claims.notes
 
@@ -119,11 +130,12 @@ abbrev pub first_of : Subject → Bool → ℕ → ℕ
 first_of s true i = runs.first_edge (bays_of s) 0 s.drawing.curves i
 first_of s false i = runs.first_edge (bays_of s) 0 s.drawing.curves i + length (bays_of s i)
 
--- the claimed label outside it
+-- the claimed label outside the first edge of that chain
 abbrev pub side_label : Subject → Bool → ℕ → ℕ
 side_label s inside i = outside_label s (first_of s inside i)
 
 -- ---- the replay that the claimed positions say
+-- each event with its claimed position
 abbrev pub moves : Subject → List Move
 moves s = moves_at s.table s.claims.positions
 
@@ -131,6 +143,7 @@ moves s = moves_at s.table s.claims.positions
 abbrev pub live_list : Subject → ℕ → List ℕ
 live_list s k = live_from [] (take k (moves s))
 
+-- the replay of all events at their claimed positions
 abbrev pub replay_of : Subject → Replay
 replay_of s = replay (pos 0) (length s.edges) (edge s) (steps_from [] (moves s))
 
@@ -148,8 +161,10 @@ under_place (place.Tube curve inside) = 0
 abbrev pub strip_of : Subject → ℕ → ℕ
 strip_of s j = events_before s.table (point_at s j)
 
+-- how many edges of the live list lie under point j, as its claimed cell says
 abbrev pub index_of : Subject → ℕ → ℕ
 index_of s j = under_place (place_at s j)
 
+-- the piece of a cell in which point j is claimed to lie
 abbrev pub sector_of : Subject → ℕ → Sector
 sector_of s j = position (strip_of s j) (index_of s j)

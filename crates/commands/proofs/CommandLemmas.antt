@@ -41,9 +41,6 @@ pub one_word : (words : List (List ℕ)) (a b : List ℕ) (c d : FileNames) → 
 one_word words a b c d h k =
     let e : a ∷ c.model ∷ c.transfer ∷ c.certificate ∷ [] ≡ b ∷ d.model ∷ d.transfer ∷ d.certificate ∷ [] = sym h.spelled ∙ k.spelled in cc
 
-pub other_words : codes "check" ≡ codes "verify" → ⊥
-other_words e = absurd (cc)
-
 pub one_compile : (words : List (List ℕ)) (m n : List ℕ) → IsCompile words m → IsCompile words n → m ≡ n
 one_compile words m n h k = let e : codes "compile" ∷ m ∷ [] ≡ codes "compile" ∷ n ∷ [] = sym h.spelled ∙ k.spelled in cc
 

@@ -2,6 +2,7 @@ pub mod CommandLemmas
 pub mod ModelTextLemmas
 pub mod OneCommand
 pub mod Pieces
+pub mod ReadingSteps
 pub mod Results
 pub mod TrialLengths
 pub mod TrialSizes

@@ -50,3 +50,9 @@ longer_one (Some file) bytes limit l h = (file, refl, omega (arith, ap length h,
 pub longer : (held : Option Files) (name bytes : List ℕ) (limit : ℕ) → limit < length bytes → IsFront held name bytes → IsLonger held name limit
 longer None name bytes limit l h = tt
 longer (Some files) name bytes limit l h = longer_one (map.get files name) bytes limit l h
+
+pub front_length : (front got : List ℕ) (n from : ℕ) → length front ≡ from → n ≤ length got → length (front ++ take n got) ≡ from + n
+front_length front got n from e le =
+    let a = length-append front (take n got) in
+    let b = length-take-le n got le in
+    omega (arith, a, b, e)

@@ -2,10 +2,12 @@
 use Rattle.std.specs.Prelude.{◌≡◌, ◌≤◌, ℕ, Bool, true, false, not, ◌==◌, List, [], ◌∷◌, Option}
 use Rattle.std.specs.Prelude.{Some, None, ⊤, codes}
 use Rattle.commands.specs.TrialFiles.{IsSize, model_text, transfer_text}
+use Rattle.commands.specs.declared.command.Verb.{Verb}
+use Rattle.commands.specs.declared.command.Verb.TheVariants.{Check, Verify}
 use Rattle.commands.specs.declared.files.File.{File}
 use Rattle.commands.specs.declared.files.File.TheVariants.{Model, Transfer, Certificate}
 
--- the model, the transfer, and the file of the certificates
+-- the model, the transfer, and the third file, which is that of the certificates
 pub record FileNames : Type 0 where
   pub model : List ℕ
   pub transfer : List ℕ
@@ -15,10 +17,8 @@ pub record FileNames : Type 0 where
 pub data Command : Type 0 where
   -- compile M: the model
   compile : List ℕ → Command
-  -- check M T C: the certificates are written to their file
-  check : FileNames → Command
-  -- verify M T C: they are read from it
-  verify : FileNames → Command
+  -- check M T C: the certificates are written to their file; verify M T C: they are read from it
+  on_files : Verb → FileNames → Command
   -- trial N C: so many cells a side, and the file that the certificates are written to
   trial : ℕ → List ℕ → Command
 
@@ -27,11 +27,17 @@ abbrev pub is_file_name : List ℕ → Bool
 is_file_name [] = false
 is_file_name (c ∷ name) = not (c == 45)
 
+-- the first word of a command on three files
+abbrev pub verb_word : Verb → List ℕ
+verb_word Check = codes "check"
+verb_word Verify = codes "verify"
+
 -- the words spell this command
 pub record IsCompile (words : List (List ℕ)) (model : List ℕ) : Type 0 where
   pub spelled : words ≡ codes "compile" ∷ model ∷ []
   pub is_name : is_file_name model ≡ true
 
+-- the words are this command and the names of three files
 pub record IsSpelled (command : List ℕ) (words : List (List ℕ)) (c : FileNames) : Type 0 where
   pub spelled : words ≡ command ∷ c.model ∷ c.transfer ∷ c.certificate ∷ []
   pub model : is_file_name c.model ≡ true
@@ -45,17 +51,16 @@ pub record IsTrial (words : List (List ℕ)) (size : ℕ) (certificate : List �
   pub is_size : IsSize word size
   pub is_name : is_file_name certificate ≡ true
 
+-- the words spell the command
 abbrev pub IsCommand : List (List ℕ) → Command → Type 0
 IsCommand words (compile model) = IsCompile words model
-IsCommand words (check c) = IsSpelled (codes "check") words c
-IsCommand words (verify c) = IsSpelled (codes "verify") words c
+IsCommand words (on_files verb c) = IsSpelled (verb_word verb) words c
 IsCommand words (trial n c) = IsTrial words n c
 
 -- a trial has no more cells than a size allows
 abbrev pub IsWithin : Command → Type 0
 IsWithin (compile model) = ⊤
-IsWithin (check c) = ⊤
-IsWithin (verify c) = ⊤
+IsWithin (on_files verb c) = ⊤
 IsWithin (trial n c) = n ≤ 500
 
 -- the words are no command
@@ -79,27 +84,51 @@ limit_of Certificate = 1073741824
 -- the model, which comes first and is compiled
 abbrev pub model_of : Command → Source
 model_of (compile model) = from_file Model model
-model_of (check c) = from_file Model c.model
-model_of (verify c) = from_file Model c.model
+model_of (on_files verb c) = from_file Model c.model
 model_of (trial n c) = made model_text
 
--- the further files
-abbrev pub transfer_source : FileNames → Source
-transfer_source c = from_file Transfer c.transfer
+-- ---- what a command does
+-- where certificates go: the name of their file; and for a trial its size, which the report names
+pub record Target : Type 0 where
+  pub name : List ℕ
+  pub trial : Option ℕ
 
-abbrev pub certificate_source : FileNames → Source
-certificate_source c = from_file Certificate c.certificate
+-- where a check files its certificates
+abbrev pub check_target : List ℕ → Target
+check_target name = record { name = name; trial = None }
 
--- the files that are read once the model is compiled, in order
-abbrev pub further_files : Command → List Source
-further_files (compile model) = []
-further_files (check c) = transfer_source c ∷ []
-further_files (verify c) = transfer_source c ∷ certificate_source c ∷ []
-further_files (trial n c) = made (transfer_text n) ∷ []
+-- where a trial of size n files its certificates
+abbrev pub trial_target : ℕ → List ℕ → Target
+trial_target n name = record { name = name; trial = Some n }
 
--- the file that the certificates are written to
-abbrev pub writes_to : Command → Option (List ℕ)
-writes_to (compile model) = None
-writes_to (check c) = Some c.certificate
-writes_to (verify c) = None
-writes_to (trial n c) = Some c
+-- what is done once the model is compiled
+pub data Task : Type 0 where
+  -- its tables are listed
+  lists : Task
+  -- a transfer is judged, and certificates of its areas go to the target
+  judges : Source → Target → Task
+  -- a transfer is judged, and the filed certificates against its areas
+  verifies : Source → Source → Task
+
+-- the task of a command on three files
+abbrev pub verb_task : Verb → FileNames → Task
+verb_task Check c = judges (from_file Transfer c.transfer) (check_target c.certificate)
+verb_task Verify c = verifies (from_file Transfer c.transfer) (from_file Certificate c.certificate)
+
+-- the task of a command
+abbrev pub task_of : Command → Task
+task_of (compile model) = lists
+task_of (on_files verb c) = verb_task verb c
+task_of (trial n c) = judges (made (transfer_text n)) (trial_target n c)
+
+-- the texts that are read for it, in order
+abbrev pub further_files : Task → List Source
+further_files lists = []
+further_files (judges transfer target) = transfer ∷ []
+further_files (verifies transfer certificates) = transfer ∷ certificates ∷ []
+
+-- the file that is written
+abbrev pub writes_to : Task → Option (List ℕ)
+writes_to lists = None
+writes_to (judges transfer target) = Some target.name
+writes_to (verifies transfer certificates) = None

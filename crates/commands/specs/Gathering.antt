@@ -3,11 +3,13 @@ use Rattle.std.specs.Prelude.{◌≡◌, ℕ, List, [], ◌∷◌, ◌++◌, Opt
 use Rattle.ports.specs.Files.{Files}
 use Rattle.table_layout.specs.Layouts.{Layout}
 use Rattle.commands.specs.Commands.{Command, Source, from_file, made, limit_of, model_of}
-use Rattle.commands.specs.Commands.{further_files}
+use Rattle.commands.specs.Commands.{Task, task_of, further_files}
 use Rattle.commands.specs.ModelTexts.{Refusal, IsRefused, HasLayout}
 use Rattle.commands.specs.Reading.{IsWhole, IsLonger}
 use Rattle.commands.specs.declared.files.File.{File}
 
+-- what is read for a command: a file that could not be read or is too long, a refused model, or the
+-- layout and the further texts
 pub data Gathered : Type 0 where
   -- this file could not be read
   unread : File → Gathered
@@ -34,13 +36,13 @@ ReadsAll held counted l before [] g = g ≡ texts l before
 ReadsAll held counted l before (s ∷ ss) g =
     Reads held counted s g (λ text. ReadsAll held counted l (before ++ (text ∷ [])) ss g)
 
--- a model's text is refused, or has a layout, and then the further files are read
-abbrev pub Compiles : Option Files → (List ℕ → Type 0) → Command → List ℕ → Gathered → Type 0
-Compiles held counted c text g =
+-- a model's text is refused, or has a layout, and then the further files of the task are read
+abbrev pub Compiles : Option Files → (List ℕ → Type 0) → Task → List ℕ → Gathered → Type 0
+Compiles held counted t text g =
     ((r : Refusal) × IsRefused text r × (g ≡ refused r))
-    ⊎ ((l : Layout) × HasLayout text l × ReadsAll held counted l [] (further_files c) g)
+    ⊎ ((l : Layout) × HasLayout text l × ReadsAll held counted l [] (further_files t) g)
 
 -- this is read of the files of a command
 abbrev pub Gathers : Option Files → (List ℕ → Type 0) → Command → Gathered → Type 0
 Gathers held counted c g =
-    Reads held counted (model_of c) g (λ text. Compiles held counted c text g)
+    Reads held counted (model_of c) g (λ text. Compiles held counted (task_of c) text g)

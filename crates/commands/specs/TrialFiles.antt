@@ -37,6 +37,7 @@ model_text = flat_map line (
 abbrev pub coordinate : ℕ → List ℕ
 coordinate units = spelling_of (pos (1000 * units)) 3
 
+-- the two coordinates of a place
 abbrev pub place_text : Place → List ℕ
 place_text p = coordinate p.x ++ codes " " ++ coordinate p.y
 
@@ -53,9 +54,11 @@ abbrev pub cell_text : ℕ → Place → List ℕ
 cell_text number point =
     codes "OBJE " ++ decimal number ++ codes " " ++ place_text point ++ codes "\n"
 
+-- a corner of the grid, by its column and its row
 abbrev pub corner : ℕ → ℕ → Place
 corner i j = record { x = 10 * i; y = 10 * j }
 
+-- the middle of a cell, by its column and its row
 abbrev pub middle : ℕ → ℕ → Place
 middle i j = record { x = 10 * i + 5; y = 10 * j + 5 }
 
@@ -67,6 +70,7 @@ level n j i = straight_text (j * n + i + 1) (corner i j) (corner (i + 1) j)
 abbrev pub upright : ℕ → ℕ → ℕ → List ℕ
 upright n i j = straight_text (n * (n + 1) + i * n + j + 1) (corner i j) (corner i (j + 1))
 
+-- the object of the cell in a row and a column, with its number and its middle
 abbrev pub cell : ℕ → ℕ → ℕ → List ℕ
 cell n j i = cell_text (j * n + i + 1) (middle i j)
 
@@ -75,23 +79,27 @@ abbrev pub each : ℕ → (ℕ → List ℕ) → List ℕ
 each zero text = []
 each (suc n) text = each n text ++ text n
 
--- all of them: row by row, column by column, and row by row
+-- all level straights, row by row
 abbrev pub levels : ℕ → List ℕ
 levels n = each (n + 1) (λ j. each n (level n j))
 
+-- all upright straights, column by column
 abbrev pub uprights : ℕ → List ℕ
 uprights n = each (n + 1) (λ i. each n (upright n i))
 
+-- all cells, row by row
 abbrev pub cells : ℕ → List ℕ
 cells n = each n (λ j. each n (cell n j))
 
--- what stands before the straights, between them and the cells, and after the cells
+-- what stands before the straights
 abbrev pub head : List ℕ
 head = codes "SCNT\n////\nMTID Trial\nMODL Trial\nTOPI Grid\nTABL Cell_Form\n"
 
+-- what stands between the straights and the cells
 abbrev pub between : List ℕ
 between = codes "ETAB\nTABL Cell\n"
 
+-- what stands after the cells
 abbrev pub ending : List ℕ
 ending = codes "ETAB\nETOP\nEMOD\nENDE\n"
 

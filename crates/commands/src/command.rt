@@ -1,8 +1,9 @@
 // The words of the command line.
 ghost use Rattle.std.specs.Prelude.{◌≡◌, IfSome, IfNone, List, ℕ};
 ghost use Rattle.commands.specs.Commands.{FileNames as AnyNames, is_file_name};
-ghost use Rattle.commands.specs.Commands.{IsSpelled, IsCompile, IsCommand, IsUsage};
+ghost use Rattle.commands.specs.Commands.{IsSpelled, IsCompile, IsCommand, IsUsage, verb_word};
 ghost use Rattle.commands.specs.CommandViews.{names_of, command_of as command_view};
+ghost use Rattle.commands.specs.declared.command.Verb.{Verb as AnyVerb};
 
 use crate::trial::{TrialWords, trial_of};
 use crate::word::Word;
@@ -15,15 +16,22 @@ pub struct FileNames<'a> {
     pub certificate: &'a str,
 }
 
+/// What is done with a model, a transfer and a third file.
+#[derive(Clone, Copy)]
+pub enum Verb {
+    /// `check M T C`: the certificates are written to their file.
+    Check,
+    /// `verify M T C`: the certificates are read from their file.
+    Verify,
+}
+
 /// What the words ask for.
 #[derive(Clone, Copy)]
 pub enum Command<'a> {
     /// `compile M`: the name of the model.
     Compile(&'a str),
-    /// `check M T C`: the certificates are written to their file.
-    Check(FileNames<'a>),
-    /// `verify M T C`: the certificates are read from their file.
-    Verify(FileNames<'a>),
+    /// A command on three files.
+    OnFiles(Verb, FileNames<'a>),
     /// `trial N C`: the files are made, and the certificates written to their file.
     Trial(TrialWords<'a>),
 }
@@ -54,10 +62,26 @@ fn compile_of(words: &[Word]) -> Option<&str>
     }
 }
 
-// The files that the words name after that command, if they do.
-fn files_of<'a>(words: &'a [Word], named: &str) -> Option<FileNames<'a>>
-    ensures some { IfSome result (λ names. IsSpelled named.now words.now (names_of names)) }
-    ensures none { IfNone result ((c : AnyNames) → IsSpelled named.now words.now c → ⊥) }
+// The verb that a word is.
+fn verb_of(word: &str) -> Option<Verb>
+    ensures some { IfSome result (λ verb. word.now ≡ verb_word verb) }
+    ensures none { IfNone result ((verb : AnyVerb) → word.now ≡ verb_word verb → ⊥) }
+{
+    if word == "check" {
+        return Some(Verb::Check);
+    }
+    if word == "verify" {
+        return Some(Verb::Verify);
+    }
+    None
+}
+
+// The files that the words name after their verb, if they do.
+fn files_of(words: &[Word]) -> Option<(Verb, FileNames<'_>)>
+    ensures some { IfSome result (λ found. IsSpelled (verb_word found.0) words.now
+        (names_of found.1)) }
+    ensures none { IfNone result ((verb : AnyVerb) (c : AnyNames)
+        → IsSpelled (verb_word verb) words.now c → ⊥) }
 {
     let [command, model, transfer, certificate] = words else {
         return None;
@@ -67,12 +91,12 @@ fn files_of<'a>(words: &'a [Word], named: &str) -> Option<FileNames<'a>>
         transfer: transfer.text(),
         certificate: certificate.text(),
     };
-    if command.text() == named
-        && is_file_name(names.model)
+    let verb = verb_of(command.text())?;
+    if is_file_name(names.model)
         && is_file_name(names.transfer)
         && is_file_name(names.certificate)
     {
-        Some(names)
+        Some((verb, names))
     } else {
         None
     }
@@ -83,11 +107,8 @@ pub fn command_of(words: &[Word]) -> Option<Command<'_>>
     ensures command { IfSome result (λ command. IsCommand words.now (command_view command)) }
     ensures usage { IfNone result (IsUsage words.now) }
 {
-    if let Some(names) = files_of(words, "check") {
-        return Some(Command::Check(names));
-    }
-    if let Some(names) = files_of(words, "verify") {
-        return Some(Command::Verify(names));
+    if let Some((verb, names)) = files_of(words) {
+        return Some(Command::OnFiles(verb, names));
     }
     if let Some(trial) = trial_of(words) {
         return Some(Command::Trial(trial));

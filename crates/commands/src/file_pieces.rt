@@ -1,7 +1,7 @@
 // Pieces of a file.
 ghost use Rattle.std.specs.Prelude.{◌≡◌, ◌≤◌, ◌<◌, ◌++◌, ℕ, List, length, take, IfOk, IsErrOf};
-ghost use Rattle.ports.specs.Faults.{Rose, NoReadFell, CountsStay};
-ghost use Rattle.ports.specs.Rooms.{StaysReady};
+ghost use Rattle.ports.specs.Faults.{Rose};
+ghost use Rattle.ports.specs.Reading.{OnlyReads};
 ghost use Rattle.commands.specs.Reading.{IsFront, IsEnd};
 
 use super::files::FileRefusal;
@@ -36,18 +36,15 @@ pub fn read_piece<S: Shelf>(
         → IsEnd (S.held shelf.old) name.now front) }
     ensures fits { IfOk result (λ n. n ≤ length piece.new) }
     ensures same { length piece.new ≡ length piece.old }
-    ensures held { S.held shelf.new ≡ S.held shelf.old }
-    ensures writes { S.write_faults shelf.old ≤ S.write_faults shelf.new }
-    ensures reads { NoReadFell (S.read_faults shelf.old) (S.read_faults shelf.new) }
+    ensures reads { OnlyReads (S.readable shelf.old name.now)
+        (S.held shelf.old) (S.read_faults shelf.old)
+        (S.write_faults shelf.old) (S.readable shelf.old) (S.space shelf.old)
+        (S.held shelf.new) (S.read_faults shelf.new) (S.write_faults shelf.new)
+        (S.readable shelf.new) (S.space shelf.new) }
     ensures cause { IsErrOf result FileRefusal.Failed
         → Rose (S.read_faults shelf.old name.now) (S.read_faults shelf.new name.now) }
     ensures refusal { IsErrOf result FileRefusal.TooLong → ⊥ }
     ensures memory { IsErrOf result FileRefusal.Memory → ⊥ }
-    ensures ready { StaysReady (S.readable shelf.old) (S.space shelf.old) (S.readable shelf.new)
-        (S.space shelf.new) }
-    ensures stay { S.readable shelf.old name.now
-        → CountsStay (S.read_faults shelf.old) (S.write_faults shelf.old)
-        (S.read_faults shelf.new) (S.write_faults shelf.new) }
 {
     match shelf.read(name, from, piece) {
         Ok(n) => Ok(n),

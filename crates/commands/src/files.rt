@@ -1,13 +1,12 @@
-// A whole file, read in pieces.
-ghost use Rattle.std.specs.Prelude.{◌≡◌, ◌≤◌, ◌<◌, ◌^◌, length, IfOk, IsErrOf, IsTrue, IsFalse};
-ghost use Rattle.std.specs.Prelude.{OnOk};
-ghost use Rattle.ports.specs.Faults.{Rose, NoReadFell, CountsStay};
-ghost use Rattle.ports.specs.Rooms.{StaysReady};
+// A whole file.
+ghost use Rattle.std.specs.Prelude.{◌≡◌, ◌<◌, ◌^◌, ◌++◌, ⊤, IfOk, IsErrOf};
+ghost use Rattle.ports.specs.Faults.{Rose};
+ghost use Rattle.ports.specs.Reading.{OnlyReads};
 ghost use Rattle.commands.specs.Commands.{limit_of};
-ghost use Rattle.commands.specs.Reading.{IsWhole, IsLonger, IsFront, IsEnd};
+ghost use Rattle.commands.specs.Reading.{IsWhole, IsLonger};
 
-use super::file_pieces::{PIECE, buffer, read_piece};
-use ports::Shelf;
+use super::taking::{Taker, read_pieces};
+use ports::{Memory, Shelf};
 use std::alloc::Global;
 
 /// A file that is read.
@@ -43,80 +42,21 @@ pub enum FileRefusal {
     Memory,
 }
 
-// Reads the next piece and adds it, or answers that the file has ended.
-fn add_piece<S: Shelf>(
-    shelf: &mut S,
-    name: &str,
-    piece: &mut [u8],
-    bytes: &mut Vec<u8>,
-) -> Result<bool, FileRefusal>
-    requires room { 0 < length piece.old }
-    requires front { IsFront (S.held shelf.old) name.now bytes.old.items }
-    ensures front { OnOk result (IsFront (S.held shelf.old) name.now bytes.new.items) }
-    ensures longer { IfOk result (λ more. IsTrue more
-        → length bytes.old.items < length bytes.new.items) }
-    ensures ended { IfOk result (λ more. IsFalse more
-        → IsEnd (S.held shelf.old) name.now bytes.new.items × (bytes.new.items ≡ bytes.old.items)) }
-    ensures held { S.held shelf.new ≡ S.held shelf.old }
-    ensures writes { S.write_faults shelf.old ≤ S.write_faults shelf.new }
-    ensures reads { NoReadFell (S.read_faults shelf.old) (S.read_faults shelf.new) }
-    ensures cause { IsErrOf result FileRefusal.Failed
-        → Rose (S.read_faults shelf.old name.now) (S.read_faults shelf.new name.now) }
-    ensures refusal { IsErrOf result FileRefusal.TooLong → ⊥ }
-    ensures ready { StaysReady (S.readable shelf.old) (S.space shelf.old) (S.readable shelf.new)
-        (S.space shelf.new) }
-    ensures stay { S.readable shelf.old name.now
-        → CountsStay (S.read_faults shelf.old) (S.write_faults shelf.old)
-        (S.read_faults shelf.new) (S.write_faults shelf.new) }
-{
-    let from = bytes.len() as u64;
-    let n = read_piece(shelf, name, from, piece)?;
-    if n == 0 {
-        return Ok(false);
-    }
-    match bytes.extend_from_slice(&piece[..n]) {
-        Ok(()) => Ok(true),
-        Err(_) => Err(FileRefusal::Memory),
-    }
+// The bytes of a file as far as they were read.
+#[derive(Drop)]
+struct Front {
+    bytes: Vec<u8>,
 }
 
-// Reads a file to its end, or until more bytes were read than the limit.
-fn read_within<S: Shelf>(
-    alloc: Global,
-    shelf: &mut S,
-    name: &str,
-    limit: u64,
-) -> Result<Vec<u8>, FileRefusal>
-    requires { limit < 2 ^ 32 }
-    ensures whole { IfOk result (λ bytes. IsWhole (S.held shelf.old) name.now limit bytes.items) }
-    ensures long { IsErrOf result FileRefusal.TooLong → IsLonger (S.held shelf.old) name.now limit }
-    ensures held { S.held shelf.new ≡ S.held shelf.old }
-    ensures writes { S.write_faults shelf.old ≤ S.write_faults shelf.new }
-    ensures reads { NoReadFell (S.read_faults shelf.old) (S.read_faults shelf.new) }
-    ensures cause { IsErrOf result FileRefusal.Failed
-        → Rose (S.read_faults shelf.old name.now) (S.read_faults shelf.new name.now) }
-    ensures ready { StaysReady (S.readable shelf.old) (S.space shelf.old) (S.readable shelf.new)
-        (S.space shelf.new) }
-    ensures stay { S.readable shelf.old name.now
-        → CountsStay (S.read_faults shelf.old) (S.write_faults shelf.old)
-        (S.read_faults shelf.new) (S.write_faults shelf.new) }
-{
-    let mut piece = match buffer(alloc, PIECE) {
-        Ok(piece) => piece,
-        Err(_) => return Err(FileRefusal::Memory),
-    };
-    let mut bytes: Vec<u8> = Vec::new(alloc);
-    // A shelf may give as little as one byte a call, and each call but the last gives one.
-    for _ in 0..limit + 1 {
-        let more = add_piece(shelf, name, &mut piece, &mut bytes)?;
-        if limit < bytes.len() as u64 {
-            return Err(FileRefusal::TooLong);
-        }
-        if !more {
-            return Ok(bytes);
-        }
+impl Taker for Front {
+    ghost took = { λ before bytes now. now.bytes.items ≡ before.bytes.items ++ bytes };
+
+    ghost can_take = { λ front n. ⊤ };
+
+    fn take(&mut self, piece: &[u8]) -> Result<(), Memory> {
+        self.bytes.extend_from_slice(piece)?;
+        Ok(())
     }
-    Err(FileRefusal::TooLong)
 }
 
 /// Reads a file whole, in pieces of 65,536 bytes. It is read to its end, or up to a piece past
@@ -131,16 +71,17 @@ pub fn read_file<S: Shelf>(
         bytes.items) }
     ensures long { IsErrOf result FileRefusal.TooLong
         → IsLonger (S.held shelf.old) name.now (limit_of file) }
-    ensures held { S.held shelf.new ≡ S.held shelf.old }
-    ensures writes { S.write_faults shelf.old ≤ S.write_faults shelf.new }
-    ensures reads { NoReadFell (S.read_faults shelf.old) (S.read_faults shelf.new) }
+    ensures reads { OnlyReads (S.readable shelf.old name.now)
+        (S.held shelf.old) (S.read_faults shelf.old)
+        (S.write_faults shelf.old) (S.readable shelf.old) (S.space shelf.old)
+        (S.held shelf.new) (S.read_faults shelf.new) (S.write_faults shelf.new)
+        (S.readable shelf.new) (S.space shelf.new) }
     ensures cause { IsErrOf result FileRefusal.Failed
         → Rose (S.read_faults shelf.old name.now) (S.read_faults shelf.new name.now) }
-    ensures ready { StaysReady (S.readable shelf.old) (S.space shelf.old) (S.readable shelf.new)
-        (S.space shelf.new) }
-    ensures stay { S.readable shelf.old name.now
-        → CountsStay (S.read_faults shelf.old) (S.write_faults shelf.old)
-        (S.read_faults shelf.new) (S.write_faults shelf.new) }
 {
-    read_within(alloc, shelf, name, file.limit())
+    let mut front = Front {
+        bytes: Vec::new(alloc),
+    };
+    read_pieces(alloc, shelf, name, file.limit(), &mut front)?;
+    Ok(front.bytes)
 }

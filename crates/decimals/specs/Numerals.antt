@@ -9,6 +9,7 @@ pub data Sign : Type 0 where
   plus : Sign
   minus : Sign
 
+-- the bytes of a sign
 abbrev pub sign_bytes : Sign → List ℕ
 sign_bytes unsigned = []
 sign_bytes plus = 43 ∷ []
@@ -26,6 +27,7 @@ pub record Numeral : Type 0 where
   -- what stands after the point, where there is one
   pub point : Option (List ℕ)
 
+-- the bytes of a number as it is written
 abbrev pub spelling : Numeral → List ℕ
 spelling n = sign_bytes n.sign ++ (n.whole ++ point_bytes n.point)
 
@@ -51,10 +53,12 @@ number (digit ∷ digits) = (digit - 48) * 10 ^ length digits + number digits
 
 -- The parts of a text, read from left to right.
 
+-- the sign at the front of bytes
 abbrev pub sign_of : List ℕ → Sign
 sign_of [] = unsigned
 sign_of (c ∷ cs) = cond (c == 43) plus (cond (c == 45) minus unsigned)
 
+-- the bytes after the sign
 abbrev pub after_sign : List ℕ → List ℕ
 after_sign bytes = drop (length (sign_bytes (sign_of bytes))) bytes
 

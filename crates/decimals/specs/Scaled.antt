@@ -23,6 +23,7 @@ magnitude scale whole decimals =
 abbrev pub is_exact : ℕ → List ℕ → Bool
 is_exact scale decimals = list_all (λ digit. digit == 48) (drop scale decimals)
 
+-- the number of that magnitude with the sign
 abbrev pub with_sign : Sign → ℕ → ℤ
 with_sign unsigned m = pos m
 with_sign plus m = pos m
@@ -75,6 +76,7 @@ unsigned_of scale bytes =
     then measured scale (whole_of bytes) (decimals_in (point_of bytes))
     else Err NotNumber
 
+-- a magnitude with its sign; a fault stays the fault
 abbrev pub signed : Sign → Result ℕ DecimalFault → Result ℤ DecimalFault
 signed sign (Ok m) = Ok (with_sign sign m)
 signed sign (Err fault) = Err fault

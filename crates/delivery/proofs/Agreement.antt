@@ -6,6 +6,7 @@ use Rattle.ports.specs.Output.{Adds}
 use Rattle.itf_reader.proofs.Readings.{one_transfer, one_refusal as one_fault, never_both}
 use Rattle.itf_reader.specs.Forms.{Row}
 use Rattle.itf_reader.specs.Layouts.{form_of}
+use Rattle.itf_reader.specs.Readings.{Structure}
 use Rattle.table_layout.specs.Layouts.{Layout}
 use Rattle.commands.specs.declared.files.File.{File}
 use Rattle.reports.specs.declared.status.Status.{Status}
@@ -14,17 +15,17 @@ use Rattle.delivery.specs.Answers.{GathersFor, Passes, AgreeFilings, Agree, Agre
 use Rattle.delivery.specs.AreaAnswers.{AreAnswers}
 use Rattle.delivery.specs.Verifying.{IsVerification}
 use Rattle.plane.specs.Rule.Plans.{Plan}
-use Rattle.delivery.proofs.Windows.{same_drawings}
-use Rattle.commands.specs.Commands.{Command, Source, from_file, made, compile, check, verify, trial, limit_of, model_of, further_files, IsCommand}
+use Rattle.area_drawings.proofs.Windows.{same_drawings}
+use Rattle.commands.specs.Commands.{Command, Source, Target, Task, lists, judges, verifies, task_of, from_file, made, limit_of, model_of, further_files, IsCommand}
 use Rattle.delivery.specs.Deciding.{Decides, formless, formed}
-use Rattle.delivery.specs.FiledTexts as filed_texts
-use Rattle.delivery.specs.FiledTexts.{AreVerified, IsRowsVerified, IsVerified}
+use Rattle.area_drawings.specs.AreaLimits.{has_too_large}
+use Rattle.delivery.specs.FiledTexts.{AreVerified, IsVerified}
 use Rattle.commands.specs.Gathering as gathering
 use Rattle.commands.specs.Gathering.{Gathered, Reads, ReadsAll, Compiles, Gathers}
 use Rattle.delivery.specs.Causes.{HasOutcome}
-use Rattle.delivery.specs.Judging.{lines_of, objects, AreJudged, IsRowsChecked, faulty, oversized, judged, IsChecked, at_fault, well_formed}
+use Rattle.delivery.specs.Judging.{lines_of, findings, objects, IsMisbuilt, IsTextOf, IsClean, AreJudged, IsJudgedBy, at_fault, faulty, oversized, sound, IsChecked}
 use Rattle.commands.specs.ModelTexts.{Refusal, IsRefused, HasLayout}
-use Rattle.reports.specs.Outcomes.{Filing, Target, check_target, trial_target, Outcome, misbuilt, areas_outcome, verified, report_of}
+use Rattle.reports.specs.Outcomes.{Filing, Outcome, misbuilt, rejected, areas_outcome, verified, report_of}
 use Rattle.commands.specs.Reading.{IsWhole, IsLonger}
 use Rattle.delivery.proofs.AreaLemmas.{AreaLaws, same_lines, areas_agree}
 use Rattle.delivery.proofs.Causes.{by_write}
@@ -102,20 +103,20 @@ module _ (files : Files) (far near : List ℕ → Type 0) where
       same_read s g h (λ text. ReadsAll (Some files) far l (before ++ (text ∷ [])) ss g) (λ text. ReadsAll (Some files) near l (before ++ (text ∷ [])) ss h)
       (λ text p q. same_all l (before ++ (text ∷ [])) ss g h p q) r k
 
-  module _ (c : Command) (text : List ℕ) (g h : Gathered) where
-    refused_after : (r : Refusal) → IsRefused text r → g ≡ gathering.refused r → Compiles (Some files) near c text h → Same g h
+  module _ (t : Task) (text : List ℕ) (g h : Gathered) where
+    refused_after : (r : Refusal) → IsRefused text r → g ≡ gathering.refused r → Compiles (Some files) near t text h → Same g h
     refused_after r i e k = elim k as (λ z. Same g h) [
       | inl n ↦ inr (inr (e ∙ ap gathering.refused (one_refusal text r n.0 i n.1) ∙ sym n.2))
       | inr n ↦ absurd (not_refused text n.0 r n.1 i)
     ]
 
-    laid_after : (l : Layout) → HasLayout text l → ReadsAll (Some files) far l [] (further_files c) g → Compiles (Some files) near c text h → Same g h
+    laid_after : (l : Layout) → HasLayout text l → ReadsAll (Some files) far l [] (further_files t) g → Compiles (Some files) near t text h → Same g h
     laid_after l i r k = elim k as (λ z. Same g h) [
       | inl n ↦ absurd (not_refused text l n.0 i n.1)
-      | inr n ↦ same_all n.0 [] (further_files c) g h (subst (λ (x : Layout). ReadsAll (Some files) far x [] (further_files c) g) (one_layout text l n.0 i n.1) r) n.2
+      | inr n ↦ same_all n.0 [] (further_files t) g h (subst (λ (x : Layout). ReadsAll (Some files) far x [] (further_files t) g) (one_layout text l n.0 i n.1) r) n.2
     ]
 
-    same_compiled : Compiles (Some files) far c text g → Compiles (Some files) near c text h → Same g h
+    same_compiled : Compiles (Some files) far t text g → Compiles (Some files) near t text h → Same g h
     same_compiled r k = elim r as (λ z. Same g h) [
       | inl n ↦ refused_after n.0 n.1 n.2 k
       | inr n ↦ laid_after n.0 n.1 n.2 k
@@ -123,33 +124,33 @@ module _ (files : Files) (far near : List ℕ → Type 0) where
 
   pub same_gathered : (c : Command) (g h : Gathered) → Gathers (Some files) far c g → Gathers (Some files) near c h → Same g h
   same_gathered c g h r k =
-      same_read (model_of c) g h (λ text. Compiles (Some files) far c text g) (λ text. Compiles (Some files) near c text h)
-      (λ text p q. same_compiled c text g h p q) r k
+      same_read (model_of c) g h (λ text. Compiles (Some files) far (task_of c) text g) (λ text. Compiles (Some files) near (task_of c) text h)
+      (λ text p q. same_compiled (task_of c) text g h p q) r k
 
 -- ---- what passes a test and what else is read
 -- the texts that were read pass it
-abbrev PassesIn : (Command → Layout → List (List ℕ) → Type 0) → Command → Gathered → Type 0
-PassesIn P c (gathering.texts l ts) = P c l ts
-PassesIn P c _ = ⊥
+abbrev PassesIn : (Task → Layout → List (List ℕ) → Type 0) → Task → Gathered → Type 0
+PassesIn P t (gathering.texts l ts) = P t l ts
+PassesIn P t _ = ⊥
 
-module _ (P : Command → Layout → List (List ℕ) → Type 0) (files : Files) (far near : List ℕ → Type 0) (words : List (List ℕ)) (p : Passes (Some files) far words P) where
-  reads_too : (h : Gathered) (c : Command) → IsCommand words c → Gathers (Some files) near c h → IsUnread h ⊎ PassesIn P c h
+module _ (P : Task → Layout → List (List ℕ) → Type 0) (files : Files) (far near : List ℕ → Type 0) (words : List (List ℕ)) (p : Passes (Some files) far words P) where
+  reads_too : (h : Gathered) (c : Command) → IsCommand words c → Gathers (Some files) near c h → IsUnread h ⊎ PassesIn P (task_of c) h
   reads_too h c i k =
       let e = one_command words p.0 c p.3 i in
       let g = gathering.texts p.1 p.2 in
-      elim (same_gathered files far near c g h (subst (λ (x : Command). Gathers (Some files) far x g) e p.4) k) as (λ z. IsUnread h ⊎ PassesIn P c h) [
+      elim (same_gathered files far near c g h (subst (λ (x : Command). Gathers (Some files) far x g) e p.4) k) as (λ z. IsUnread h ⊎ PassesIn P (task_of c) h) [
         | inl u ↦ absurd u
-        | inr n ↦ elim n as (λ z. IsUnread h ⊎ PassesIn P c h) [
+        | inr n ↦ elim n as (λ z. IsUnread h ⊎ PassesIn P (task_of c) h) [
           | inl u ↦ inl u
-          | inr r ↦ inr (subst (PassesIn P c) r (subst (λ (x : Command). PassesIn P x g) e p.5))
+          | inr r ↦ inr (subst (PassesIn P (task_of c)) r (subst (λ (x : Command). PassesIn P (task_of x) g) e p.5))
         ]
       ]
 
   -- two tests that are passed are passed by the same texts
-  pub both_pass : (Q : Command → Layout → List (List ℕ) → Type 0) → Passes (Some files) near words Q → (c : Command) × (l : Layout) × (ts : List (List ℕ)) × P c l ts × Q c l ts
-  both_pass Q q = elim (reads_too (gathering.texts q.1 q.2) q.0 q.3 q.4) as (λ z. (c : Command) × (l : Layout) × (ts : List (List ℕ)) × P c l ts × Q c l ts) [
+  pub both_pass : (Q : Task → Layout → List (List ℕ) → Type 0) → Passes (Some files) near words Q → (t : Task) × (l : Layout) × (ts : List (List ℕ)) × P t l ts × Q t l ts
+  both_pass Q q = elim (reads_too (gathering.texts q.1 q.2) q.0 q.3 q.4) as (λ z. (t : Task) × (l : Layout) × (ts : List (List ℕ)) × P t l ts × Q t l ts) [
     | inl u ↦ absurd u
-    | inr r ↦ (q.0, q.1, q.2, r, q.5)
+    | inr r ↦ (task_of q.0, q.1, q.2, r, q.5)
   ]
 
   pub never_refused : (r : Refusal) → GathersFor (Some files) near words (gathering.refused r) → ⊥
@@ -165,11 +166,40 @@ differ e = cc
 agree_both : (o p q : Outcome) → o ≡ q → p ≡ q → Agree o p
 agree_both o p q e f = agree_same o p (e ∙ sym f)
 
-unread_status : (c : Command) (g : Gathered) (o : Outcome) → IsUnread g → HasOutcome c g o → o.status ≡ ReadFault
-unread_status c (gathering.unread f) o u e = ap (λ (x : Outcome). x.status) e
-unread_status c (gathering.too_long f) o u e = absurd u
-unread_status c (gathering.refused r) o u e = absurd u
-unread_status c (gathering.texts l ts) o u e = absurd u
+unread_status : (t : Task) (g : Gathered) (o : Outcome) → IsUnread g → HasOutcome t g o → o.status ≡ ReadFault
+unread_status t (gathering.unread f) o u e = ap (λ (x : Outcome). x.status) e
+unread_status t (gathering.too_long f) o u e = absurd u
+unread_status t (gathering.refused r) o u e = absurd u
+unread_status t (gathering.texts l ts) o u e = absurd u
+
+-- two outcomes of one text agree where those of its areas do
+module _ (l : Layout) (text : List ℕ) (Areas : List (List Row) → Outcome → Type 0)
+    (areas : (rows : List (List Row)) (o p : Outcome) → Areas rows o → Areas rows p → Agree o p) where
+  one_rows : (t u : List (List Row)) → IsTextOf l text t → IsTextOf l text u → t ≡ u
+  one_rows t u h k = one_transfer (form_of l) (lines_of l text).lines t u h.1 k.1
+
+  never_at_fault : (rows : List (List Row)) (n : ℕ) (code : Structure) → IsMisbuilt l text n code → IsTextOf l text rows → ⊥
+  never_at_fault rows n code h t = never_both (form_of l) (lines_of l text) rows n code t h
+
+  agree_judged : (o p : Outcome) → IsJudgedBy l text Areas o → IsJudgedBy l text Areas p → Agree o p
+  agree_judged o p (at_fault n c h e) (at_fault m d k f) =
+      let q = one_fault (form_of l) (lines_of l text) n m c d h k in
+      agree_same o p (e ∙ ap (λ (x : ℕ). misbuilt x c) q.0 ∙ ap (misbuilt m) q.1 ∙ sym f)
+  agree_judged o p (at_fault n c h e) (faulty rows t m f) = absurd (never_at_fault rows n c h t)
+  agree_judged o p (at_fault n c h e) (oversized rows t k b f) = absurd (never_at_fault rows n c h t)
+  agree_judged o p (at_fault n c h e) (sound k) = absurd (never_at_fault k.0 n c h k.1)
+  agree_judged o p (faulty rows t n e) (at_fault m d k f) = absurd (never_at_fault rows m d k t)
+  agree_judged o p (faulty rows t n e) (faulty more u m f) = agree_both o p _ e (f ∙ ap (λ (r : List (List Row)). rejected (findings l r)) (one_rows more rows u t))
+  agree_judged o p (faulty rows t n e) (oversized more u k b f) = absurd (n (subst (IsClean l) (one_rows more rows u t) k))
+  agree_judged o p (faulty rows t n e) (sound k) = absurd (n (subst (IsClean l) (one_rows k.0 rows k.1 t) k.2))
+  agree_judged o p (oversized rows t k b e) (at_fault m d h f) = absurd (never_at_fault rows m d h t)
+  agree_judged o p (oversized rows t k b e) (faulty more u m f) = absurd (m (subst (IsClean l) (one_rows rows more t u) k))
+  agree_judged o p (oversized rows t k b e) (oversized more u m d f) = agree_both o p _ e f
+  agree_judged o p (oversized rows t k b e) (sound h) = absurd (differ (sym b ∙ ap (λ (r : List (List Row)). has_too_large r l.areas) (one_rows rows h.0 t h.1) ∙ h.3))
+  agree_judged o p (sound h) (at_fault m d k f) = absurd (never_at_fault h.0 m d k h.1)
+  agree_judged o p (sound h) (faulty more u m f) = absurd (m (subst (IsClean l) (one_rows h.0 more h.1 u) h.2))
+  agree_judged o p (sound h) (oversized more u k b f) = absurd (differ (sym b ∙ ap (λ (r : List (List Row)). has_too_large r l.areas) (one_rows more h.0 u h.1) ∙ h.3))
+  agree_judged o p (sound h) (sound k) = areas k.0 o p (subst (λ (r : List (List Row)). Areas r o) (one_rows h.0 k.0 h.1 k.1) h.4) k.4
 
 module _ (laws : AreaLaws) where
   agree_areas : (target : Target) (l : Layout) (rows : List (List Row)) (o p : Outcome) → AreJudged target l rows o → AreJudged target l rows p → Agree o p
@@ -179,29 +209,8 @@ module _ (laws : AreaLaws) where
       (areas_agree laws l (objects rows) target k.drawings j.answers k.answers j.certificates k.certificates
       (subst (λ (ds : List Plan). AreAnswers l l.areas ds j.answers j.certificates) (same_drawings l rows l.areas j.drawings k.drawings j.drawn k.drawn) j.answered) k.answered))
 
-  agree_rows : (target : Target) (l : Layout) (rows : List (List Row)) (o p : Outcome) → IsRowsChecked target l rows o → IsRowsChecked target l rows p → Agree o p
-  agree_rows target l rows o p (faulty n e) (faulty m f) = agree_both o p _ e f
-  agree_rows target l rows o p (faulty n e) (oversized k b f) = absurd (n k)
-  agree_rows target l rows o p (faulty n e) (judged k b j) = absurd (n k)
-  agree_rows target l rows o p (oversized k b e) (faulty m f) = absurd (m k)
-  agree_rows target l rows o p (oversized k b e) (oversized m d f) = agree_both o p _ e f
-  agree_rows target l rows o p (oversized k b e) (judged m d j) = absurd (differ (sym b ∙ d))
-  agree_rows target l rows o p (judged k b i) (faulty m f) = absurd (m k)
-  agree_rows target l rows o p (judged k b i) (oversized m d f) = absurd (differ (sym d ∙ b))
-  agree_rows target l rows o p (judged k b i) (judged m d j) = agree_areas target l rows o p i j
-
-  agree_text : (target : Target) (l : Layout) (text : List ℕ) (o p : Outcome) → IsChecked target l text o → IsChecked target l text p → Agree o p
-  agree_text target l text o p (at_fault n c h e) (at_fault m d k f) =
-      let q = one_fault (form_of l) (lines_of l text) n m c d h k in
-      agree_same o p (e ∙ ap (λ (x : ℕ). misbuilt x c) q.0 ∙ ap (misbuilt m) q.1 ∙ sym f)
-  agree_text target l text o p (at_fault n c h e) (well_formed t k f) = absurd (never_both (form_of l) (lines_of l text) t n c k h)
-  agree_text target l text o p (well_formed t h e) (at_fault m d k f) = absurd (never_both (form_of l) (lines_of l text) t m d h k)
-  agree_text target l text o p (well_formed t h e) (well_formed u k f) =
-      let q = one_transfer (form_of l) (lines_of l text).lines t u h.1 k.1 in
-      agree_rows target l u o p (subst (λ (x : List (List Row)). IsRowsChecked target l x o) q e) f
-
-  agree_verified : (l : Layout) (rows : List (List Row)) (filed : List ℕ) (o p : Outcome) → AreVerified l rows filed o → AreVerified l rows filed p → Agree o p
-  agree_verified l rows filed o p j k =
+  agree_verified : (l : Layout) (filed : List ℕ) (rows : List (List Row)) (o p : Outcome) → AreVerified l filed rows o → AreVerified l filed rows p → Agree o p
+  agree_verified l filed rows o p j k =
       agree_same o p
       (j.is ∙ ap (λ (ds : List Plan). verified l (objects rows) ds j.verification) (same_drawings l rows l.areas j.drawings k.drawings j.drawn k.drawn)
       ∙ ap (verified l (objects rows) k.drawings)
@@ -209,49 +218,27 @@ module _ (laws : AreaLaws) where
       (subst (λ (ds : List Plan). IsVerification l ds filed j.verification) (same_drawings l rows l.areas j.drawings k.drawings j.drawn k.drawn) j.judged) k.judged)
       ∙ sym k.is)
 
-  agree_filed_rows : (l : Layout) (rows : List (List Row)) (filed : List ℕ) (o p : Outcome) → IsRowsVerified l rows filed o → IsRowsVerified l rows filed p → Agree o p
-  agree_filed_rows l rows filed o p (filed_texts.faulty n e) (filed_texts.faulty m f) = agree_both o p _ e f
-  agree_filed_rows l rows filed o p (filed_texts.faulty n e) (filed_texts.oversized k b f) = absurd (n k)
-  agree_filed_rows l rows filed o p (filed_texts.faulty n e) (filed_texts.verified k b j) = absurd (n k)
-  agree_filed_rows l rows filed o p (filed_texts.oversized k b e) (filed_texts.faulty m f) = absurd (m k)
-  agree_filed_rows l rows filed o p (filed_texts.oversized k b e) (filed_texts.oversized m d f) = agree_both o p _ e f
-  agree_filed_rows l rows filed o p (filed_texts.oversized k b e) (filed_texts.verified m d j) = absurd (differ (sym b ∙ d))
-  agree_filed_rows l rows filed o p (filed_texts.verified k b i) (filed_texts.faulty m f) = absurd (m k)
-  agree_filed_rows l rows filed o p (filed_texts.verified k b i) (filed_texts.oversized m d f) = absurd (differ (sym d ∙ b))
-  agree_filed_rows l rows filed o p (filed_texts.verified k b i) (filed_texts.verified m d j) = agree_verified l rows filed o p i j
+  agree_text : (target : Target) (l : Layout) (text : List ℕ) (o p : Outcome) → IsChecked target l text o → IsChecked target l text p → Agree o p
+  agree_text target l text = agree_judged l text (AreJudged target l) (agree_areas target l)
 
   pub agree_filed : (l : Layout) (text filed : List ℕ) (o p : Outcome) → IsVerified l text filed o → IsVerified l text filed p → Agree o p
-  agree_filed l text filed o p (filed_texts.at_fault n c h e) (filed_texts.at_fault m d k f) =
-      let q = one_fault (form_of l) (lines_of l text) n m c d h k in
-      agree_same o p (e ∙ ap (λ (x : ℕ). misbuilt x c) q.0 ∙ ap (misbuilt m) q.1 ∙ sym f)
-  agree_filed l text filed o p (filed_texts.at_fault n c h e) (filed_texts.well_formed t k f) = absurd (never_both (form_of l) (lines_of l text) t n c k h)
-  agree_filed l text filed o p (filed_texts.well_formed t h e) (filed_texts.at_fault m d k f) = absurd (never_both (form_of l) (lines_of l text) t m d h k)
-  agree_filed l text filed o p (filed_texts.well_formed t h e) (filed_texts.well_formed u k f) =
-      let q = one_transfer (form_of l) (lines_of l text).lines t u h.1 k.1 in
-      agree_filed_rows l u filed o p (subst (λ (x : List (List Row)). IsRowsVerified l x filed o) q e) f
+  agree_filed l text filed = agree_judged l text (AreVerified l filed) (agree_verified l filed)
 
-  agree_amount : (c : Command) (g : Gathered) (o p : Outcome) → HasOutcome c g o → HasOutcome c g p → Agree o p
-  agree_amount c (gathering.unread f) o p h k = agree_both o p _ h k
-  agree_amount c (gathering.too_long f) o p h k = agree_both o p _ h k
-  agree_amount c (gathering.refused r) o p h k = agree_both o p _ h k
-  agree_amount (compile m) (gathering.texts l ts) o p h k = agree_both o p _ h k
-  agree_amount (check c) (gathering.texts l []) o p h k = absurd h
-  agree_amount (check c) (gathering.texts l (text ∷ [])) o p h k = agree_text (check_target c.certificate) l text o p h k
-  agree_amount (check c) (gathering.texts l (t ∷ u ∷ ts)) o p h k = absurd h
-  agree_amount (verify c) (gathering.texts l []) o p h k = absurd h
-  agree_amount (verify c) (gathering.texts l (text ∷ [])) o p h k = absurd h
-  agree_amount (verify c) (gathering.texts l (text ∷ filed ∷ [])) o p h k = agree_filed l text filed o p h k
-  agree_amount (verify c) (gathering.texts l (t ∷ u ∷ v ∷ ts)) o p h k = absurd h
-  agree_amount (trial n c) (gathering.texts l []) o p h k = absurd h
-  agree_amount (trial n c) (gathering.texts l (text ∷ [])) o p h k = agree_text (trial_target n c) l text o p h k
-  agree_amount (trial n c) (gathering.texts l (t ∷ u ∷ ts)) o p h k = absurd h
+  agree_amount : (t : Task) (g : Gathered) (o p : Outcome) → HasOutcome t g o → HasOutcome t g p → Agree o p
+  agree_amount t (gathering.unread f) o p h k = agree_both o p _ h k
+  agree_amount t (gathering.too_long f) o p h k = agree_both o p _ h k
+  agree_amount t (gathering.refused r) o p h k = agree_both o p _ h k
+  agree_amount lists (gathering.texts l ts) o p h k = agree_both o p _ h k
+  agree_amount (judges s target) (gathering.texts l (text ∷ [])) o p h k = agree_text target l text o p h k
+  agree_amount (verifies s r) (gathering.texts l (text ∷ filed ∷ [])) o p h k = agree_filed l text filed o p h k
+  agree_amount t (gathering.texts l ts) o p h k = absurd h
 
-  files_agree : (c : Command) (g h : Gathered) (o p : Outcome) → Same g h → HasOutcome c g o → HasOutcome c h p → AgreeUnlessUnread o p
-  files_agree c g h o p s a b = elim s as (λ z. AgreeUnlessUnread o p) [
-    | inl u ↦ inl (unread_status c g o u a)
+  files_agree : (t : Task) (g h : Gathered) (o p : Outcome) → Same g h → HasOutcome t g o → HasOutcome t h p → AgreeUnlessUnread o p
+  files_agree t g h o p s a b = elim s as (λ z. AgreeUnlessUnread o p) [
+    | inl u ↦ inl (unread_status t g o u a)
     | inr n ↦ elim n as (λ z. AgreeUnlessUnread o p) [
-      | inl u ↦ inr (inl (unread_status c h p u b))
-      | inr e ↦ inr (inr (agree_amount c h o p (subst (λ (x : Gathered). HasOutcome c x o) e a) b))
+      | inl u ↦ inr (inl (unread_status t h p u b))
+      | inr e ↦ inr (inr (agree_amount t h o p (subst (λ (x : Gathered). HasOutcome t x o) e a) b))
     ]
   ]
 
@@ -261,9 +248,9 @@ module _ (laws : AreaLaws) where
   outcomes_agree files far near words o p (formed c g i x a) (formless v b) = absurd (v c i)
   outcomes_agree files far near words o p (formed c g i x a) (formed d h j y b) =
       let e = one_command words c d i j in
-      files_agree d g h o p
+      files_agree (task_of d) g h o p
       (same_gathered files far near d g h (subst (λ (z : Command). Gathers (Some files) far z g) e x) y)
-      (subst (λ (z : Command). HasOutcome z g o) e a) b
+      (subst (λ (z : Command). HasOutcome (task_of z) g o) e a) b
 
 -- an answer that is that of an outcome unless a write failed is that of each outcome, as far as they agree
 pub exactly : (held : Option Files) (far near : List ℕ → Type 0) (words : List (List ℕ)) (p : Outcome) (s : Status) (before after : Option (List ℕ))

@@ -21,7 +21,7 @@ use Rattle.delivery.specs.AnswerViews.{certificates_in, named}
 use Rattle.delivery.specs.AreaAnswers.{IsAnswer, faulty, undecided, proved, fault_answer, undecided_answer, AreAnswers}
 use Rattle.reports.specs.AreaKinds.{proof_answer, plans}
 use Rattle.delivery.specs.AreaCertificates.{claims_of}
-use Rattle.delivery.specs.AreaLimits.{IsSmallPlan}
+use Rattle.area_drawings.specs.AreaLimits.{IsSmallPlan}
 use Rattle.delivery.proofs.CertificateLemmas.{proved_view}
 use Rattle.reports.specs.AreaNames.{HasTitle, topic_name, table_name}
 use Rattle.reports.specs.declared.lines.AreaAnswer.{AreaAnswer}

@@ -1,28 +1,24 @@
 -- What the outcome of the words and the files says of the answer.
 use Rattle.std.proofs.Common.{◌≡◌, ℕ, Bool, true, false, List, [], ◌∷◌, Option, refl, sym, ◌∙◌, subst, inl, inr}
-use Rattle.std.specs.Prelude.{◌≢◌, ◌⊎◌, ⊤, codes}
+use Rattle.std.specs.Prelude.{◌≢◌, ⊤}
 use Rattle.ports.specs.Files.{Files}
 use Rattle.itf_reader.specs.Forms.{Row}
 use Rattle.table_layout.specs.Layouts.{Layout}
 use Rattle.reports.specs.declared.status.Status.{Status}
 use Rattle.reports.specs.declared.status.Status.TheVariants.{Accepted, Rejected, Undecided, ModelRefused, Usage, ReadFault, WriteFault, OverLimit, Memory, NotProved}
 use Rattle.delivery.specs.Answers.{HasCause}
-use Rattle.commands.specs.Commands.{FileNames, Command, compile, check, verify, trial, IsSpelled, IsCommand}
+use Rattle.commands.specs.Commands.{Command, Source, Target, Task, lists, judges, verifies, task_of, IsCommand}
 use Rattle.delivery.specs.Deciding.{Decides, formless, formed}
 use Rattle.commands.specs.Gathering as gathering
 use Rattle.commands.specs.Gathering.{Gathered, Gathers}
-use Rattle.delivery.specs.Causes.{HasOutcome, HasSoundRows, HasFault, HasLargeArea, Accepts, Rejects, LeavesUndecided, IsOversized}
-use Rattle.delivery.specs.Judging.{findings, objects, IsTextOf, IsClean, AreJudged, IsRowsChecked, faulty, oversized, judged, IsChecked, at_fault, well_formed}
-use Rattle.delivery.specs.AreaAnswers.{HasFaultyArea, ArePartedAreas, AreUndecidedAreas}
-use Rattle.reports.specs.AreaKinds.{has_fault, has_undecided}
-use Rattle.delivery.specs.AreaLimits.{has_too_large}
-use Rattle.reports.specs.Outcomes.{Target, check_target, trial_target, Outcome, usage, unread, too_long, area_too_large, refused, compiled, misbuilt, rejected, areas_outcome, verified}
-use Rattle.delivery.specs.FiledTexts as filed_texts
-use Rattle.delivery.specs.FiledTexts.{AreVerified, IsRowsVerified, IsVerified}
+use Rattle.delivery.specs.Causes.{HasOutcome, HasFault, HasLargeArea, Accepts, Rejects, LeavesUndecided, Unproves, IsOversized}
+use Rattle.delivery.specs.Judging.{findings, objects, HasSoundRows, AreJudged, IsJudgedBy, at_fault, faulty, oversized, sound, IsChecked}
+use Rattle.reports.specs.Outcomes.{Outcome, usage, unread, too_long, area_too_large, refused, compiled, misbuilt, rejected, verified}
+use Rattle.delivery.specs.FiledTexts.{AreVerified, IsVerified}
 use Rattle.reports.specs.Verifications as verifications
 use Rattle.delivery.specs.Verifying.{IsVerification}
 use Rattle.reports.specs.Verifications.{Verification}
-use Rattle.delivery.proofs.AreaLemmas.{AreaLaws, outcome_by, faulty_area, left_areas, parted_areas, parted_all}
+use Rattle.delivery.proofs.AreaLemmas.{AreaLaws, some_fault, some_undecided, by_answers, outcome_by, faulty_area, left_areas, parted_areas, parted_all}
 
 -- ---- the causes
 module _ (laws : AreaLaws) (held : Option Files) (counted : List ℕ → Type 0) (words : List (List ℕ)) where
@@ -30,69 +26,67 @@ module _ (laws : AreaLaws) (held : Option Files) (counted : List ℕ → Type 0)
   moved : (o p : Outcome) → o ≡ p → HasCause held counted words p.status → HasCause held counted words o.status
   moved o p e h = subst (λ (x : Outcome). HasCause held counted words x.status) (sym e) h
 
-  -- a command whose transfer is judged, and what its tests say of one text
-  module _ (c : Command) (target : Target) (i : IsCommand words c) (l : Layout) (text : List ℕ) (g_ : Gathers held counted c (gathering.texts l (text ∷ [])))
-      (accepts : HasSoundRows l text (ArePartedAreas l) → Accepts c l (text ∷ []))
-      (rejects : HasFault l text ⊎ HasSoundRows l text (HasFaultyArea l) → Rejects c l (text ∷ []))
-      (leaves : HasSoundRows l text (AreUndecidedAreas l) → LeavesUndecided c l (text ∷ []))
-      (exceeds : HasLargeArea l text → IsOversized c l (text ∷ [])) where
-    -- the status of the answers to areas
-    areas_mean : (rows : List (List Row)) → IsTextOf l text rows → IsClean l rows → has_too_large rows l.areas ≡ false → (o : Outcome) → AreJudged target l rows o → HasCause held counted words o.status
-    areas_mean rows t k b o j = moved o (areas_outcome l (objects rows) target j.answers j.certificates) j.is (by (has_fault j.answers) (has_undecided j.answers) refl refl)
-      where
-        by : (f g : Bool) → has_fault j.answers ≡ f → has_undecided j.answers ≡ g
-            → HasCause held counted words (outcome_by l (objects rows) target j.answers j.certificates f g).status
-        by true g f h = (c, l, text ∷ [], i, g_, rejects (inr (rows, t, k, b, faulty_area laws l rows j.drawings j.answers j.certificates j.drawn j.answered f)))
-        by false true f h = (c, l, text ∷ [], i, g_, leaves (rows, t, k, b, left_areas laws l rows j.drawings j.answers j.certificates j.drawn j.answered f h))
-        by false false f h = (c, l, text ∷ [], i, g_, accepts (rows, t, k, b, parted_areas laws l rows j.drawings j.answers j.certificates j.drawn j.answered f h))
+  -- a task whose transfer is judged, and what its tests say of its texts
+  module _ (c : Command) (i : IsCommand words c) (l : Layout) (text : List ℕ) (ts : List (List ℕ))
+      (g_ : Gathers held counted c (gathering.texts l ts))
+      (rejects : HasFault l text → Rejects (task_of c) l ts)
+      (exceeds : HasLargeArea l text → IsOversized (task_of c) l ts)
+      (Areas : List (List Row) → Outcome → Type 0)
+      (areas : (o : Outcome) → HasSoundRows l text (λ rows. Areas rows o) → HasCause held counted words o.status) where
+    judged_means : (o : Outcome) → IsJudgedBy l text Areas o → HasCause held counted words o.status
+    judged_means o (at_fault n code h e) = moved o (misbuilt n code) e (c, l, ts, i, g_, rejects (inl (n, code, h)))
+    judged_means o (faulty rows t n e) = moved o (rejected (findings l rows)) e (c, l, ts, i, g_, rejects (inr (rows, t, n)))
+    judged_means o (oversized rows t k b e) = moved o area_too_large e (inr (c, l, ts, i, g_, exceeds (rows, t, k, b)))
+    judged_means o (sound h) = areas o h
 
-    rows_mean : (rows : List (List Row)) → IsTextOf l text rows → (o : Outcome) → IsRowsChecked target l rows o → HasCause held counted words o.status
-    rows_mean rows t o (faulty n e) = moved o (rejected (findings l rows)) e (c, l, text ∷ [], i, g_, rejects (inl (inr (rows, t, n))))
-    rows_mean rows t o (oversized k b e) = moved o area_too_large e (inr (c, l, text ∷ [], i, g_, exceeds (rows, t, k, b)))
-    rows_mean rows t o (judged k b j) = areas_mean rows t k b o j
+  -- a transfer whose areas are searched
+  module _ (c : Command) (s : Source) (target : Target) (e : task_of c ≡ judges s target) (i : IsCommand words c) (l : Layout) (text : List ℕ) (g_ : Gathers held counted c (gathering.texts l (text ∷ []))) where
+    -- what a test says of the task, said of the command
+    by_task : (test : Task → Layout → List (List ℕ) → Type 0) → test (judges s target) l (text ∷ []) → test (task_of c) l (text ∷ [])
+    by_task test h = subst (λ (t : Task). test t l (text ∷ [])) (sym e) h
+
+    areas_mean : (o : Outcome) → HasSoundRows l text (λ rows. AreJudged target l rows o) → HasCause held counted words o.status
+    areas_mean o (rows, t, k, b, j) = moved o (outcome_by l (objects rows) target j.answers j.certificates (some_fault j.answers) (some_undecided j.answers)) (j.is ∙ by_answers l (objects rows) target j.drawings j.answers j.certificates j.answered) (by (some_fault j.answers) (some_undecided j.answers) refl refl)
+      where
+        by : (f g : Bool) → some_fault j.answers ≡ f → some_undecided j.answers ≡ g
+            → HasCause held counted words (outcome_by l (objects rows) target j.answers j.certificates f g).status
+        by true g f h = (c, l, text ∷ [], i, g_, by_task Rejects (inr (rows, t, k, b, faulty_area laws l rows j.drawings j.answers j.certificates j.drawn j.answered f)))
+        by false true f h = (c, l, text ∷ [], i, g_, by_task LeavesUndecided (rows, t, k, b, left_areas laws l rows j.drawings j.answers j.certificates j.drawn j.answered f h))
+        by false false f h = (c, l, text ∷ [], i, g_, by_task Accepts (rows, t, k, b, parted_areas laws l rows j.drawings j.answers j.certificates j.drawn j.answered f h))
 
     checked_means : (o : Outcome) → IsChecked target l text o → HasCause held counted words o.status
-    checked_means o (at_fault n code h e) = moved o (misbuilt n code) e (c, l, text ∷ [], i, g_, rejects (inl (inl (n, code, h))))
-    checked_means o (well_formed rows t h) = rows_mean rows t o h
+    checked_means = judged_means c i l text (text ∷ []) g_ (λ h. by_task Rejects (inl h)) (by_task IsOversized) (AreJudged target l) areas_mean
 
-  module _ (c : FileNames) (i : IsSpelled (codes "verify") words c) (l : Layout) (text filed : List ℕ) (g_ : Gathers held counted (verify c) (gathering.texts l (text ∷ filed ∷ []))) where
+  -- a transfer with filed certificates
+  module _ (c : Command) (s r : Source) (e : task_of c ≡ verifies s r) (i : IsCommand words c) (l : Layout) (text filed : List ℕ) (g_ : Gathers held counted c (gathering.texts l (text ∷ filed ∷ []))) where
+    with_filed : (test : Task → Layout → List (List ℕ) → Type 0) → test (verifies s r) l (text ∷ filed ∷ []) → test (task_of c) l (text ∷ filed ∷ [])
+    with_filed test h = subst (λ (t : Task). test t l (text ∷ filed ∷ [])) (sym e) h
+
     -- the status of what certificates prove
-    verified_means : (rows : List (List Row)) → IsTextOf l text rows → IsClean l rows → has_too_large rows l.areas ≡ false → (o : Outcome) → AreVerified l rows filed o → HasCause held counted words o.status
-    verified_means rows t k b o j = moved o (verified l (objects rows) j.drawings j.verification) j.is (by j.verification j.judged)
+    filed_mean : (o : Outcome) → HasSoundRows l text (λ rows. AreVerified l filed rows o) → HasCause held counted words o.status
+    filed_mean o (rows, t, k, b, j) = moved o (verified l (objects rows) j.drawings j.verification) j.is (by j.verification j.judged)
       where
         by : (v : Verification) → IsVerification l j.drawings filed v → HasCause held counted words (verified l (objects rows) j.drawings v).status
-        by (verifications.proved levels) h = (verify c, l, text ∷ filed ∷ [], i, g_, (rows, t, k, b, ((j.drawings, j.drawn, levels, h), parted_all l rows j.drawings j.drawn (laws.verified l j.drawings filed levels h))))
-        by (verifications.not_proved a rule place) h = (verify c, l, text ∷ filed ∷ [], i, g_, (rows, t, k, b, (j.drawings, j.drawn, a, rule, place, h)))
-
-    filed_rows_mean : (rows : List (List Row)) → IsTextOf l text rows → (o : Outcome) → IsRowsVerified l rows filed o → HasCause held counted words o.status
-    filed_rows_mean rows t o (filed_texts.faulty n e) = moved o (rejected (findings l rows)) e (verify c, l, text ∷ filed ∷ [], i, g_, inr (rows, t, n))
-    filed_rows_mean rows t o (filed_texts.oversized k b e) = moved o area_too_large e (inr (verify c, l, text ∷ filed ∷ [], i, g_, (rows, t, k, b)))
-    filed_rows_mean rows t o (filed_texts.verified k b j) = verified_means rows t k b o j
+        by (verifications.proved levels) h = (c, l, text ∷ filed ∷ [], i, g_, with_filed Accepts (rows, t, k, b, ((j.drawings, j.drawn, levels, h), parted_all l rows j.drawings j.drawn (laws.verified l j.drawings filed levels h))))
+        by (verifications.not_proved a rule place) h = (c, l, text ∷ filed ∷ [], i, g_, with_filed Unproves (rows, t, k, b, (j.drawings, j.drawn, a, rule, place, h)))
 
     verify_means : (o : Outcome) → IsVerified l text filed o → HasCause held counted words o.status
-    verify_means o (filed_texts.at_fault n code h e) = moved o (misbuilt n code) e (verify c, l, text ∷ filed ∷ [], i, g_, inl (n, code, h))
-    verify_means o (filed_texts.well_formed rows t h) = filed_rows_mean rows t o h
+    verify_means = judged_means c i l text (text ∷ filed ∷ []) g_ (with_filed Rejects) (with_filed IsOversized) (AreVerified l filed) filed_mean
 
-  files_mean : (c : Command) (g : Gathered) → IsCommand words c → Gathers held counted c g → (o : Outcome) → HasOutcome c g o → HasCause held counted words o.status
-  files_mean c (gathering.unread f) i h o e = moved o (unread f) e (f, (c, i, h))
-  files_mean c (gathering.too_long f) i h o e = moved o (too_long f) e (inl (f, (c, i, h)))
-  files_mean c (gathering.refused r) i h o e = moved o (refused r) e (r, (c, i, h))
-  files_mean (compile m) (gathering.texts l ts) i h o e = moved o (compiled l) e (compile m, l, ts, i, h, tt)
-  files_mean (check c) (gathering.texts l []) i h o k = absurd k
-  files_mean (check c) (gathering.texts l (text ∷ [])) i h o k = checked_means (check c) (check_target c.certificate) i l text h (λ x. x) (λ x. x) (λ x. x) (λ x. x) o k
-  files_mean (check c) (gathering.texts l (t ∷ u ∷ ts)) i h o k = absurd k
-  files_mean (verify c) (gathering.texts l []) i h o k = absurd k
-  files_mean (verify c) (gathering.texts l (text ∷ [])) i h o k = absurd k
-  files_mean (verify c) (gathering.texts l (text ∷ filed ∷ [])) i h o k = verify_means c i l text filed h o k
-  files_mean (verify c) (gathering.texts l (t ∷ u ∷ v ∷ ts)) i h o k = absurd k
-  files_mean (trial n c) (gathering.texts l []) i h o k = absurd k
-  files_mean (trial n c) (gathering.texts l (text ∷ [])) i h o k = checked_means (trial n c) (trial_target n c) i l text h (λ x. x) (λ x. x) (λ x. x) (λ x. x) o k
-  files_mean (trial n c) (gathering.texts l (t ∷ u ∷ ts)) i h o k = absurd k
+  -- a command by its task
+  task_means : (c : Command) (t : Task) (g : Gathered) → task_of c ≡ t → IsCommand words c → Gathers held counted c g → (o : Outcome) → HasOutcome t g o → HasCause held counted words o.status
+  task_means c t (gathering.unread f) e i h o k = moved o (unread f) k (f, (c, i, h))
+  task_means c t (gathering.too_long f) e i h o k = moved o (too_long f) k (inl (f, (c, i, h)))
+  task_means c t (gathering.refused r) e i h o k = moved o (refused r) k (r, (c, i, h))
+  task_means c lists (gathering.texts l ts) e i h o k = moved o (compiled l) k (c, l, ts, i, h, subst (λ (t : Task). Accepts t l ts) (sym e) tt)
+  task_means c (judges s target) (gathering.texts l (text ∷ [])) e i h o k = checked_means c s target e i l text h o k
+  task_means c (verifies s r) (gathering.texts l (text ∷ filed ∷ [])) e i h o k = verify_means c s r e i l text filed h o k
+  task_means c t (gathering.texts l ts) e i h o k = absurd k
 
   -- the status of the outcome has its cause
   pub means : (o : Outcome) → Decides held counted words o → HasCause held counted words o.status
   means o (formless u e) = moved o usage e u
-  means o (formed c g i h a) = files_mean c g i h o a
+  means o (formed c g i h a) = task_means c (task_of c) g refl i h o a
 
 -- ---- no outcome is that a write failed, or that memory ran out
 abbrev pub IsFixed : Status → Type 0
@@ -104,57 +98,38 @@ fixed_as : (o p : Outcome) → o ≡ p → IsFixed p.status → IsFixed o.status
 fixed_as o p e h = subst (λ (x : Outcome). IsFixed x.status) (sym e) h
 
 areas_fixed : (target : Target) (l : Layout) (rows : List (List Row)) (o : Outcome) → AreJudged target l rows o → IsFixed o.status
-areas_fixed target l rows o j = fixed_as o (areas_outcome l (objects rows) target j.answers j.certificates) j.is (by (has_fault j.answers) (has_undecided j.answers))
+areas_fixed target l rows o j = fixed_as o (outcome_by l (objects rows) target j.answers j.certificates (some_fault j.answers) (some_undecided j.answers)) (j.is ∙ by_answers l (objects rows) target j.drawings j.answers j.certificates j.answered) (by (some_fault j.answers) (some_undecided j.answers))
   where
     by : (f g : Bool) → IsFixed (outcome_by l (objects rows) target j.answers j.certificates f g).status
     by true g = tt
     by false true = tt
     by false false = tt
 
-rows_fixed : (target : Target) (l : Layout) (rows : List (List Row)) (o : Outcome) → IsRowsChecked target l rows o → IsFixed o.status
-rows_fixed target l rows o (faulty n e) = fixed_as o (rejected (findings l rows)) e tt
-rows_fixed target l rows o (oversized k b e) = fixed_as o area_too_large e tt
-rows_fixed target l rows o (judged k b j) = areas_fixed target l rows o j
-
-check_fixed : (target : Target) (l : Layout) (text : List ℕ) (o : Outcome) → IsChecked target l text o → IsFixed o.status
-check_fixed target l text o (at_fault n code h e) = fixed_as o (misbuilt n code) e tt
-check_fixed target l text o (well_formed rows t h) = rows_fixed target l rows o h
-
-verified_fixed : (l : Layout) (rows : List (List Row)) (filed : List ℕ) (o : Outcome) → AreVerified l rows filed o → IsFixed o.status
+verified_fixed : (l : Layout) (rows : List (List Row)) (filed : List ℕ) (o : Outcome) → AreVerified l filed rows o → IsFixed o.status
 verified_fixed l rows filed o j = fixed_as o (verified l (objects rows) j.drawings j.verification) j.is (by j.verification)
   where
     by : (v : Verification) → IsFixed (verified l (objects rows) j.drawings v).status
     by (verifications.proved levels) = tt
     by (verifications.not_proved a rule place) = tt
 
-filed_rows_fixed : (l : Layout) (rows : List (List Row)) (filed : List ℕ) (o : Outcome) → IsRowsVerified l rows filed o → IsFixed o.status
-filed_rows_fixed l rows filed o (filed_texts.faulty n e) = fixed_as o (rejected (findings l rows)) e tt
-filed_rows_fixed l rows filed o (filed_texts.oversized k b e) = fixed_as o area_too_large e tt
-filed_rows_fixed l rows filed o (filed_texts.verified k b j) = verified_fixed l rows filed o j
+judged_fixed : (l : Layout) (text : List ℕ) (Areas : List (List Row) → Outcome → Type 0) → ((rows : List (List Row)) (o : Outcome) → Areas rows o → IsFixed o.status) → (o : Outcome) → IsJudgedBy l text Areas o → IsFixed o.status
+judged_fixed l text Areas areas o (at_fault n code h e) = fixed_as o (misbuilt n code) e tt
+judged_fixed l text Areas areas o (faulty rows t n e) = fixed_as o (rejected (findings l rows)) e tt
+judged_fixed l text Areas areas o (oversized rows t k b e) = fixed_as o area_too_large e tt
+judged_fixed l text Areas areas o (sound h) = areas h.0 o h.4
 
-filed_fixed : (l : Layout) (text filed : List ℕ) (o : Outcome) → IsVerified l text filed o → IsFixed o.status
-filed_fixed l text filed o (filed_texts.at_fault n code h e) = fixed_as o (misbuilt n code) e tt
-filed_fixed l text filed o (filed_texts.well_formed rows t h) = filed_rows_fixed l rows filed o h
-
-files_fixed : (c : Command) (g : Gathered) (o : Outcome) → HasOutcome c g o → IsFixed o.status
-files_fixed c (gathering.unread f) o e = fixed_as o (unread f) e tt
-files_fixed c (gathering.too_long f) o e = fixed_as o (too_long f) e tt
-files_fixed c (gathering.refused r) o e = fixed_as o (refused r) e tt
-files_fixed (compile m) (gathering.texts l ts) o e = fixed_as o (compiled l) e tt
-files_fixed (check c) (gathering.texts l []) o k = absurd k
-files_fixed (check c) (gathering.texts l (text ∷ [])) o k = check_fixed (check_target c.certificate) l text o k
-files_fixed (check c) (gathering.texts l (t ∷ u ∷ ts)) o k = absurd k
-files_fixed (verify c) (gathering.texts l []) o k = absurd k
-files_fixed (verify c) (gathering.texts l (text ∷ [])) o k = absurd k
-files_fixed (verify c) (gathering.texts l (text ∷ filed ∷ [])) o k = filed_fixed l text filed o k
-files_fixed (verify c) (gathering.texts l (t ∷ u ∷ v ∷ ts)) o k = absurd k
-files_fixed (trial n c) (gathering.texts l []) o k = absurd k
-files_fixed (trial n c) (gathering.texts l (text ∷ [])) o k = check_fixed (trial_target n c) l text o k
-files_fixed (trial n c) (gathering.texts l (t ∷ u ∷ ts)) o k = absurd k
+task_fixed : (t : Task) (g : Gathered) (o : Outcome) → HasOutcome t g o → IsFixed o.status
+task_fixed t (gathering.unread f) o e = fixed_as o (unread f) e tt
+task_fixed t (gathering.too_long f) o e = fixed_as o (too_long f) e tt
+task_fixed t (gathering.refused r) o e = fixed_as o (refused r) e tt
+task_fixed lists (gathering.texts l ts) o e = fixed_as o (compiled l) e tt
+task_fixed (judges s target) (gathering.texts l (text ∷ [])) o k = judged_fixed l text (AreJudged target l) (λ rows p j. areas_fixed target l rows p j) o k
+task_fixed (verifies s r) (gathering.texts l (text ∷ filed ∷ [])) o k = judged_fixed l text (AreVerified l filed) (λ rows p j. verified_fixed l rows filed p j) o k
+task_fixed t (gathering.texts l ts) o k = absurd k
 
 fixed : (held : Option Files) (counted : List ℕ → Type 0) (words : List (List ℕ)) (o : Outcome) → Decides held counted words o → IsFixed o.status
 fixed held counted words o (formless u e) = fixed_as o usage e tt
-fixed held counted words o (formed c g i h a) = files_fixed c g o a
+fixed held counted words o (formed c g i h a) = task_fixed (task_of c) g o a
 
 pub not_write_fault : (held : Option Files) (counted : List ℕ → Type 0) (words : List (List ℕ)) (o : Outcome) → Decides held counted words o → o.status ≢ WriteFault
 not_write_fault held counted words o h e = subst IsFixed e (fixed held counted words o h)

@@ -1,5 +1,5 @@
 -- What a text comes to whose lines were all taken.
-use Rattle.std.proofs.Common.{◌≡◌, ◌≤◌, ◌<◌, ℕ, false, List, [], ◌∷◌, ◌++◌, length, map, Option, Some, None, Err, refl, ap, sym, ◌∙◌, subst, arith}
+use Rattle.std.proofs.Common.{◌≡◌, ◌≤◌, ◌<◌, ℕ, false, List, [], ◌∷◌, ◌++◌, length, Option, Some, None, Err, refl, ap, sym, ◌∙◌, subst, arith}
 use Rattle.std.proofs.lemmas.List.{append-nil}
 use Rattle.std.specs.List.{All, AllZip}
 use Rattle.itf_lines.specs.LogicalLines.{LogicalLine, LogicalLines, logical}
@@ -27,12 +27,14 @@ use Rattle.domain_rules.specs.ValueFindings.{table_findings, tables_findings, va
 use Rattle.ident_refs.specs.FedRows.{fed_keys}
 use Rattle.ident_refs.specs.KeyFindings.{key_findings}
 use Rattle.plane.specs.Rule.Plans.{Plan}
-use Rattle.delivery.specs.AreaLimits.{has_too_large}
-use Rattle.delivery.specs.Drawings.{AreDrawings}
+use Rattle.area_drawings.specs.AreaLimits.{has_too_large}
+use Rattle.area_drawings.specs.Drawings.{AreDrawings}
 use Rattle.delivery.specs.Judging.{lines_of, findings, IsClean}
-use Rattle.delivery.specs.KeptDrawings.{has_kept_large, CanBeDrawn, IsDrawnFrom}
-use Rattle.delivery.specs.KeptRows.{Kept, all_kept, all_found, places_of, transfer_so_far}
-use Rattle.delivery.specs.KeptViews.{HasTaken, kept_in}
+use Rattle.area_drawings.specs.KeptDrawings.{has_kept_large, CanBeDrawn, IsDrawnFrom}
+use Rattle.area_drawings.specs.KeptRows.{Kept}
+use Rattle.area_drawings.specs.KeptViews.{kept_in}
+use Rattle.delivery.specs.KeptRows.{tables_found, all_found, transfer_so_far}
+use Rattle.delivery.specs.KeptViews.{HasTaken, found_in}
 use Rattle.delivery.specs.Pieces.{HasText, AreKept, IsKept}
 use Rattle.delivery.specs.declared.judging.lines.Judge.{Judge}
 use Rattle.delivery.specs.declared.judging.rows.TransferKept.{TransferKept}
@@ -98,7 +100,7 @@ kept_err l text fault (refusals.At line code) h r = r line (fault_of code) h
 kept_err l text fault refusals.Memory h r = tt
 
 -- ---- findings
-found_tables : (codes : Codes) (ts : List Table) (transfer : List (List Row)) → all_found (all_kept codes ts transfer) ≡ tables_findings codes ts transfer
+found_tables : (codes : Codes) (ts : List Table) (transfer : List (List Row)) → all_found (tables_found codes ts transfer) ≡ tables_findings codes ts transfer
 found_tables codes [] transfer = refl
 found_tables codes (t ∷ ts) [] = refl
 found_tables codes (t ∷ ts) (rows ∷ transfer) = ap (λ (fs : List Finding). table_findings codes t rows ++ fs) (found_tables codes ts transfer)
@@ -108,19 +110,28 @@ module _ (l : Layout) (text : List ℕ) (k : TransferKept) (h : AreKept l text k
   transfer = transfer_so_far l h.rows
 
   pub all_lines : ((l : Layout) (lines : List LogicalLine) (transfer : List (List Row)) → TransferText (form_of l) lines transfer → key_findings l transfer ≡ in_order (fed_keys l (closed_rows (form_of l) lines)))
-      → in_order (in_order (all_found (kept_in k.tables.items)) ++ in_order (fed_keys l h.rows)) ≡ findings l transfer
+      → in_order (in_order (all_found (found_in k.tables.items)) ++ in_order (fed_keys l h.rows)) ≡ findings l transfer
   all_lines law =
-      ap (λ (fs : List Finding). in_order (in_order fs ++ in_order (fed_keys l h.rows))) (ap all_found h.taken.kept ∙ found_tables l.codes l.tables transfer)
+      ap (λ (fs : List Finding). in_order (in_order fs ++ in_order (fed_keys l h.rows))) (ap all_found h.taken.found ∙ found_tables l.codes l.tables transfer)
       ∙ ap (λ (fs : List Finding). in_order (value_findings l transfer ++ fs))
       (ap (λ (rs : List (ℕ × Row)). in_order (fed_keys l rs)) h.closed ∙ sym (law l (lines_of l text).lines transfer h.has_rows.1))
 
   -- rows without findings
   module _ (v : IsValid l) (c : IsClean l transfer) (n : EachRow IsCounted (form_of l).tables transfer) where
-    pub large_are : has_kept_large (kept_in k.tables.items) transfer l.areas ≡ has_too_large transfer l.areas
-    large_are = ap (λ (ks : List Kept). has_kept_large ks transfer l.areas) h.taken.kept ∙ all_large l transfer v c n
+    pub large_are : has_kept_large (kept_in k.places.items) transfer l.areas
+        ≡ has_too_large transfer l.areas
+    large_are =
+        ap (λ (ks : List Kept). has_kept_large ks transfer l.areas) h.taken.kept
+        ∙ all_large l transfer v c n
 
-    pub are_drawable : (places : List Kept) → places ≡ map places_of (kept_in k.tables.items) → has_too_large transfer l.areas ≡ false → All (CanBeDrawn l places) l.areas
-    are_drawable places e s = subst (λ (ks : List Kept). All (CanBeDrawn l ks) l.areas) (sym (e ∙ ap (map places_of) h.taken.kept)) (all_can_be_drawn l transfer v c n s)
+    pub are_drawable : has_too_large transfer l.areas ≡ false
+        → All (CanBeDrawn l (kept_in k.places.items)) l.areas
+    are_drawable s =
+        subst (λ (ks : List Kept). All (CanBeDrawn l ks) l.areas) (sym h.taken.kept)
+        (all_can_be_drawn l transfer v c n s)
 
-    pub drawn_are : (places : List Kept) → places ≡ map places_of (kept_in k.tables.items) → (ds : List Plan) → AllZip (IsDrawnFrom l places) l.areas ds → AreDrawings l transfer ds
-    drawn_are places e ds z = all_drawings l transfer v c n ds (subst (λ (ks : List Kept). AllZip (IsDrawnFrom l ks) l.areas ds) (e ∙ ap (map places_of) h.taken.kept) z)
+    pub drawn_are : (ds : List Plan) → AllZip (IsDrawnFrom l (kept_in k.places.items)) l.areas ds
+        → AreDrawings l transfer ds
+    drawn_are ds z =
+        all_drawings l transfer v c n ds
+        (subst (λ (ks : List Kept). AllZip (IsDrawnFrom l ks) l.areas ds) h.taken.kept z)

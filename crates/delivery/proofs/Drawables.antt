@@ -30,9 +30,9 @@ use Rattle.domain_rules.proofs.Places.{empty_both, unsorted, have_places}
 use Rattle.domain_rules.specs.ValueFindings.{value_findings}
 use Rattle.ident_refs.specs.KeyFindings.{key_findings}
 use Rattle.delivery.specs.Judging.{IsClean}
-use Rattle.delivery.specs.Drawings.{point_at, place_read, placed, points_at, first_word, words_at, lines_in, IsWindowOf}
-use Rattle.delivery.specs.Drawable.{HasForms}
-use Rattle.delivery.specs.KeptDrawings.{ArePointsIn}
+use Rattle.area_drawings.specs.Drawings.{point_at, place_read, placed, points_at, first_word, words_at, lines_in, IsWindowOf}
+use Rattle.area_drawings.specs.Drawable.{HasForms}
+use Rattle.area_drawings.specs.KeptDrawings.{ArePointsIn}
 
 -- ---- lists
 pub all_at : {X : Type 0} (P : X → Type 0) (xs : List X) (i : ℕ) (x : X) → All P xs → slice_get xs i ≡ Some x → P x

@@ -4,8 +4,6 @@ use Rattle.std.specs.Prelude.{slice_get, slice_index_or, if◌then◌else◌, is
 use Rattle.std.specs.List.{All, AllZip, flat_map, list_all, list_any}
 use Rattle.std.proofs.lemmas.Bool.Decides.{nat_tests}
 use Rattle.std.proofs.lemmas.List.{length-append, length-map}
-use Rattle.std.proofs.lemmas.Option.{slice_get-map}
-use Rattle.std.specs.Option.{option_map}
 use Rattle.std.proofs.lemmas.List.Elements.{All-nil, All-cons, All-head, All-tail}
 use Rattle.ili_grammar.specs.Syntax.{Codes}
 use Rattle.resolver.specs.Resolved.{Form, AreaPoint, LineForm, Window}
@@ -34,13 +32,17 @@ use Rattle.plane.specs.Rule.Windows.{IsInside}
 use Rattle.plane.specs.declared.kinds.Curve.{Curve}
 use Rattle.plane.specs.declared.kinds.Placed.{Placed}
 use Rattle.plane.specs.declared.window.Window2.{Window2}
-use Rattle.delivery.specs.AreaLimits.{area_limit, vertices_in, is_too_large, has_too_large}
-use Rattle.delivery.specs.AreaLimits as limits
-use Rattle.delivery.specs.Drawable.{IsIn}
-use Rattle.delivery.specs.Drawings.{place_read, placed, first_word, words_at, points_at, points_by, points_in, lines_in, columns_in, curves_by, row_curves, line_curves, HasWindow, IsWindowOf, IsDrawing}
+use Rattle.area_drawings.specs.AreaLimits.{area_limit, vertices_in, is_too_large, has_too_large}
+use Rattle.area_drawings.specs.AreaLimits as limits
+use Rattle.area_drawings.specs.Drawable.{IsIn}
+use Rattle.area_drawings.specs.Drawings.{place_read, placed, first_word, words_at, points_at, points_by, points_in, lines_in, columns_in, curves_by, row_curves, line_curves, HasWindow, IsWindowOf, IsDrawing}
 use Rattle.delivery.specs.Judging.{IsClean}
-use Rattle.delivery.specs.KeptDrawings.{seen_curves, cut, total, kept_curves, AreIn, ArePointsIn, vertices_there, is_kept_large, has_kept_large, AreDrawable, AreDrawn, CanBeDrawn, points_there, column_points, curves_there, IsDrawnFrom}
-use Rattle.delivery.specs.KeptRows.{row_vertices, cell_points, row_points, is_area_point, PointColumn, Kept, point_column, point_columns, vertex_count, kept, all_kept, places_of}
+use Rattle.area_drawings.specs.KeptDrawings.{seen_curves, cut, total, kept_curves, AreIn, ArePointsIn, vertices_there, is_kept_large, has_kept_large, AreDrawable, AreDrawn, CanBeDrawn, column_points, curves_there, IsDrawnFrom}
+use Rattle.area_drawings.specs.KeptLines.{row_vertices, vertex_count, Lines, lines_kept}
+use Rattle.area_drawings.specs.KeptPoints.{cell_points, row_points, points_in_column}
+use Rattle.area_drawings.specs.KeptRows.{is_area_point, Kept, kept, vertices_in as vertices_of, counts_in}
+use Rattle.area_drawings.proofs.RowSteps.{column_asked}
+use Rattle.delivery.specs.KeptRows.{all_kept}
 use Rattle.delivery.proofs.Drawables.{drop_both, area_table, forms as forms_of, in_window, point_in, clean_rows, all_rows, rows_at}
 
 -- ---- lists
@@ -292,25 +294,13 @@ module _ (codes : Codes) (t : Table) (k : ℕ) (c : Column) (v : Window) (at : s
       ∙ ap (λ (f : Form). map (placed r.line) (place_read (column_reading f codes words))) (sym form)
       ∙ ap (λ (ws : List (List ℕ)). map (placed r.line) (place_read (column_reading c.form codes (take (width c.form) ws)))) (sym (drop_both 1 (widths (take k t.columns)) r.fields))
 
-  column_at : (rows : List Row) (n i : ℕ) (cs : List Column) → slice_get cs i ≡ Some c → slice_get (point_columns codes t rows n cs) i ≡ Some (point_column codes t rows (n + i) c)
-  column_at rows n i [] e = absurd (cc)
-  column_at rows n zero (b ∷ cs) e =
-      let z : n ≡ n + 0 = omega arith in
-      ap (λ (x : Column). Some (point_column codes t rows n x)) (same b c e) ∙ ap (λ (m : ℕ). Some (point_column codes t rows m c)) z
-    where
-      same : (b c : Column) → Some b ≡ Some c → b ≡ c
-      same b c e = cc
-  column_at rows n (suc i) (b ∷ cs) e =
-      let s : n + 1 + i ≡ n + suc i = omega arith in
-      column_at rows (n + 1) i cs e ∙ ap (λ (m : ℕ). Some (point_column codes t rows m c)) s
-
-  pub column_kept : (rows : List Row) → slice_get (kept codes t rows).columns k ≡ Some (point_column codes t rows k c)
-  column_kept rows = column_at rows 0 k t.columns at ∙ ap (λ (m : ℕ). Some (point_column codes t rows m c)) (let z : 0 + k ≡ k = omega arith in z)
-
-  pub points_kept : (rows : List Row) → All (HasPlaces codes t) rows → (point_column codes t rows k c).points ≡ flat_map (points_at codes (first_word t.columns k) c) rows
+  pub points_kept : (rows : List Row) → All (HasPlaces codes t) rows
+      → points_in_column k (kept codes t rows).points
+      ≡ flat_map (points_at codes (first_word t.columns k) c) rows
   points_kept rows h =
-      ap (λ (f : Form). if is_area_point f then flat_map (row_points codes t k) rows else []) form
-      ∙ flat_same (row_points codes t k) (points_at codes (first_word t.columns k) c) (HasPlaces codes t) rows points_of_row h
+      column_asked codes t rows k c at (ap is_area_point form)
+      ∙ flat_same (row_points codes t k) (points_at codes (first_word t.columns k) c)
+      (HasPlaces codes t) rows points_of_row h
 
 -- ---- an area
 kept_there : (codes : Codes) (ts : List Table) (transfer : List (List Row)) (n : ℕ) (t : Table) → EachRow IsCounted (map wanted_of ts) transfer → slice_get ts n ≡ Some t
@@ -325,10 +315,10 @@ kept_there codes (u ∷ ts) (rows ∷ transfer) (suc n) t h e = kept_there codes
 
 -- what areas are drawn from
 abbrev pub all_places : Layout → List (List Row) → List Kept
-all_places l rows = map places_of (all_kept l.codes l.tables rows)
+all_places l rows = all_kept l.codes l.tables rows
 
-abbrev if_lines : {X : Type 0} → Bool → List X → List X
-if_lines b xs = if b then xs else []
+abbrev if_lines : Bool → Lines → Option Lines
+if_lines b lines = if b then Some lines else None
 
 -- rows without findings, and an area of the layout
 module _ (l : Layout) (rows : List (List Row)) (v : IsValid l) (c : IsClean l rows) (a : AreaOf) (h : IsArea l.tables a) where
@@ -355,13 +345,21 @@ module _ (l : Layout) (rows : List (List Row)) (v : IsValid l) (c : IsClean l ro
   lines_right : All (IsRight l.codes h.helper) line_rows
   lines_right = right_at a.lines h.helper h.lines
 
-  vertices_are : strokes.vertices ≡ flat_map (row_vertices h.helper) line_rows
-  vertices_are = ap (λ (b : Bool). if_lines b (flat_map (row_vertices h.helper) line_rows)) of_area
+  -- the vertices of the lines of the area, and how many each has
+  abbrev pub vertices : List Seen
+  vertices = vertices_of strokes.lines
 
-  counts_are : strokes.counts ≡ map (vertex_count h.helper) line_rows
-  counts_are = ap (λ (b : Bool). if_lines b (map (vertex_count h.helper) line_rows)) of_area
+  abbrev pub counts : List ℕ
+  counts = counts_in strokes.lines
 
-  few_vertices : length strokes.vertices ≤ limits.vertex_count line_rows
+  vertices_are : vertices ≡ flat_map (row_vertices h.helper) line_rows
+  vertices_are =
+      ap (λ (b : Bool). vertices_of (if_lines b (lines_kept h.helper line_rows))) of_area
+
+  counts_are : counts ≡ map (vertex_count h.helper) line_rows
+  counts_are = ap (λ (b : Bool). counts_in (if_lines b (lines_kept h.helper line_rows))) of_area
+
+  few_vertices : length vertices ≤ limits.vertex_count line_rows
   few_vertices =
       let k = few_kept l.codes h.helper area.line area.lines line_rows lines_right in
       let m = ap (λ (vs : List Seen). length vs) vertices_are in
@@ -376,20 +374,14 @@ module _ (l : Layout) (rows : List (List Row)) (v : IsValid l) (c : IsClean l ro
   owner_places : All (HasPlaces l.codes area.owner) objects
   owner_places = all_rows l.codes area.owner objects (rows_at l.codes l.tables rows a.main area.owner places area.main)
 
-  abbrev point : PointColumn
-  point = point_column l.codes area.owner objects a.column area.point
-
-  points_are : point.points ≡ flat_map (points_at l.codes (first_word area.owner.columns a.column) area.point) objects
-  points_are = points_kept l.codes area.owner a.column area.point area.line.window area.column area.form objects owner_places
-
   -- the points that are kept in the area's column
   abbrev pub placed_points : List Placed
-  placed_points = points_there (slice_get owner.columns a.column)
+  placed_points = points_in_column a.column owner.points
 
   placed_are : placed_points ≡ flat_map (points_at l.codes (first_word area.owner.columns a.column) area.point) objects
-  placed_are = ap points_there (column_kept l.codes area.owner a.column area.point area.line.window area.column area.form objects) ∙ points_are
+  placed_are = points_kept l.codes area.owner a.column area.point area.line.window area.column area.form objects owner_places
 
-  pub area_drawable : is_too_large rows a ≡ false → AreDrawable area.line strokes.counts strokes.vertices placed_points
+  pub area_drawable : is_too_large rows a ≡ false → AreDrawable area.line counts vertices placed_points
   area_drawable e = record {
     counted = (let k = ap total counts_are ∙ total_flat (row_vertices h.helper) line_rows in let m = ap (λ (vs : List Seen). length vs) vertices_are in omega (arith, k, m));
     inside = λ w i. subst (AreIn w) (sym vertices_are) (inside_kept l.codes h.helper area.line area.lines w i line_rows lines_right);
@@ -423,7 +415,7 @@ module _ (l : Layout) (rows : List (List Row)) (v : IsValid l) (c : IsClean l ro
           let s = length-append (f r) (flat_map f rs) in
           omega (arith, k, m, s)
 
-  pub is_drawing : (d : Plan) → AreDrawn area.line strokes.counts strokes.vertices placed_points d → IsDrawing l rows a d
+  pub is_drawing : (d : Plan) → AreDrawn area.line counts vertices placed_points d → IsDrawing l rows a d
   is_drawing d k =
       let there : lines_in (slice_get l.tables a.lines) ≡ area.line ∷ [] = ap lines_in h.lines ∙ area.lines in
       let own_columns : columns_in (slice_get l.tables a.main) ≡ area.owner.columns = ap columns_in area.main in
@@ -431,7 +423,7 @@ module _ (l : Layout) (rows : List (List Row)) (v : IsValid l) (c : IsClean l ro
         window = subst (λ (ls : List LineForm). HasWindow ls d.window) (sym there) k.window;
         curves =
             k.curves
-            ∙ ap (λ (ns : List ℕ). kept_curves ns strokes.vertices) counts_are
+            ∙ ap (λ (ns : List ℕ). kept_curves ns vertices) counts_are
             ∙ ap (kept_curves (map (vertex_count h.helper) line_rows)) vertices_are
             ∙ curves_kept l.codes h.helper area.line area.lines line_rows lines_right
             ∙ sym (ap (λ (ls : List LineForm). curves_by ls line_rows) there);
@@ -450,51 +442,48 @@ module _ (l : Layout) (rows : List (List Row)) (v : IsValid l) (c : IsClean l ro
         same : (f g : LineForm) → f ∷ [] ≡ g ∷ [] → f ≡ g
         same f g e = cc
 
-    module _ (k m : Kept) (f : k ≡ strokes) (g : m ≡ owner) (ps : List Placed) (p : ps ≡ points_there (slice_get m.columns a.column)) where
+    module _ (k m : Kept) (f : k ≡ strokes) (g : m ≡ owner) (ps : List Placed) (p : ps ≡ points_in_column a.column m.points) where
       points_own : ps ≡ placed_points
-      points_own = p ∙ ap (λ (x : Kept). points_there (slice_get x.columns a.column)) g
+      points_own = p ∙ ap (λ (x : Kept). points_in_column a.column x.points) g
 
-      pub drawable_as : is_too_large rows a ≡ false → AreDrawable own k.counts k.vertices ps
+      pub drawable_as : is_too_large rows a ≡ false → AreDrawable own (counts_in k.lines) (vertices_of k.lines) ps
       drawable_as e =
-          subst (λ (x : LineForm). AreDrawable x k.counts k.vertices ps) line_own
-          (subst (λ (x : Kept). AreDrawable area.line x.counts x.vertices ps) (sym f)
-          (subst (AreDrawable area.line strokes.counts strokes.vertices) (sym points_own) (area_drawable e)))
+          subst (λ (x : LineForm). AreDrawable x (counts_in k.lines) (vertices_of k.lines) ps) line_own
+          (subst (λ (x : Kept). AreDrawable area.line (counts_in x.lines) (vertices_of x.lines) ps) (sym f)
+          (subst (AreDrawable area.line counts vertices) (sym points_own) (area_drawable e)))
 
-      pub drawing_as : (d : Plan) → AreDrawn own k.counts k.vertices ps d → IsDrawing l rows a d
+      pub drawing_as : (d : Plan) → AreDrawn own (counts_in k.lines) (vertices_of k.lines) ps d → IsDrawing l rows a d
       drawing_as d w =
           is_drawing d
-          (subst (λ (x : LineForm). AreDrawn x strokes.counts strokes.vertices placed_points d) (sym line_own)
-          (subst (λ (x : Kept). AreDrawn own x.counts x.vertices placed_points d) f
-          (subst (λ (xs : List Placed). AreDrawn own k.counts k.vertices xs d) points_own w)))
+          (subst (λ (x : LineForm). AreDrawn x counts vertices placed_points d) (sym line_own)
+          (subst (λ (x : Kept). AreDrawn own (counts_in x.lines) (vertices_of x.lines) placed_points d) f
+          (subst (λ (xs : List Placed). AreDrawn own (counts_in k.lines) (vertices_of k.lines) xs d) points_own w)))
 
   -- the area among all tables
   module _ (n : EachRow IsCounted (map wanted_of l.tables) rows) where
-    lines_kept : slice_get (all_kept l.codes l.tables rows) a.lines ≡ Some strokes
-    lines_kept = kept_there l.codes l.tables rows a.lines h.helper n h.lines
+    lines_kept_there : slice_get (all_kept l.codes l.tables rows) a.lines ≡ Some strokes
+    lines_kept_there = kept_there l.codes l.tables rows a.lines h.helper n h.lines
 
-    lines_placed : slice_get (all_places l rows) a.lines ≡ Some (places_of strokes)
-    lines_placed = slice_get-map places_of (all_kept l.codes l.tables rows) a.lines ∙ ap (option_map places_of) lines_kept
+    owner_kept : slice_get (all_kept l.codes l.tables rows) a.main ≡ Some owner
+    owner_kept = kept_there l.codes l.tables rows a.main area.owner n area.main
 
-    owner_placed : slice_get (all_places l rows) a.main ≡ Some (places_of owner)
-    owner_placed = slice_get-map places_of (all_kept l.codes l.tables rows) a.main ∙ ap (option_map places_of) (kept_there l.codes l.tables rows a.main area.owner n area.main)
-
-    all_vertices : length strokes.vertices ≡ limits.vertex_count line_rows
+    all_vertices : length vertices ≡ limits.vertex_count line_rows
     all_vertices =
         ap (λ (vs : List Seen). length vs) vertices_are
         ∙ counted_kept l.codes h.helper area.line area.lines line_rows (counted_at l.tables rows a.lines h.helper n h.lines) lines_right
 
     pub large : is_kept_large (all_kept l.codes l.tables rows) rows a ≡ is_too_large rows a
     large =
-        ap (λ (o : Option Kept). nat_lt area_limit (length (vertices_there o)) || nat_lt area_limit (length (slice_index_or rows a.main []))) lines_kept
+        ap (λ (o : Option Kept). nat_lt area_limit (length (vertices_there o)) || nat_lt area_limit (length (slice_index_or rows a.main []))) lines_kept_there
         ∙ ap (λ (m : ℕ). nat_lt area_limit m || nat_lt area_limit (length (slice_index_or rows a.main []))) all_vertices
 
     pub can_be_drawn : is_too_large rows a ≡ false → CanBeDrawn l (all_places l rows) a
     can_be_drawn e = record {
       forms = forms_of l a v h;
-      strokes = places_of strokes;
-      lines = lines_placed;
-      objects = places_of owner;
-      main = owner_placed;
+      strokes = strokes;
+      lines = lines_kept_there;
+      objects = owner;
+      main = owner_kept;
       drawable = area_drawable e;
     }
 
@@ -503,8 +492,8 @@ module _ (l : Layout) (rows : List (List Row)) (v : IsValid l) (c : IsClean l ro
         is_drawing d
         (record {
           window = subst (λ (f : LineForm). IsWindowOf f.window d.window) (same k.forms.line area.line (sym k.forms.lines ∙ (ap lines_in h.lines ∙ area.lines))) k.window;
-          curves = k.curves ∙ ap curves_there lines_placed;
-          placed = k.points ∙ ap (column_points a.column) owner_placed;
+          curves = k.curves ∙ ap curves_there lines_kept_there;
+          placed = k.points ∙ ap (column_points a.column) owner_kept;
         })
       where
         same : (f g : LineForm) → f ∷ [] ≡ g ∷ [] → f ≡ g

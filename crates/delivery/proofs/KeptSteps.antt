@@ -1,28 +1,34 @@
 -- What is kept of rows, one row more.
-use Rattle.std.proofs.Common.{◌≡◌, ℕ, zero, suc, ◌+◌, ◌<◌, ◌≤◌, Bool, true, false, cond, nat_eq, List, [], ◌∷◌, ◌++◌, length, map, take, get_or, set, Some, Result, Ok, Err, OnOk, refl, sym, ap, ◌∙◌, arith, append_assoc, append-nil}
-use Rattle.std.specs.Prelude.{slice_get, if◌then◌else◌}
+use Rattle.std.proofs.Common.{◌≡◌, ℕ, zero, suc, ◌+◌, ◌<◌, ◌≤◌, Bool, true, false, cond, nat_eq}
+use Rattle.std.proofs.Common.{List, [], ◌∷◌, ◌++◌, length, map, take, drop, get_or, set, Some, Result, Ok}
+use Rattle.std.proofs.Common.{Err, OnOk, refl, sym, ap, ◌∙◌, arith, append_assoc, append-nil}
+use Rattle.std.specs.Prelude.{slice_get, IfSome, if◌then◌else◌}
 use Rattle.std.specs.List.{flat_map}
 use Rattle.std.proofs.lemmas.Bool.{eqb-true}
 use Rattle.ili_grammar.specs.Syntax.{Codes}
-use Rattle.std.proofs.lemmas.List.{length-map}
-use Rattle.table_layout.specs.Layouts.{Column, Table, Layout}
+use Rattle.std.proofs.lemmas.List.{length-map, map_push, map_more}
+use Rattle.table_layout.specs.Layouts.{Table, Layout}
 use Rattle.table_layout.specs.Values.{table_view, tables_view}
 use Rattle.table_layout.specs.declared.layouts.Table.{Table as CodeTable}
-use Rattle.itf_reader.specs.RowReadings.{Cell, cells_view}
-use Rattle.itf_reader.specs.declared.rows.values.Cell.{Cell as CodeCell}
+use Rattle.itf_reader.specs.RowReadings.{Cell, Reads, cells_of, cells_view, lines_vertices}
+use Rattle.itf_reader.specs.RowReadings.{vertices_view}
+use Rattle.itf_reader.specs.declared.rows.values.RowValues.{RowValues}
 use Rattle.itf_reader.specs.ClosedRows.{of_table, by_table_from}
 use Rattle.itf_reader.specs.Findings.{Finding}
 use Rattle.itf_reader.specs.Forms.{Row}
 use Rattle.itf_reader.specs.Forms as forms
 use Rattle.itf_reader.specs.Layouts.{wanted_of}
-use Rattle.itf_reader.specs.RowFindings.{row_findings}
-use Rattle.itf_reader.specs.StrokeFindings.{Seen, is_of_area}
+use Rattle.itf_reader.specs.RowFindings.{is_counted, row_findings}
+use Rattle.itf_reader.specs.StrokeFindings.{Seen}
 use Rattle.itf_reader.specs.Views.{row_of, rows_of}
 use Rattle.itf_reader.specs.declared.transfer.Row.{Row as CodeRow}
-use Rattle.plane.specs.declared.kinds.Placed.{Placed}
-use Rattle.delivery.specs.declared.judging.kept.TableKept.{TableKept}
-use Rattle.delivery.specs.KeptRows.{row_vertices, row_cells, cell_points, row_points, is_area_point, PointColumn, Kept, point_column, point_columns, vertex_count, kept, no_rows, with_point, with_row, all_kept, with_row_at, transfer_so_far}
-use Rattle.delivery.specs.KeptViews.{kept_of, kept_in}
+use Rattle.area_drawings.specs.KeptRows.{Kept, kept, with_row}
+use Rattle.area_drawings.specs.KeptLines.{row_vertices}
+use Rattle.area_drawings.specs.KeptPoints.{row_cells}
+use Rattle.area_drawings.proofs.RowSteps as steps
+use Rattle.delivery.specs.KeptRows.{Found, rows_found, with_found, of_tables, tables_found, all_kept}
+use Rattle.delivery.specs.KeptRows.{changed_at, with_row_at, transfer_so_far}
+use Rattle.delivery.specs.KeptViews.{AreReadAs}
 
 -- ---- the rows of one table
 of_own : (n : ℕ) (rows : List (ℕ × Row)) (q : ℕ) (r : Row) → q ≡ n → of_table n (rows ++ (q, r) ∷ []) ≡ of_table n rows ++ r ∷ []
@@ -61,44 +67,35 @@ row_from (suc place) n (t ∷ ts) rows q r e =
 pub row_came : (l : Layout) (n : ℕ) (rows : List (ℕ × Row)) (r : Row) → transfer_so_far l (rows ++ (n, r) ∷ []) ≡ with_row_at n r (transfer_so_far l rows)
 row_came l n rows r = row_from n 0 (map wanted_of l.tables) rows n r (omega arith)
 
--- ---- what is kept of a table
-flat_more : {X Y : Type 0} (f : X → List Y) (xs : List X) (x : X) → flat_map f (xs ++ x ∷ []) ≡ flat_map f xs ++ f x
-flat_more f [] x = append-nil (f x)
-flat_more f (y ∷ xs) x = ap (λ l. f y ++ l) (flat_more f xs x) ∙ sym (append_assoc (f y) (flat_map f xs) (f x))
+-- ---- what was read of a row
+pub read_as : (codes : Codes) (t : Table) (r : Row) (values : RowValues) → Reads codes t r values
+    → AreReadAs codes t r values
+read_as codes t r values h = by (is_counted t r) refl
+  where
+    some_if : {X : Type 0} → Bool → List X → List X
+    some_if b xs = if b then xs else []
 
-map_more : {X Y : Type 0} (f : X → Y) (xs : List X) (x : X) → map f (xs ++ x ∷ []) ≡ map f xs ++ f x ∷ []
-map_more f [] x = refl
-map_more f (y ∷ xs) x = ap (λ l. f y ∷ l) (map_more f xs x)
+    by : (b : Bool) → is_counted t r ≡ b → AreReadAs codes t r values
+    by true e =
+        let a = h.0 e in
+        record {
+          cells =
+              a.cells
+              ∙ sym (ap (λ (b : Bool). some_if b (cells_of codes t.columns (drop 1 r.fields))) e);
+          vertices =
+              a.vertices ∙ sym (ap (λ (b : Bool). some_if b (lines_vertices t.lines r.strokes)) e);
+        }
+    by false e =
+        let a = h.1 e in
+        record {
+          cells =
+              a.cells
+              ∙ sym (ap (λ (b : Bool). some_if b (cells_of codes t.columns (drop 1 r.fields))) e);
+          vertices =
+              a.vertices ∙ sym (ap (λ (b : Bool). some_if b (lines_vertices t.lines r.strokes)) e);
+        }
 
--- where there is something to keep, one more of it
-kept_if : {X : Type 0} (b : Bool) (new old more : List X) → new ≡ old ++ more → (if b then new else []) ≡ (if b then ((if b then old else []) ++ more) else (if b then old else []))
-kept_if true new old more e = e
-kept_if false new old more e = refl
-
-abbrev column_of : ℕ → Bool → List Placed → PointColumn
-column_of n b ps = record { number = n; is_area = b; points = ps }
-
-columns_more : (codes : Codes) (t : Table) (rows : List Row) (r : Row) (n : ℕ) (cs : List Column) → point_columns codes t (rows ++ r ∷ []) n cs ≡ map (with_point r.line (row_cells codes t r)) (point_columns codes t rows n cs)
-columns_more codes t rows r n [] = refl
-columns_more codes t rows r n (c ∷ cs) =
-    ap (λ (ps : List Placed). column_of n (is_area_point c.form) ps ∷ point_columns codes t (rows ++ r ∷ []) (n + 1) cs)
-    (kept_if (is_area_point c.form) (flat_map (row_points codes t n) (rows ++ r ∷ [])) (flat_map (row_points codes t n) rows) (row_points codes t n r) (flat_more (row_points codes t n) rows r))
-    ∙ ap (λ (l : List PointColumn). with_point r.line (row_cells codes t r) (point_column codes t rows n c) ∷ l) (columns_more codes t rows r (n + 1) cs)
-
-abbrev made : Table → Bool → List Finding → List Seen → List ℕ → List PointColumn → Kept
-made t b fs vs ns cs = record { table = t; found = fs; is_lines = b; vertices = vs; counts = ns; columns = cs }
-
-pub kept_more : (codes : Codes) (t : Table) (rows : List Row) (r : Row) → kept codes t (rows ++ r ∷ []) ≡ with_row codes r (kept codes t rows)
-kept_more codes t rows r =
-    let b = is_of_area t.role in
-    let k = kept codes t rows in
-    let n = kept codes t (rows ++ r ∷ []) in
-    let w = with_row codes r k in
-    ap (λ (l : List Finding). made t b l n.vertices n.counts n.columns) (flat_more (row_findings codes t) rows r)
-    ∙ ap (λ (l : List Seen). made t b w.found l n.counts n.columns) (kept_if b (flat_map (row_vertices t) (rows ++ r ∷ [])) (flat_map (row_vertices t) rows) (row_vertices t r) (flat_more (row_vertices t) rows r))
-    ∙ ap (λ (l : List ℕ). made t b w.found w.vertices l n.columns) (kept_if b (map (vertex_count t) (rows ++ r ∷ [])) (map (vertex_count t) rows) (vertex_count t r ∷ []) (map_more (vertex_count t) rows r))
-    ∙ ap (λ (l : List PointColumn). made t b w.found w.vertices w.counts l) (columns_more codes t rows r 0 t.columns)
-
+-- ---- what is kept of the rows of a slice, one row more
 -- the rows of a slice, one row more
 rows_front : (rows : List CodeRow) (i : ℕ) (r : CodeRow) → i < length rows → r ≡ get_or rows i r → rows_of (take (suc i) rows) ≡ rows_of (take i rows) ++ row_of r ∷ []
 rows_front [] i r lt e = absurd (omega (arith, lt))
@@ -108,37 +105,93 @@ rows_front (q ∷ rows) (suc i) r lt e = ap (λ (rs : List Row). row_of q ∷ rs
 rows_next : (rows : List CodeRow) (i : ℕ) (r : CodeRow) → i < length rows → r ≡ get_or rows i r → rows_of (take (i + 1) rows) ≡ rows_of (take i rows) ++ row_of r ∷ []
 rows_next rows i r lt e = ap (λ (m : ℕ). rows_of (take m rows)) (let s : i + 1 ≡ suc i = omega arith in s) ∙ rows_front rows i r lt e
 
-pub kept_next : (codes : Codes) (t : Table) (rows : List CodeRow) (i : ℕ) (r : CodeRow) (old new : Kept) → i < length rows → r ≡ get_or rows i r → old ≡ kept codes t (rows_of (take i rows)) → new ≡ with_row codes (row_of r) old
+pub kept_next : (codes : Codes) (t : Table) (rows : List CodeRow) (i : ℕ) (r : CodeRow)
+    (values : RowValues) (old new : Kept) → i < length rows → r ≡ get_or rows i r
+    → old ≡ kept codes t (rows_of (take i rows)) → AreReadAs codes t (row_of r) values
+    → new ≡ with_row r.line (cells_view values.cells.items) (vertices_view values.vertices.items) old
     → new ≡ kept codes t (rows_of (take (i + 1) rows))
-kept_next codes t rows i r old new lt e o n =
+kept_next codes t rows i r values old new lt e o v n =
     n
-    ∙ ap (with_row codes (row_of r)) o
-    ∙ sym (kept_more codes t (rows_of (take i rows)) (row_of r))
+    ∙ ap (λ (cs : List Cell). with_row r.line cs (vertices_view values.vertices.items) old) v.cells
+    ∙ ap (λ (vs : List Seen). with_row r.line (row_cells codes t (row_of r)) vs old) v.vertices
+    ∙ ap (with_row r.line (row_cells codes t (row_of r)) (row_vertices t (row_of r))) o
+    ∙ sym (steps.kept_more codes t (rows_of (take i rows)) (row_of r))
     ∙ ap (kept codes t) (sym (rows_next rows i r lt e))
 
 -- ---- what is kept of all tables
-abbrev pub kept_at : ℕ → (Kept → Kept) → List Kept → List Kept
-kept_at place g [] = []
-kept_at zero g (k ∷ ks) = g k ∷ ks
-kept_at (suc place) g (k ∷ ks) = k ∷ kept_at place g ks
+-- nothing, where no row came
+pub none_kept : {K : Type 0} (f : Table → List Row → K) (n : ℕ) (ts : List Table)
+    → map (λ t. f t []) ts ≡ of_tables f ts (by_table_from n (map wanted_of ts) [])
+none_kept f n [] = refl
+none_kept f n (t ∷ ts) = ap (λ ks. f t [] ∷ ks) (none_kept f (n + 1) ts)
 
-pub all_more : (codes : Codes) (ts : List Table) (transfer : List (List Row)) (n : ℕ) (r : Row)
-    → all_kept codes ts (with_row_at n r transfer) ≡ kept_at n (with_row codes r) (all_kept codes ts transfer)
-all_more codes [] transfer n r = refl
-all_more codes (u ∷ ts) [] n r = refl
-all_more codes (u ∷ ts) (rows ∷ transfer) zero r = ap (λ (k : Kept). k ∷ all_kept codes ts transfer) (kept_more codes u rows r)
-all_more codes (u ∷ ts) (rows ∷ transfer) (suc n) r = ap (λ (ks : List Kept). kept codes u rows ∷ ks) (all_more codes ts transfer n r)
+-- the findings of one row more
+flat_more : {X Y : Type 0} (f : X → List Y) (xs : List X) (x : X)
+    → flat_map f (xs ++ x ∷ []) ≡ flat_map f xs ++ f x
+flat_more f [] x = append-nil (f x)
+flat_more f (y ∷ xs) x =
+    ap (λ l. f y ++ l) (flat_more f xs x) ∙ sym (append_assoc (f y) (flat_map f xs) (f x))
 
-pub none_kept : (codes : Codes) (n : ℕ) (ts : List Table) → map (no_rows codes) ts ≡ all_kept codes ts (by_table_from n (map wanted_of ts) [])
-none_kept codes n [] = refl
-none_kept codes n (t ∷ ts) = ap (λ (ks : List Kept). kept codes t [] ∷ ks) (none_kept codes (n + 1) ts)
+abbrev found_made : Table → List Finding → Found
+found_made t fs = record { table = t; found = fs }
 
--- and where less is kept than there are tables
-pub all_short : (codes : Codes) (ts : List Table) (transfer : List (List Row)) (n : ℕ) (r : Row) → length (all_kept codes ts transfer) ≤ n → all_kept codes ts (with_row_at n r transfer) ≡ all_kept codes ts transfer
-all_short codes [] transfer n r le = refl
-all_short codes (u ∷ ts) [] n r le = refl
-all_short codes (u ∷ ts) (rows ∷ transfer) zero r le = absurd (omega (arith, le))
-all_short codes (u ∷ ts) (rows ∷ transfer) (suc n) r le = ap (λ (ks : List Kept). kept codes u rows ∷ ks) (all_short codes ts transfer n r (omega (arith, le)))
+pub found_more : (codes : Codes) (ts : List Table) (transfer : List (List Row)) (n : ℕ) (r : Row)
+    → changed_at n (with_found codes r) (tables_found codes ts transfer)
+    ≡ tables_found codes ts (with_row_at n r transfer)
+found_more codes [] transfer n r = refl
+found_more codes (u ∷ ts) [] n r = refl
+found_more codes (u ∷ ts) (rows ∷ transfer) zero r =
+    ap (λ (fs : List Finding). found_made u fs ∷ tables_found codes ts transfer)
+    (sym (flat_more (row_findings codes u) rows r))
+found_more codes (u ∷ ts) (rows ∷ transfer) (suc n) r =
+    ap (λ (fs : List Found). rows_found codes u rows ∷ fs) (found_more codes ts transfer n r)
+
+-- what areas are drawn from, by what was read of one row more
+pub kept_more : (codes : Codes) (ts : List Table) (transfer : List (List Row)) (n : ℕ) (r : Row)
+    (values : RowValues)
+    → IfSome (slice_get (tables_found codes ts transfer) n) (λ f. AreReadAs codes f.table r values)
+    → changed_at n (with_row r.line (cells_view values.cells.items)
+    (vertices_view values.vertices.items)) (all_kept codes ts transfer)
+    ≡ all_kept codes ts (with_row_at n r transfer)
+kept_more codes [] transfer n r values h = refl
+kept_more codes (u ∷ ts) [] n r values h = refl
+kept_more codes (u ∷ ts) (rows ∷ transfer) zero r values h =
+    ap (λ (k : Kept). k ∷ all_kept codes ts transfer)
+    (ap (λ (cs : List Cell).
+    with_row r.line cs (vertices_view values.vertices.items) (kept codes u rows)) h.cells
+    ∙ ap (λ (vs : List Seen). with_row r.line (row_cells codes u r) vs (kept codes u rows))
+    h.vertices
+    ∙ sym (steps.kept_more codes u rows r))
+kept_more codes (u ∷ ts) (rows ∷ transfer) (suc n) r values h =
+    ap (λ (ks : List Kept). kept codes u rows ∷ ks) (kept_more codes ts transfer n r values h)
+
+-- ---- one value of a list
+pub changed_set : {X K : Type 0} (view : X → K) (g : K → K) (xs : List X) (place : ℕ) (d new : X)
+    → place < length xs → view new ≡ g (view (get_or xs place d))
+    → map view (set xs place new) ≡ changed_at place g (map view xs)
+changed_set view g [] place d new lt n = absurd (omega (arith, lt))
+changed_set view g (y ∷ xs) zero d new lt n = ap (λ k. k ∷ map view xs) n
+changed_set view g (y ∷ xs) (suc place) d new lt n =
+    ap (λ ks. view y ∷ ks) (changed_set view g xs place d new (omega (arith, lt)) n)
+
+pub changed_beyond : {X K : Type 0} (view : X → K) (g : K → K) (xs : List X) (place : ℕ)
+    → length xs ≤ place → map view xs ≡ changed_at place g (map view xs)
+changed_beyond view g [] place le = refl
+changed_beyond view g (y ∷ xs) zero le = absurd (omega (arith, le))
+changed_beyond view g (y ∷ xs) (suc place) le =
+    ap (λ ks. view y ∷ ks) (changed_beyond view g xs place (omega (arith, le)))
+
+pub some_beyond : {X K : Type 0} (view : X → K) (P : K → Type 0) (xs : List X) (place : ℕ)
+    → length xs ≤ place → IfSome (slice_get (map view xs) place) P
+some_beyond view P [] place le = tt
+some_beyond view P (y ∷ xs) zero le = absurd (omega (arith, le))
+some_beyond view P (y ∷ xs) (suc place) le = some_beyond view P xs place (omega (arith, le))
+
+pub some_at : {X K : Type 0} (view : X → K) (P : K → Type 0) (xs : List X) (place : ℕ) (d : X)
+    → place < length xs → P (view (get_or xs place d)) → IfSome (slice_get (map view xs) place) P
+some_at view P [] place d lt h = absurd (omega (arith, lt))
+some_at view P (y ∷ xs) zero d lt h = h
+some_at view P (y ∷ xs) (suc place) d lt h = some_at view P xs place d (omega (arith, lt)) h
 
 -- ---- a table of the layout
 pub table_there : (ts : List CodeTable) (n : ℕ) (t : CodeTable) → n < length ts → t ≡ get_or ts n t → slice_get (tables_view ts) n ≡ Some (table_view t)
@@ -163,48 +216,15 @@ kept_of_table codes ts n u t lt e q k rs rows h r =
 pub tables_few : (ts : List CodeTable) (n : ℕ) → length ts ≤ n → length (tables_view ts) ≤ n
 tables_few ts n le = let e = length-map ts table_view in omega (arith, le, e)
 
-pub kept_few : (ks : List TableKept) (n : ℕ) → length ks ≤ n → length (kept_in ks) ≤ n
-kept_few ks n le = let e = length-map ks kept_of in omega (arith, le, e)
-
--- ---- what the code keeps
--- the column of a row without a point there
-pub no_point : (line : ℕ) (cells : List Cell) (c : PointColumn) → c.is_area ≡ true → [] ≡ cell_points line (slice_get cells c.number) → c ≡ with_point line cells c
-no_point line cells c a e = ap (λ (ps : List Placed). column_of c.number c.is_area ps) (by c.is_area a)
-  where
-    by : (b : Bool) → b ≡ true → c.points ≡ (if b then c.points ++ cell_points line (slice_get cells c.number) else c.points)
-    by true h = sym (append-nil c.points) ∙ ap (λ (ps : List Placed). c.points ++ ps) e
-    by false h = refl
-
--- the columns of a row of which nothing was read
-no_cell : (line : ℕ) (c : PointColumn) → with_point line [] c ≡ c
-no_cell line c = ap (λ (ps : List Placed). column_of c.number c.is_area ps) (by c.is_area)
-  where
-    by : (b : Bool) → (if b then c.points ++ [] else c.points) ≡ c.points
-    by true = append-nil c.points
-    by false = refl
-
-no_cells : (line : ℕ) (cs : List PointColumn) → cs ≡ map (with_point line []) cs
-no_cells line [] = refl
-no_cells line (c ∷ cs) =
-    ap (λ (d : PointColumn). d ∷ cs) (sym (no_cell line c))
-    ∙ ap (λ (ds : List PointColumn). with_point line [] c ∷ ds) (no_cells line cs)
-
-pub none_read : (line : ℕ) (cells : List CodeCell) (cs : List PointColumn) → length cells ≡ 0 → cs ≡ map (with_point line (cells_view cells)) cs
-none_read line [] cs e = no_cells line cs
-none_read line (c ∷ cells) cs e = absurd (omega (arith, e))
-
-pub kept_set : (g : Kept → Kept) (tables : List TableKept) (place : ℕ) (d new : TableKept) → place < length tables → kept_of new ≡ g (kept_of (get_or tables place d))
-    → kept_in (set tables place new) ≡ kept_at place g (kept_in tables)
-kept_set g [] place d new lt n = absurd (omega (arith, lt))
-kept_set g (y ∷ tables) zero d new lt n = ap (λ (k : Kept). k ∷ kept_in tables) n
-kept_set g (y ∷ tables) (suc place) d new lt n = ap (λ (ks : List Kept). kept_of y ∷ ks) (kept_set g tables place d new (omega (arith, lt)) n)
-
-pub kept_beyond : (g : Kept → Kept) (tables : List TableKept) (place : ℕ) → length tables ≤ place → kept_in tables ≡ kept_at place g (kept_in tables)
-kept_beyond g [] place le = refl
-kept_beyond g (y ∷ tables) zero le = absurd (omega (arith, le))
-kept_beyond g (y ∷ tables) (suc place) le = ap (λ (ks : List Kept). kept_of y ∷ ks) (kept_beyond g tables place (omega (arith, le)))
-
 -- ---- what is said where a call succeeds
 pub on_ok : {A E P Q : Type 0} (r : Result A E) → (P → Q) → OnOk r P → OnOk r Q
 on_ok (Ok a) f p = f p
 on_ok (Err e) f p = tt
+
+-- ---- what is kept of no row, table by table
+pub one_table_more : {X Y Z W : Type 0} (g : X → Z) (v : Y → W) (f : W → Z) (old : List X) (x : X) (ts : List Y) (i : ℕ) (t : Y) → i < length ts → t ≡ get_or ts i t → g x ≡ f (v t) → map g old ≡ map f (map v (take i ts)) → map g (old ++ x ∷ []) ≡ map f (map v (take (i + 1) ts))
+one_table_more g v f old x ts i t lt at here front =
+    map_push g old x
+    ∙ ((λ k. front k ++ here k ∷ [])
+    ∙ (sym (map_push f (map v (take i ts)) (v t))
+    ∙ ap (map f) (ap (λ y. map v (take i ts) ++ v y ∷ []) at ∙ sym (map_more v ts i t lt))))

@@ -1,7 +1,8 @@
 -- How the text of a transfer is taken, one line and one piece more.
-use Rattle.std.proofs.Common.{◌≡◌, ◌≤◌, ◌<◌, ◌+◌, ◌-◌, ℕ, Bool, false, List, [], ◌∷◌, ◌++◌, length, take, drop, Option, Some, None, refl, ap, sym, ◌∙◌, subst, arith}
-use Rattle.std.specs.Prelude.{IfSome, IfNone}
-use Rattle.std.proofs.lemmas.List.{append_assoc, append-nil, drop-drop, take_rest, length-append, length-drop, length-take-le}
+use Rattle.std.proofs.Common.{◌≡◌, ◌≤◌, ◌<◌, ◌+◌, ◌-◌, ℕ, Bool, false, List, [], ◌∷◌, ◌++◌, length, take, drop, Option, Some, None, Result, Ok, Err, refl, ap, sym, ◌∙◌, subst, arith}
+use Rattle.std.specs.Borrow.{Bor}
+use Rattle.std.specs.Prelude.{IfSome, IfNone, OnOk, IsErrOf, ◌≢◌}
+use Rattle.std.proofs.lemmas.List.{append_assoc, append-nil, drop-drop, take_rest, length-drop}
 use Rattle.itf_lines.specs.LogicalLines.{LogicalLine, LogicalLines}
 use Rattle.itf_lines.specs.FeedStates.{FeedState}
 use Rattle.itf_lines.specs.Feeds.{lines_from_state, with_lines, Reads}
@@ -13,7 +14,16 @@ use Rattle.delivery.specs.declared.judging.lines.Judge.{Judge}
 use Rattle.delivery.specs.declared.judging.rows.RowJudge.{RowJudge}
 use Rattle.delivery.specs.declared.judging.rows.TransferKept.{TransferKept}
 use Rattle.delivery.specs.KeptViews.{HasTaken}
-use Rattle.delivery.specs.Pieces.{Takes}
+use Rattle.table_layout.specs.Values.{layout_view}
+use Rattle.table_layout.specs.declared.layouts.Layout.{Layout as CodeLayout}
+use Rattle.ports.specs.Files.{Files}
+use Rattle.commands.specs.Reading.{IsWhole, IsLonger}
+use Rattle.commands.specs.declared.files.FileRefusal.{FileRefusal}
+use Rattle.commands.specs.declared.files.FileRefusal.TheVariants.{Failed, TooLong, Memory}
+use Rattle.delivery.specs.Pieces.{Takes, HasJudged, CanJudge, HasText, IsOpened, IsTransfer}
+use Rattle.delivery.specs.declared.transfers.PieceJudge.{PieceJudge}
+use Rattle.delivery.specs.declared.transfers.TransferReading.{TransferReading}
+use Rattle.delivery.specs.declared.transfers.TransferReading.TheVariants as reading
 
 -- ---- lines
 with_lines_twice : (xs ys : List LogicalLine) (r : LogicalLines) → with_lines xs (with_lines ys r) ≡ with_lines (xs ++ ys) r
@@ -148,8 +158,38 @@ few_more was from to at piece o k h w f =
     omega (arith, b, l, w, f)
 
 -- the length of a front and the piece behind it
-pub front_length : (front got : List ℕ) (n from : ℕ) → length front ≡ from → n ≤ length got → length (front ++ take n got) ≡ from + n
-front_length front got n from e le =
-    let a = length-append front (take n got) in
-    let b = length-take-le n got le in
-    omega (arith, a, b, e)
+
+-- ---- a judge that takes a file as it comes
+pub nothing_judged : (j : PieceJudge) → HasJudged j [] j
+nothing_judged j = record { layout = refl; names = refl; takes = nothing_taken (layout_view j.layout.now) j.judge }
+
+pub judges_fewer : (j : PieceJudge) (n more : ℕ) → CanJudge j (n + more) → CanJudge j n
+judges_fewer j n more h = record { valid = h.valid; named = h.named; few = (let f = h.few in omega (arith, f)) }
+
+-- one piece more
+pub piece_judged : {A E : Type 0} (r : Result A E) (old new : PieceJudge) (piece : List ℕ) → new.layout ≡ old.layout → new.names ≡ old.names → OnOk r (Takes (layout_view old.layout.now) old.judge piece new.judge []) → OnOk r ((start : PieceJudge) (front : List ℕ) → HasJudged start front old → HasJudged start (front ++ piece) new)
+piece_judged (Ok x) old new piece e f t = λ start front h. record {
+  layout = e ∙ h.layout;
+  names = f ∙ h.names;
+  takes = takes_on (layout_view start.layout.now) start.judge old.judge new.judge front piece h.takes
+      (subst (λ (b : Bor CodeLayout). Takes (layout_view b.now) old.judge piece new.judge []) h.layout t);
+}
+piece_judged (Err x) old new piece e f t = t
+
+-- the text of a whole file is within its limit
+pub is_few : (held : Option Files) (name text : List ℕ) (limit : ℕ) → IsWhole held name limit text → length text ≤ limit
+is_few None name text limit h = h
+is_few (Some files) name text limit h = h.1
+
+-- and it was judged
+pub whole_text : (held : Option Files) (name text : List ℕ) (limit : ℕ) (l : Layout) (start judge : Judge) → limit ≡ 268435456 → IsWhole held name limit text → IsOpened l start → Takes l start text judge [] → IsWhole held name 268435456 text × HasText l text judge
+whole_text held name text limit l start judge e w o t =
+    let h = subst (λ (n : ℕ). IsWhole held name n text) e w in
+    (h, record { start = start; opened = o; takes = t; few = is_few held name text 268435456 h })
+
+-- a file that was not read
+pub unread_transfer : (T : Type 0) (held : Option Files) (name : List ℕ) (limit : ℕ) (l : Layout) (rose : Type 0) (r : FileRefusal) (x : TransferReading) → limit ≡ 268435456 → (IsErrOf {T = T} (Err r) Failed → rose) → (IsErrOf {T = T} (Err r) TooLong → IsLonger held name limit)
+    → (x ≡ reading.Unread r) × (r ≢ Memory) → IsTransfer held name l rose x
+unread_transfer T held name limit l rose Failed x e a b h = subst (λ (y : TransferReading). IsTransfer held name l rose y) (sym h.0) (a refl)
+unread_transfer T held name limit l rose TooLong x e a b h = subst (λ (y : TransferReading). IsTransfer held name l rose y) (sym h.0) (subst (λ (n : ℕ). IsLonger held name n) e (b refl))
+unread_transfer T held name limit l rose Memory x e a b h = absurd (h.1 refl)

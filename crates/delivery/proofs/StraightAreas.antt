@@ -8,22 +8,16 @@ use Rattle.table_layout.specs.Layouts.{Layout}
 use Rattle.delivery.specs.Causes.{HasStraightAreas, LeavesUndecided}
 use Rattle.delivery.specs.Answers.{HasCause, Passes}
 use Rattle.delivery.specs.AreaAnswers.{HaveStraightLines}
-use Rattle.commands.specs.Commands.{Command, compile, check, verify, trial}
+use Rattle.commands.specs.Commands.{Task, judges}
 use Rattle.delivery.specs.Judging.{lines_of}
 use Rattle.reports.specs.declared.status.Status.{Status}
 use Rattle.reports.specs.declared.status.Status.TheVariants.{Undecided}
 use Rattle.delivery.proofs.Agreement.{both_pass}
 use Rattle.delivery.proofs.AreaLemmas.{straights_decided}
 
-none_in : (c : Command) (l : Layout) (ts : List (List ℕ)) → HasStraightAreas c l ts → LeavesUndecided c l ts → ⊥
-none_in (compile m) l ts s h = h
-none_in (verify v) l ts s h = h
-none_in (check v) l [] s h = s
-none_in (check v) l (text ∷ []) s h = straights_decided l h.0 (subst (HaveStraightLines l) (one_transfer (form_of l) (lines_of l text).lines s.0 h.0 s.1.1 h.1.1) s.2) h.4
-none_in (check v) l (t ∷ u ∷ ts) s h = h
-none_in (trial n v) l [] s h = s
-none_in (trial n v) l (text ∷ []) s h = straights_decided l h.0 (subst (HaveStraightLines l) (one_transfer (form_of l) (lines_of l text).lines s.0 h.0 s.1.1 h.1.1) s.2) h.4
-none_in (trial n v) l (t ∷ u ∷ ts) s h = h
+none_in : (t : Task) (l : Layout) (ts : List (List ℕ)) → HasStraightAreas t l ts → LeavesUndecided t l ts → ⊥
+none_in (judges s target) l (text ∷ []) k h = straights_decided l h.0 (subst (HaveStraightLines l) (one_transfer (form_of l) (lines_of l text).lines k.0 h.0 k.1.1 h.1.1) k.2) h.4
+none_in t l ts k h = h
 
 pub none_left : (files : Files) (far near : List ℕ → Type 0) (words : List (List ℕ)) → Passes (Some files) far words HasStraightAreas → Passes (Some files) near words LeavesUndecided → ⊥
 none_left files far near words p q =

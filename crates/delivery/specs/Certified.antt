@@ -5,16 +5,16 @@ use Rattle.certificate.specs.Spelling.{Plain, AreSpelt, spelling}
 use Rattle.itf_reader.specs.Forms.{Row}
 use Rattle.table_layout.specs.Layouts.{Layout}
 use Rattle.delivery.specs.AreaCertificates.{AreCertificatesOf}
-use Rattle.delivery.specs.AreaLimits.{has_too_large}
-use Rattle.commands.specs.Commands.{Command, IsCommand, writes_to}
-use Rattle.delivery.specs.Drawings.{AreDrawings}
+use Rattle.area_drawings.specs.AreaLimits.{has_too_large}
+use Rattle.commands.specs.Commands.{Command, IsCommand, task_of, writes_to}
+use Rattle.area_drawings.specs.Drawings.{AreDrawings}
 use Rattle.plane.specs.Rule.Plans.{Plan}
 use Rattle.commands.specs.Gathering.{texts, Gathers}
 use Rattle.delivery.specs.Judging.{IsTextOf, IsClean}
 
--- The transfer has rows that meet the declarations, and no AREA is over its limit. These
--- certificates, one for each AREA by its names, prove their drawings, and are such as can be
--- written and read back.
+-- The transfer has rows that meet the declarations, no AREA is over its limit, and these
+-- certificates, one for each AREA by its names, prove their drawings and are such as can be written
+-- and read back.
 pub record AreCertified (l : Layout) (text : List ℕ) (cs : List Plain) : Type 0 where
   pub rows : List (List Row)
   pub drawings : List Plan
@@ -29,7 +29,7 @@ pub record AreCertified (l : Layout) (text : List ℕ) (cs : List Plain) : Type 
 -- and no other file has changed
 abbrev pub Certifies : Option Files → (List ℕ → Type 0) → List (List ℕ) → Option Files → Type 0
 Certifies held counted words new =
-    (c : Command) (name : List ℕ) → IsCommand words c → writes_to c ≡ Some name
+    (c : Command) (name : List ℕ) → IsCommand words c → writes_to (task_of c) ≡ Some name
     → (l : Layout) × (text : List ℕ) × (cs : List Plain)
     × Gathers held counted c (texts l (text ∷ [])) × AreCertified l text cs
     × Puts held name (λ file. spelling cs) new

@@ -1,7 +1,7 @@
 -- Which outcome the words and the files have.
 use Rattle.std.specs.Prelude.{◌≡◌, ℕ, List, Option}
 use Rattle.ports.specs.Files.{Files}
-use Rattle.commands.specs.Commands.{Command, IsCommand, IsUsage}
+use Rattle.commands.specs.Commands.{Command, IsCommand, IsUsage, task_of}
 use Rattle.commands.specs.Gathering.{Gathered, Gathers}
 use Rattle.delivery.specs.Causes.{HasOutcome}
 use Rattle.reports.specs.Outcomes.{Outcome, usage}
@@ -14,4 +14,4 @@ pub data Decides (held : Option Files) (counted : List ℕ → Type 0) (words : 
     (o : Outcome) : Type 0 where
   formless : IsUsage words → o ≡ usage → Decides held counted words o
   formed : (c : Command) (g : Gathered) → IsCommand words c → Gathers held counted c g
-      → HasOutcome c g o → Decides held counted words o
+      → HasOutcome (task_of c) g o → Decides held counted words o

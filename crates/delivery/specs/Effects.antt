@@ -1,9 +1,8 @@
--- What a call leaves: the file of the certificates, and the output.
+-- What a call leaves: the file that it writes, and the output.
 use Rattle.std.specs.Prelude.{◌≡◌, ◌≢◌, ℕ, List, take, Option, Some, None, ⊤, ◌⊎◌}
 use Rattle.std.specs.FinMap as map
 use Rattle.ports.specs.Files.{Files, Puts}
 use Rattle.ports.specs.Output.{Adds, AddsPrefix}
-use Rattle.certificate.specs.Spelling.{spelling}
 use Rattle.delivery.specs.Deciding.{Decides}
 use Rattle.reports.specs.Outcomes.{Filing, Outcome, report_of}
 use Rattle.reports.specs.declared.status.Status.{Status}
@@ -15,17 +14,17 @@ HoldsFront None name text new = ⊤
 HoldsFront (Some files) name text new =
     (new ≡ Some files) ⊎ ((n : ℕ) × (new ≡ Some (map.insert files name (take n text))))
 
--- Without certificates every file is as before; with them only their file has changed, and it holds
--- what it held or a front of their text.
+-- Where nothing is filed every file is as before; else only that file has changed, and it holds what
+-- it held or a front of the text.
 abbrev pub IsBegun : Option Filing → Option Files → Option Files → Type 0
 IsBegun None old new = new ≡ old
-IsBegun (Some f) old new = HoldsFront old f.name (spelling f.certificates) new
+IsBegun (Some f) old new = HoldsFront old f.name (f.text) new
 
--- Without certificates every file is as before; with them only their file has changed, and it holds
--- their text.
+-- Where nothing is filed every file is as before; else only that file has changed, and it holds the
+-- text.
 abbrev pub IsFiled : Option Filing → Option Files → Option Files → Type 0
 IsFiled None old new = new ≡ old
-IsFiled (Some f) old new = Puts old f.name (λ file. spelling f.certificates) new
+IsFiled (Some f) old new = Puts old f.name (λ file. f.text) new
 
 -- What a call does that does not run out of memory. `wrote`: a failed write of a file was counted.
 -- `served o`: the files to be read can be read, and there is room for what the outcome o writes.
@@ -43,8 +42,8 @@ pub record HasEffects (held : Option Files) (counted : List ℕ → Type 0) (wor
   pub begun : AddsPrefix before (report_of outcome) after
   -- the files, whatever the answer
   pub files : IsBegun outcome.filing held new
-  -- the certificates are whole unless a write failed, also where none of a file was counted or the
-  -- output gained a byte
+  -- the file is whole unless a write failed, also where none of a file was counted or the output
+  -- gained a byte
   pub filed : (status ≢ WriteFault) ⊎ ((wrote → ⊥) ⊎ (after ≢ before))
       → IsFiled outcome.filing held new
   -- no count moved where the files can be read and there is room for what this outcome writes

@@ -10,10 +10,11 @@ use Rattle.domain_rules.specs.ValueFindings.{value_findings}
 use Rattle.ident_refs.specs.KeyFindings.{key_findings}
 use Rattle.certificate.specs.Spelling.{Plain, AreSpelt}
 use Rattle.delivery.specs.AreaAnswers.{AreAnswers}
-use Rattle.delivery.specs.AreaLimits.{has_too_large}
-use Rattle.delivery.specs.Drawings.{AreDrawings}
+use Rattle.area_drawings.specs.AreaLimits.{has_too_large}
+use Rattle.area_drawings.specs.Drawings.{AreDrawings}
 use Rattle.plane.specs.Rule.Plans.{Plan}
-use Rattle.reports.specs.Outcomes.{Target, Outcome, area_too_large, misbuilt, rejected}
+use Rattle.commands.specs.Commands.{Target}
+use Rattle.reports.specs.Outcomes.{Outcome, area_too_large, misbuilt, rejected}
 use Rattle.reports.specs.Outcomes.{areas_outcome}
 use Rattle.reports.specs.declared.lines.AreaAnswer.{AreaAnswer}
 
@@ -43,6 +44,29 @@ IsTextOf l text rows = IsRead (form_of l) (lines_of l text) rows
 abbrev pub IsClean : Layout → List (List Row) → Type 0
 IsClean l rows = findings l rows ≡ []
 
+-- the transfer has rows that meet the declarations, and no area is over its limit; and the rows
+-- pass the test
+abbrev pub HasSoundRows : Layout → List ℕ → (List (List Row) → Type 0) → Type 0
+HasSoundRows l text test =
+    (rows : List (List Row)) × IsTextOf l text rows × IsClean l rows
+    × (has_too_large rows l.areas ≡ false) × test rows
+
+-- The outcome of the text of a transfer. `Areas rows o`: what is said of the areas of such rows has
+-- the outcome o.
+pub data IsJudgedBy (l : Layout) (text : List ℕ) (Areas : List (List Row) → Outcome → Type 0)
+    (o : Outcome) : Type 0 where
+  -- a line is at fault
+  at_fault : (n : ℕ) (code : Structure) → IsMisbuilt l text n code → o ≡ misbuilt n code
+      → IsJudgedBy l text Areas o
+  -- its rows break a rule
+  faulty : (rows : List (List Row)) → IsTextOf l text rows → findings l rows ≢ []
+      → o ≡ rejected (findings l rows) → IsJudgedBy l text Areas o
+  -- they meet the declarations, and an area is over its limit
+  oversized : (rows : List (List Row)) → IsTextOf l text rows → IsClean l rows
+      → has_too_large rows l.areas ≡ true → o ≡ area_too_large → IsJudgedBy l text Areas o
+  -- they meet the declarations, and no area is over its limit
+  sound : HasSoundRows l text (λ rows. Areas rows o) → IsJudgedBy l text Areas o
+
 -- the areas of rows are drawn, and the outcome has the answers to their drawings
 pub record AreJudged (target : Target) (l : Layout) (rows : List (List Row))
     (o : Outcome) : Type 0 where
@@ -54,21 +78,6 @@ pub record AreJudged (target : Target) (l : Layout) (rows : List (List Row))
   pub spelt : AreSpelt certificates
   pub is : o ≡ areas_outcome l (objects rows) target answers certificates
 
--- the outcome of rows, whose certificates go to that target
-pub data IsRowsChecked (target : Target) (l : Layout) (rows : List (List Row))
-    (o : Outcome) : Type 0 where
-  -- they break a rule
-  faulty : findings l rows ≢ [] → o ≡ rejected (findings l rows) → IsRowsChecked target l rows o
-  -- they meet the declarations, and an area is over its limit
-  oversized : IsClean l rows → has_too_large rows l.areas ≡ true → o ≡ area_too_large
-      → IsRowsChecked target l rows o
-  -- they meet the declarations, and no area is over its limit: the areas are judged
-  judged : IsClean l rows → has_too_large rows l.areas ≡ false → AreJudged target l rows o
-      → IsRowsChecked target l rows o
-
--- the outcome of a transfer's text: a line is at fault, or it has rows
-pub data IsChecked (target : Target) (l : Layout) (text : List ℕ) (o : Outcome) : Type 0 where
-  at_fault : (n : ℕ) (code : Structure) → IsMisbuilt l text n code → o ≡ misbuilt n code
-      → IsChecked target l text o
-  well_formed : (rows : List (List Row)) → IsTextOf l text rows → IsRowsChecked target l rows o
-      → IsChecked target l text o
+-- the outcome of a transfer's text, whose certificates go to that target
+abbrev pub IsChecked : Target → Layout → List ℕ → Outcome → Type 0
+IsChecked target l text o = IsJudgedBy l text (AreJudged target l) o

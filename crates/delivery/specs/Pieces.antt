@@ -1,5 +1,5 @@
 -- How the text of a transfer is taken in pieces.
-use Rattle.std.specs.Prelude.{◌≡◌, ◌≢◌, ◌≤◌, ⊤, ℕ, true, false, List, [], ◌++◌, length, Option}
+use Rattle.std.specs.Prelude.{◌≡◌, ◌≢◌, ◌≤◌, ◌<◌, ◌+◌, ⊤, ℕ, true, false, List, [], ◌++◌, length, Option}
 use Rattle.std.specs.Prelude.{Result, Ok, Err}
 use Rattle.itf_lines.specs.FeedStates.{opening}
 use Rattle.itf_lines.specs.Feeds.{Reads}
@@ -7,8 +7,11 @@ use Rattle.itf_lines.specs.LogicalLines.{LogicalLine}
 use Rattle.itf_reader.specs.Forms.{Row}
 use Rattle.itf_reader.specs.Layouts.{form_of}
 use Rattle.itf_reader.specs.Machine.{start}
+use Rattle.itf_reader.specs.Names.{form_in}
 use Rattle.itf_reader.specs.RowFeeds.{standing, after_lines, shown_rows}
 use Rattle.table_layout.specs.Layouts.{Layout}
+use Rattle.table_layout.specs.Valid.{IsValid}
+use Rattle.table_layout.specs.Values.{layout_view}
 use Rattle.itf_reader.specs.ClosedRows.{closed_rows}
 use Rattle.itf_reader.specs.Findings.{findings_of}
 use Rattle.itf_reader.specs.Refusals.{fault_of}
@@ -19,12 +22,18 @@ use Rattle.delivery.specs.declared.judging.closing.Judged.TheVariants as judged
 use Rattle.delivery.specs.declared.judging.lines.Judge.{Judge}
 use Rattle.delivery.specs.declared.judging.rows.TransferKept.{TransferKept}
 use Rattle.reports.specs.AreaKinds.{plans}
-use Rattle.delivery.specs.AreaLimits.{has_too_large}
-use Rattle.delivery.specs.Drawings.{AreDrawings}
+use Rattle.area_drawings.specs.AreaLimits.{has_too_large}
+use Rattle.area_drawings.specs.Drawings.{AreDrawings}
 use Rattle.delivery.specs.Judging.{lines_of, objects, findings, IsMisbuilt, IsTextOf, IsClean}
+use Rattle.delivery.specs.Judging.{IsJudgedBy}
+use Rattle.reports.specs.OutcomeViews.{outcome_of}
+use Rattle.commands.specs.Commands.{Source, from_file, made}
 use Rattle.delivery.specs.KeptRows.{transfer_so_far}
 use Rattle.commands.specs.Reading.{IsWhole, IsLonger}
 use Rattle.commands.specs.declared.files.FileRefusal.TheVariants as refusals_of
+use Rattle.delivery.specs.declared.rows.Sound.{Sound}
+use Rattle.delivery.specs.declared.rows.Sound.TheVariants as sounds
+use Rattle.delivery.specs.declared.transfers.PieceJudge.{PieceJudge}
 use Rattle.delivery.specs.declared.transfers.TransferReading.{TransferReading}
 use Rattle.delivery.specs.declared.transfers.TransferReading.TheVariants as reading
 use Rattle.ports.specs.Files.{Files}
@@ -82,13 +91,18 @@ IsJudged l text (judged.Clean count drawings) =
     × (has_too_large rows l.areas ≡ false) × (count ≡ objects rows)
     × AreDrawings l rows (plans drawings.items)
 
--- the text of a file came, whole
-pub record ArePieces (held : Option Files) (name : List ℕ) (l : Layout)
-    (old new : Judge) : Type 0 where
-  pub text : List ℕ
-  pub whole : IsWhole held name 268435456 text
-  pub takes : Takes l old text new []
-  pub few : length text ≤ 268435456
+-- ---- a judge that takes a file as it comes
+-- some bytes led it from one state to another, by one layout and its names
+pub record HasJudged (old : PieceJudge) (bytes : List ℕ) (new : PieceJudge) : Type 0 where
+  pub layout : new.layout ≡ old.layout
+  pub names : new.names ≡ old.names
+  pub takes : Takes (layout_view old.layout.now) old.judge bytes new.judge []
+
+-- it can take so many bytes more
+pub record CanJudge (judge : PieceJudge) (n : ℕ) : Type 0 where
+  pub valid : IsValid (layout_view judge.layout.now)
+  pub named : form_in judge.names.now ≡ form_of (layout_view judge.layout.now)
+  pub few : judge.judge.lines.ended + n < 4294967295
 
 -- what the file of a transfer is: it could not be read, where a fault was counted; it is too long;
 -- or its text comes to that
@@ -98,3 +112,15 @@ IsTransfer held name l rose (reading.Unread refusals_of.TooLong) = IsLonger held
 IsTransfer held name l rose (reading.Unread refusals_of.Memory) = ⊥
 IsTransfer held name l rose (reading.Judged j) =
     (text : List ℕ) × IsWhole held name 268435456 text × IsJudged l text j
+
+-- what a transfer is that is read from a file or made
+abbrev pub IsSourceJudged : Option Files → (List ℕ → Type 0) → Layout → Source → TransferReading
+    → Type 0
+IsSourceJudged held counted l (from_file f name) r = IsTransfer held name l (counted name) r
+IsSourceJudged held counted l (made text) (reading.Judged j) = IsJudged l text j
+IsSourceJudged held counted l (made text) (reading.Unread refusal) = ⊥
+
+-- what is drawn of a judged text, or its outcome, which its areas have no part in
+abbrev pub IsSound : Layout → List ℕ → Sound → Type 0
+IsSound l text (sounds.Drawn count drawings) = IsJudged l text (judged.Clean count drawings)
+IsSound l text (sounds.Ended o) = IsJudgedBy l text (λ rows p. ⊥) (outcome_of o)

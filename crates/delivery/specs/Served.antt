@@ -2,9 +2,8 @@
 use Rattle.std.specs.Prelude.{ℕ, ◌-◌, ◌^◌, ◌<◌, List, [], ◌∷◌, length, Option, Some, None, ⊤}
 use Rattle.ports.specs.Files.{Files}
 use Rattle.ports.specs.Rooms.{HasRoom}
-use Rattle.certificate.specs.Spelling.{spelling}
 use Rattle.commands.specs.Commands.{Command, IsCommand, Source, from_file, made, model_of}
-use Rattle.commands.specs.Commands.{further_files}
+use Rattle.commands.specs.Commands.{task_of, further_files}
 use Rattle.delivery.specs.Deciding.{Decides}
 use Rattle.reports.specs.Outcomes.{Filing, Outcome, report_of}
 
@@ -13,6 +12,7 @@ abbrev pub IsReadable : (List ℕ → Type 0) → Source → Type 0
 IsReadable readable (from_file f name) = readable name
 IsReadable readable (made text) = ⊤
 
+-- no read of the texts is to fail
 abbrev pub AreReadable : (List ℕ → Type 0) → List Source → Type 0
 AreReadable readable [] = ⊤
 AreReadable readable (s ∷ ss) = IsReadable readable s × AreReadable readable ss
@@ -20,31 +20,31 @@ AreReadable readable (s ∷ ss) = IsReadable readable s × AreReadable readable 
 -- the files of a command
 abbrev pub HasReadableFiles : (List ℕ → Type 0) → Command → Type 0
 HasReadableFiles readable c =
-    IsReadable readable (model_of c) × AreReadable readable (further_files c)
+    IsReadable readable (model_of c) × AreReadable readable (further_files (task_of c))
 
--- there is space for the certificates, where there are any, under their name
+-- there is space for the text that is filed, where there is one, under its name
 abbrev pub HasFilingSpace : (List ℕ → Option ℕ) → Option Filing → Type 0
 HasFilingSpace space None = ⊤
-HasFilingSpace space (Some f) = HasRoom (length (spelling f.certificates)) (space f.name)
+HasFilingSpace space (Some f) = HasRoom (length (f.text)) (space f.name)
 
 -- the files that the words name to be read can be read
 abbrev pub AreReadableFor : List (List ℕ) → (List ℕ → Type 0) → Type 0
 AreReadableFor words readable = (c : Command) → IsCommand words c → HasReadableFiles readable c
 
--- The files to be read can be read, and there is space for the certificates of this outcome and, in
--- the output, for its report.
+-- The files to be read can be read, and there is space for what this outcome files and, in the
+-- output, for its report.
 pub record IsServedFor (words : List (List ℕ)) (readable : List ℕ → Type 0)
     (space : List ℕ → Option ℕ) (output : Option ℕ) (o : Outcome) : Type 0 where
   pub files : AreReadableFor words readable
-  pub certificates : HasFilingSpace space o.filing
+  pub filing : HasFilingSpace space o.filing
   pub report : HasRoom (length (report_of o)) output
 
 -- The files to be read can be read, and for every outcome of the words and the files there is space
--- for its certificates and, in the output, for its report.
+-- for what it files and, in the output, for its report.
 pub record IsServed (held : Option Files) (words : List (List ℕ)) (readable : List ℕ → Type 0)
     (space : List ℕ → Option ℕ) (output : Option ℕ) : Type 0 where
   pub files : AreReadableFor words readable
-  pub certificates : (o : Outcome) → Decides held (λ name. ⊥) words o
+  pub filing : (o : Outcome) → Decides held (λ name. ⊥) words o
       → HasFilingSpace space o.filing
   pub report : (o : Outcome) → Decides held (λ name. ⊥) words o
       → HasRoom (length (report_of o)) output

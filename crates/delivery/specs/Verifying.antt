@@ -12,6 +12,7 @@ use Rattle.reports.specs.Verifications.{Verification, proved, not_proved}
 use Rattle.delivery.specs.AreaCertificates.{AreCertificatesOf, IsNamedFor, claims_of}
 
 -- ---- rule 0: the text spells a list of certificates
+-- the text spells these certificates
 pub record Spells (text : List ℕ) (cs : List Plain) : Type 0 where
   pub spelt : AreSpelt cs
   pub same : text ≡ spelling cs
@@ -30,6 +31,7 @@ pub record IsNamedAt (l : Layout) (cs : List Plain) (k : ℕ) : Type 0 where
   pub certificate_there : slice_get cs k ≡ Some certificate
   pub named : IsNamedFor l area certificate
 
+-- there is one certificate for each AREA, with its names
 pub record AreNamed (l : Layout) (cs : List Plain) : Type 0 where
   pub count : length cs ≡ length l.areas
   pub named : (k : ℕ) → k < length cs → IsNamedAt l cs k
@@ -42,6 +44,7 @@ pub record IsMisnamedAt (l : Layout) (cs : List Plain) (k : ℕ) : Type 0 where
   pub misnamed : IsNamedAt l cs k → ⊥
 
 -- ---- the other rules: each certificate proves the drawing of its area
+-- certificate k proves the drawing of area k
 pub record IsProvedAt (ds : List Plan) (cs : List Plain) (k : ℕ) : Type 0 where
   pub drawing : Plan
   pub certificate : Plain
@@ -60,6 +63,7 @@ pub record IsBrokenAt (ds : List Plan) (cs : List Plain) (k rule place : ℕ) : 
   pub broken : IsBroken drawing (claims_of certificate) rule place
 
 -- ---- all rules, in their order
+-- the levels of certificates
 abbrev pub levels_of : List Plain → List ℕ
 levels_of cs = map (λ c. c.level) cs
 

@@ -1,9 +1,9 @@
 // How a transfer is judged whose bytes come in pieces.
 mod closing;
-mod kept;
+mod found;
 mod lines;
 mod rows;
 
 pub use closing::Judged;
-pub use kept::{PointColumn, TableKept};
+pub use found::TableFound;
 pub use lines::Judge;

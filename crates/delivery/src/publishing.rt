@@ -11,10 +11,10 @@ ghost use Rattle.std.specs.Prelude.{Some};
 use certificate::write;
 use ports::{Failed, Shelf, Sink};
 use reports::Status;
-use reports::outcome::{Filing, Outcome};
+use reports::outcome::{Content, Filing, Outcome};
 
-// Writes certificates to their file.
-fn write_certificates<S: Shelf>(filing: &Filing<'_>, shelf: &mut S) -> Result<(), Failed>
+// Writes a text to its file.
+fn write_filing<S: Shelf>(filing: &Filing<'_>, shelf: &mut S) -> Result<(), Failed>
     ensures filed { OnOk result (IsFiled (Some (filing_of filing.now)) (S.held shelf.old)
         (S.held shelf.new)) }
     ensures begun { IsBegun (Some (filing_of filing.now)) (S.held shelf.old) (S.held shelf.new) }
@@ -27,10 +27,12 @@ fn write_certificates<S: Shelf>(filing: &Filing<'_>, shelf: &mut S) -> Result<()
         (S.read_faults shelf.new) (S.write_faults shelf.new)) }
 {
     shelf.start(filing.name)?;
-    write(&filing.certificates, shelf, filing.name)
+    match &filing.content {
+        Content::Certificates(certificates) => write(certificates, shelf, filing.name),
+    }
 }
 
-// Writes the certificates of an outcome, where it has any.
+// Writes the file of an outcome, where it has one.
 fn write_files<S: Shelf>(outcome: &Outcome<'_>, shelf: &mut S) -> Result<(), Failed>
     ensures filed { OnOk result (IsFiled (outcome_of outcome.now).filing (S.held shelf.old)
         (S.held shelf.new)) }
@@ -44,12 +46,12 @@ fn write_files<S: Shelf>(outcome: &Outcome<'_>, shelf: &mut S) -> Result<(), Fai
         (S.read_faults shelf.new) (S.write_faults shelf.new)) }
 {
     match &outcome.filing {
-        Some(filing) => write_certificates(filing, shelf),
+        Some(filing) => write_filing(filing, shelf),
         None => Ok(()),
     }
 }
 
-/// Writes what an outcome asks for: the certificates first, and then the report.
+/// Writes what an outcome asks for: its file first, and then the report.
 pub fn publish<S: Shelf, K: Sink>(
     outcome: &Outcome<'_>,
     text: &[u8],

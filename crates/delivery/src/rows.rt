@@ -2,26 +2,48 @@
 ghost use Rattle.std.specs.Prelude.{◌≡◌, ◌≤◌, ◌^◌, ℕ, List, length, IfOk};
 ghost use Rattle.std.specs.List.{All};
 ghost use Rattle.itf_reader.specs.Forms.{Row as GivenRow};
+ghost use Rattle.table_layout.specs.Layouts.{Layout as GivenLayout};
 ghost use Rattle.table_layout.specs.Valid.{IsValid};
 ghost use Rattle.table_layout.specs.Values.{layout_view};
 ghost use Rattle.reports.specs.AreaKinds.{plans};
-ghost use Rattle.delivery.specs.AreaLimits.{IsSmallPlan};
-ghost use Rattle.delivery.specs.Drawings.{AreDrawings};
+ghost use Rattle.area_drawings.specs.AreaLimits.{IsSmallPlan};
+ghost use Rattle.area_drawings.specs.Drawings.{AreDrawings};
 ghost use Rattle.delivery.specs.FiledTexts.{AreVerified, IsVerified};
 ghost use Rattle.delivery.specs.Judging.{AreJudged, IsChecked, objects};
-ghost use Rattle.reports.specs.OutcomeViews.{outcome_of, target_of};
-ghost use Rattle.delivery.specs.Pieces.{IsJudged};
+ghost use Rattle.commands.specs.CommandViews.{target_of};
+ghost use Rattle.reports.specs.OutcomeViews.{outcome_of};
+ghost use Rattle.delivery.specs.Pieces.{IsJudged, IsSound};
 
 use crate::area_answers::answers_of;
 use crate::judging::Judged;
 use crate::verifying::verify_areas;
+use commands::Target;
 use plane::Drawing;
 use ports::Memory;
-use reports::outcome::{
-    Outcome, Target, area_too_large, areas_outcome, misbuilt, rejected, verified,
-};
+use reports::outcome::{Outcome, area_too_large, areas_outcome, misbuilt, rejected, verified};
 use std::alloc::Global;
 use table_layout::Layout;
+
+// A transfer that was judged: what its areas are drawn from, or an outcome before that.
+#[derive(Drop)]
+enum Sound<'a> {
+    // No finding: the number of objects, and the drawings of all areas.
+    Drawn(u128, Vec<Drawing>),
+    Ended(Outcome<'a>),
+}
+
+// The outcome of a transfer that has no sound rows, or an area over its limit.
+fn sound_rows<'a>(alloc: Global, judged: Judged) -> Result<Sound<'a>, Memory>
+    ensures { (l : GivenLayout) (text : List ℕ) → IsJudged l text judged
+        → IfOk result (IsSound l text) }
+{
+    match judged {
+        Judged::Misbuilt(line, code) => Ok(Sound::Ended(misbuilt(alloc, line, code)?)),
+        Judged::Faulty(found) => Ok(Sound::Ended(rejected(alloc, found)?)),
+        Judged::Oversized => Ok(Sound::Ended(area_too_large(alloc)?)),
+        Judged::Clean(count, drawings) => Ok(Sound::Drawn(count, drawings)),
+    }
+}
 
 // The outcome of a number of objects without a finding and of the drawings of all areas.
 fn check_areas<'a>(
@@ -43,8 +65,7 @@ fn check_areas<'a>(
     areas_outcome(alloc, layout, count, target, answers)
 }
 
-/// The outcome of a check or a trial, by what its transfer was judged to be. The certificates go to
-/// the target.
+/// The outcome of a check or a trial, from the judged transfer. The certificates go to the target.
 pub fn checked<'a>(
     alloc: Global,
     target: &Target<'a>,
@@ -57,11 +78,9 @@ pub fn checked<'a>(
         → IfOk result (λ o. IsChecked (target_of target.now) (layout_view layout.now) text
         (outcome_of o)) }
 {
-    match judged {
-        Judged::Misbuilt(line, code) => misbuilt(alloc, line, code),
-        Judged::Faulty(found) => rejected(alloc, found),
-        Judged::Oversized => area_too_large(alloc),
-        Judged::Clean(count, drawings) => check_areas(alloc, target, layout, count, &drawings),
+    match sound_rows(alloc, judged)? {
+        Sound::Drawn(count, drawings) => check_areas(alloc, target, layout, count, &drawings),
+        Sound::Ended(outcome) => Ok(outcome),
     }
 }
 
@@ -77,13 +96,13 @@ fn verify_drawn<'a>(
     requires short { length filed.now ≤ 2 ^ 30 }
     ensures { (rows : List (List GivenRow)) → count ≡ objects rows
         → AreDrawings (layout_view layout.now) rows (plans drawings.now)
-        → IfOk result (λ o. AreVerified (layout_view layout.now) rows filed.now (outcome_of o)) }
+        → IfOk result (λ o. AreVerified (layout_view layout.now) filed.now rows (outcome_of o)) }
 {
     let verification = verify_areas(alloc, layout, drawings, filed)?;
     verified(alloc, layout, count, drawings, &verification)
 }
 
-/// The outcome of a verify, by what its transfer was judged to be and by the filed text.
+/// The outcome of a verify, from the judged transfer and the filed text.
 pub fn verified_by<'a>(
     alloc: Global,
     layout: &Layout,
@@ -95,10 +114,8 @@ pub fn verified_by<'a>(
     ensures { (text : List ℕ) → IsJudged (layout_view layout.now) text judged
         → IfOk result (λ o. IsVerified (layout_view layout.now) text filed.now (outcome_of o)) }
 {
-    match judged {
-        Judged::Misbuilt(line, code) => misbuilt(alloc, line, code),
-        Judged::Faulty(found) => rejected(alloc, found),
-        Judged::Oversized => area_too_large(alloc),
-        Judged::Clean(count, drawings) => verify_drawn(alloc, layout, count, &drawings, filed),
+    match sound_rows(alloc, judged)? {
+        Sound::Drawn(count, drawings) => verify_drawn(alloc, layout, count, &drawings, filed),
+        Sound::Ended(outcome) => Ok(outcome),
     }
 }

@@ -1,17 +1,15 @@
 // A transfer that is read and judged in pieces.
-ghost use Rattle.std.specs.Prelude.{◌≡◌, ◌≤◌, ◌<◌, ◌+◌, ◌++◌, ℕ, List, [], length, take};
-ghost use Rattle.std.specs.Prelude.{IfOk, IfErr, IsErrOf, OnOk};
-ghost use Rattle.ports.specs.Faults.{Rose, NoReadFell, CountsStay};
-ghost use Rattle.ports.specs.Rooms.{StaysReady};
+ghost use Rattle.std.specs.Prelude.{◌≡◌, ◌≢◌, ◌≤◌, length, IfOk};
+ghost use Rattle.ports.specs.Faults.{Rose};
+ghost use Rattle.ports.specs.Reading.{OnlyReads};
 ghost use Rattle.itf_reader.specs.Layouts.{form_of};
 ghost use Rattle.itf_reader.specs.Names.{form_in};
 ghost use Rattle.table_layout.specs.Valid.{IsValid};
 ghost use Rattle.table_layout.specs.Values.{layout_view};
-ghost use Rattle.delivery.specs.Pieces.{Takes, ArePieces, IsTransfer, IsJudged};
-ghost use Rattle.commands.specs.Reading.{IsWhole, IsLonger, IsFront};
+ghost use Rattle.delivery.specs.Pieces.{HasJudged, CanJudge, IsTransfer, IsJudged};
 
 use crate::judging::{Judge, Judged};
-use commands::{File, FileRefusal, PIECE, buffer, read_piece};
+use commands::{File, FileRefusal, Taker, read_pieces};
 use itf_reader::Names;
 use ports::{Memory, Shelf};
 use std::alloc::Global;
@@ -24,73 +22,33 @@ pub enum TransferReading {
     Judged(Judged),
 }
 
-// Takes a piece of the text.
-fn take_piece(
-    judge: &mut Judge,
-    layout: &Layout,
-    names: &Names,
-    piece: &[u8],
-) -> Result<(), FileRefusal>
-    requires valid { IsValid (layout_view layout.now) }
-    requires named { form_in names.now ≡ form_of (layout_view layout.now) }
-    requires few { judge.old.lines.ended + length piece.now < 4294967295 }
-    ensures takes { OnOk result (Takes (layout_view layout.now) judge.old piece.now
-        judge.new []) }
-    ensures few { OnOk result (judge.new.lines.ended ≤ judge.old.lines.ended + length piece.now) }
-    ensures memory { IfErr result (λ e. e ≡ FileRefusal.Memory) }
-{
-    match judge.take(layout, names, piece) {
-        Ok(()) => Ok(()),
-        Err(_) => Err(FileRefusal::Memory),
+// A judge that takes a file piece by piece, by the names of its layout.
+#[derive(Drop)]
+struct PieceJudge<'a, 'n> {
+    judge: Judge<'a>,
+    layout: &'a Layout,
+    names: &'a Names<'n>,
+}
+
+impl<'a, 'n> Taker for PieceJudge<'a, 'n> {
+    ghost took = { HasJudged };
+
+    ghost can_take = { CanJudge };
+
+    fn take(&mut self, piece: &[u8]) -> Result<(), Memory> {
+        self.judge.take(self.layout, self.names, piece)
     }
 }
 
-// Reads a file to its end, or until more bytes were read than the limit, piece by piece.
-fn read_pieces<S: Shelf>(
-    alloc: Global,
-    shelf: &mut S,
-    name: &str,
-    layout: &Layout,
-    names: &Names,
-    judge: &mut Judge,
-) -> Result<(), FileRefusal>
-    requires valid { IsValid (layout_view layout.now) }
-    requires named { form_in names.now ≡ form_of (layout_view layout.now) }
-    requires start { judge.old.lines.ended ≡ 0 }
-    ensures pieces { OnOk result (ArePieces (S.held shelf.old) name.now
-        (layout_view layout.now) judge.old judge.new) }
-    ensures long { IsErrOf result FileRefusal.TooLong
-        → IsLonger (S.held shelf.old) name.now 268435456 }
-    ensures held { S.held shelf.new ≡ S.held shelf.old }
-    ensures writes { S.write_faults shelf.old ≤ S.write_faults shelf.new }
-    ensures reads { NoReadFell (S.read_faults shelf.old) (S.read_faults shelf.new) }
-    ensures cause { IsErrOf result FileRefusal.Failed
-        → Rose (S.read_faults shelf.old name.now) (S.read_faults shelf.new name.now) }
-    ensures ready { StaysReady (S.readable shelf.old) (S.space shelf.old) (S.readable shelf.new)
-        (S.space shelf.new) }
-    ensures stay { S.readable shelf.old name.now
-        → CountsStay (S.read_faults shelf.old) (S.write_faults shelf.old)
-        (S.read_faults shelf.new) (S.write_faults shelf.new) }
+// What the file of a transfer is that was refused.
+fn unread(refusal: FileRefusal) -> Result<TransferReading, Memory>
+    ensures { IfOk result (λ r. (r ≡ TransferReading.Unread refusal)
+        × (refusal ≢ FileRefusal.Memory)) }
 {
-    let mut piece = match buffer(alloc, PIECE) {
-        Ok(piece) => piece,
-        Err(_) => return Err(FileRefusal::Memory),
-    };
-    let limit = File::Transfer.limit();
-    let mut from: u64 = 0;
-    // A shelf may give as little as one byte a call, and each call but the last gives one.
-    for _ in 0..limit + 1 {
-        let n = read_piece(shelf, name, from, &mut piece)?;
-        if n == 0 {
-            return Ok(());
-        }
-        from += n as u64;
-        if limit < from {
-            return Err(FileRefusal::TooLong);
-        }
-        take_piece(judge, layout, names, &piece[..n])?;
+    match refusal {
+        FileRefusal::Memory => Err(Memory),
+        FileRefusal::Failed | FileRefusal::TooLong => Ok(TransferReading::Unread(refusal)),
     }
-    Err(FileRefusal::TooLong)
 }
 
 // What the file of a transfer is, by the names of its layout.
@@ -105,20 +63,22 @@ fn judge_file<S: Shelf>(
     requires named { form_in names.now ≡ form_of (layout_view layout.now) }
     ensures transfer { IfOk result (IsTransfer (S.held shelf.old) name.now (layout_view layout.now)
         (Rose (S.read_faults shelf.old name.now) (S.read_faults shelf.new name.now))) }
-    ensures held { S.held shelf.new ≡ S.held shelf.old }
-    ensures writes { S.write_faults shelf.old ≤ S.write_faults shelf.new }
-    ensures reads { NoReadFell (S.read_faults shelf.old) (S.read_faults shelf.new) }
-    ensures ready { StaysReady (S.readable shelf.old) (S.space shelf.old) (S.readable shelf.new)
-        (S.space shelf.new) }
-    ensures stay { S.readable shelf.old name.now
-        → CountsStay (S.read_faults shelf.old) (S.write_faults shelf.old)
-        (S.read_faults shelf.new) (S.write_faults shelf.new) }
+    ensures reads { OnlyReads (S.readable shelf.old name.now)
+        (S.held shelf.old) (S.read_faults shelf.old)
+        (S.write_faults shelf.old) (S.readable shelf.old) (S.space shelf.old)
+        (S.held shelf.new) (S.read_faults shelf.new) (S.write_faults shelf.new)
+        (S.readable shelf.new) (S.space shelf.new) }
 {
-    let mut judge = Judge::new(alloc, layout)?;
-    match read_pieces(alloc, shelf, name, layout, names, &mut judge) {
+    let mut taker = PieceJudge {
+        judge: Judge::new(alloc, layout)?,
+        layout,
+        names,
+    };
+    let read = read_pieces(alloc, shelf, name, File::Transfer.limit(), &mut taker);
+    let judge = taker.judge;
+    match read {
         Ok(()) => Ok(TransferReading::Judged(judge.finish(alloc, layout, names)?)),
-        Err(FileRefusal::Memory) => Err(Memory),
-        Err(refusal) => Ok(TransferReading::Unread(refusal)),
+        Err(refusal) => unread(refusal),
     }
 }
 
@@ -138,14 +98,11 @@ pub fn read_transfer<S: Shelf>(
     requires valid { IsValid (layout_view layout.now) }
     ensures transfer { IfOk result (IsTransfer (S.held shelf.old) name.now (layout_view layout.now)
         (Rose (S.read_faults shelf.old name.now) (S.read_faults shelf.new name.now))) }
-    ensures held { S.held shelf.new ≡ S.held shelf.old }
-    ensures writes { S.write_faults shelf.old ≤ S.write_faults shelf.new }
-    ensures reads { NoReadFell (S.read_faults shelf.old) (S.read_faults shelf.new) }
-    ensures ready { StaysReady (S.readable shelf.old) (S.space shelf.old) (S.readable shelf.new)
-        (S.space shelf.new) }
-    ensures stay { S.readable shelf.old name.now
-        → CountsStay (S.read_faults shelf.old) (S.write_faults shelf.old)
-        (S.read_faults shelf.new) (S.write_faults shelf.new) }
+    ensures reads { OnlyReads (S.readable shelf.old name.now)
+        (S.held shelf.old) (S.read_faults shelf.old)
+        (S.write_faults shelf.old) (S.readable shelf.old) (S.space shelf.old)
+        (S.held shelf.new) (S.read_faults shelf.new) (S.write_faults shelf.new)
+        (S.readable shelf.new) (S.space shelf.new) }
 {
     let names = Names::new(alloc, layout)?;
     judge_file(alloc, shelf, name, layout, &names)

@@ -7,6 +7,7 @@ use Rattle.itf_reader.specs.Findings.{Finding, in_order}
 use Rattle.itf_reader.specs.Forms.{Row}
 use Rattle.itf_reader.specs.RowFindings.{row_findings}
 
+-- the findings of the rows of a table
 abbrev pub table_findings : Codes → Table → List Row → List Finding
 table_findings codes t rows = flat_map (row_findings codes t) rows
 

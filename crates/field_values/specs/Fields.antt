@@ -31,6 +31,7 @@ bounds_fault limits (Err NotNumber) = Some Number
 bounds_fault limits (Err TooLong) = Some Number
 bounds_fault limits (Err MoreDecimals) = Some Decimals
 
+-- what fails at the word of a number with these bounds
 abbrev pub number_fault : Limits → List ℕ → Option ValueFault
 number_fault limits word = bounds_fault limits (scaled_of word limits.scale)
 
@@ -50,6 +51,7 @@ numbers_fault (l ∷ ls) (w ∷ ws) = first_fault (number_fault l w) (numbers_fa
 abbrev pub is_text : ℕ → List ℕ → Bool
 is_text most word = nat_le (length word) most
 
+-- a number from the low to the high one
 abbrev pub is_within : ℕ → ℕ → ℕ → Bool
 is_within low high n = nat_le low n && nat_le n high
 
@@ -60,6 +62,7 @@ is_date word =
     && (all_ascii_digits word
     && (is_within 1 12 (number (take 2 (drop 4 word))) && is_within 1 31 (number (drop 6 word))))
 
+-- a zero at the front of two or more digits
 abbrev pub has_leading_zero : List ℕ → Bool
 has_leading_zero word = (slice_index_or word 0 0 == 48) && nat_lt 1 (length word)
 
@@ -122,5 +125,6 @@ count_fault (l ∷ ls) (field ∷ fields) = count_fault ls fields
 abbrev pub axes_fault : List Limits → List (List ℕ) → Option ValueFault
 axes_fault axes_ fields = first_fault (numbers_fault axes_ fields) (count_fault axes_ fields)
 
+-- what fails at the fields of a vertex of the line
 abbrev pub vertex_fault : LineForm → List (List ℕ) → Option ValueFault
 vertex_fault l fields = axes_fault (line_axes l) fields

@@ -22,6 +22,7 @@ place_named w [] = record { x = pos 0; y = pos 0 }
 abbrev pub is_same : ℤ → ℤ → Bool
 is_same a b = int_le a b && int_le b a
 
+-- the same place: both numbers are the same
 abbrev pub is_same_place : Place → Place → Bool
 is_same_place p q = is_same p.x q.x && is_same p.y q.y
 

@@ -19,6 +19,7 @@ abbrev pub value_or_zero : Result ℤ DecimalFault → ℤ
 value_or_zero (Ok v) = v
 value_or_zero (Err fault) = pos 0
 
+-- the number of a word in units of its bounds
 abbrev pub units : Limits → List ℕ → ℤ
 units limits word = value_or_zero (scaled_of word limits.scale)
 
@@ -38,6 +39,7 @@ pub data Value : Type 0 where
   Numbers : List ℤ → Value
   Bytes : List ℕ → Value
 
+-- the first of some words
 abbrev pub bytes_of : List (List ℕ) → List ℕ
 bytes_of [] = []
 bytes_of (word ∷ words) = word

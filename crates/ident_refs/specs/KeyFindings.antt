@@ -23,6 +23,7 @@ duplicate code column r (Some first) =
     record { line = r.line; column = column; code = code; other = Line first.line } ∷ []
 
 -- ---- identifications
+-- the first row with that identification
 abbrev pub first_named : Option (List ℕ) → List Row → Option Row
 first_named None rows = None
 first_named (Some word) rows = first_such (has_identification word) rows
@@ -60,7 +61,7 @@ abbrev pub referred_table : Form → Option ℕ
 referred_table (model.Reference k) = Some k
 referred_table f = None
 
--- a defined word of a reference names no row of its table
+-- a finding for each defined word of a reference that names no row of its table
 abbrev pub word_findings : Codes → ℕ → ℕ → List Row → List (List ℕ) → List Finding
 word_findings codes line number rows [] = []
 word_findings codes line number rows (word ∷ words) =
@@ -68,14 +69,14 @@ word_findings codes line number rows (word ∷ words) =
     then record { line = line; column = number; code = Reference; other = Word word } ∷ []
     else []
 
--- a column and its words, by the rows of all tables
+-- the findings of a column that may be a reference, and its words, by the rows of all tables
 abbrev pub reference_finding : Codes → List (List Row) → ℕ → ℕ → Option ℕ → List (List ℕ)
     → List Finding
 reference_finding codes transfer line number None words = []
 reference_finding codes transfer line number (Some k) words =
     word_findings codes line number (slice_index_or transfer k []) words
 
--- columns, the first of which has that number, and their words
+-- the findings of references in columns, the first of which has that number, and their words
 abbrev pub columns_references : Codes → List (List Row) → ℕ → ℕ → List Column → List (List ℕ)
     → List Finding
 columns_references codes transfer line number [] words = []
@@ -83,7 +84,7 @@ columns_references codes transfer line number (c ∷ cs) words =
     reference_finding codes transfer line number (referred_table c.form) (take (width c.form) words)
     ++ columns_references codes transfer line (number + 1) cs (drop (width c.form) words)
 
--- a row with too few or too many words refers to nothing
+-- the findings of the references of a row; one with too few or too many words refers to nothing
 abbrev pub row_references : Codes → List (List Row) → Table → Row → List Finding
 row_references codes transfer t r =
     if is_counted t r
@@ -91,6 +92,7 @@ row_references codes transfer t r =
     else []
 
 -- ---- tables
+-- the findings of a table's identifications, IDENT lists and references
 abbrev pub table_keys : Codes → List (List Row) → Table → List Row → List Finding
 table_keys codes transfer t rows =
     tid_findings [] rows

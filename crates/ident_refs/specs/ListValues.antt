@@ -36,12 +36,14 @@ abbrev pub form_value : Codes → Form → List (List ℕ) → Option Value
 form_value codes form words =
     if is_none (field_fault form codes words) then Some (key_value (value_of form words)) else None
 
+-- the values of columns, in order
 abbrev pub columns_values : Codes → List Column → List (List ℕ) → List (Option Value)
 columns_values codes [] words = []
 columns_values codes (c ∷ cs) words =
     form_value codes c.form (take (width c.form) words)
     ∷ columns_values codes cs (drop (width c.form) words)
 
+-- a vertex by its kind and its numbers
 abbrev pub key_vertex_of : LineForm → Vertex → KeyVertex
 key_vertex_of l v = record { kind = v.kind; numbers = numbers_on (line_axes l) v.fields }
 
@@ -53,6 +55,7 @@ line_value role l (v ∷ vs) =
     then Some (Vertices (map (key_vertex_of l) (v ∷ vs)))
     else None
 
+-- the values of lines, in order
 abbrev pub lines_values : Role → List LineForm → List (List Vertex) → List (Option Value)
 lines_values role [] strokes = []
 lines_values role (l ∷ ls) [] = []
@@ -70,6 +73,7 @@ and_value (Some v) (Some vs) = Some (v ∷ vs)
 and_value (Some v) None = None
 and_value None vs = None
 
+-- the values at these places, if there is one at each
 abbrev pub values_at : List (Option Value) → List ℕ → Option (List Value)
 values_at values [] = Some []
 values_at values (p ∷ ps) = and_value (slice_index_or values p None) (values_at values ps)
@@ -80,15 +84,18 @@ abbrev pub ident_values : Codes → Table → List ℕ → Row → Option (List 
 ident_values codes t list r = if is_counted t r then values_at (row_values codes t r) list else None
 
 -- ---- equal values
+-- the same kind of vertex
 abbrev pub is_same_kind : Kind → Kind → Bool
 is_same_kind Start Start = true
 is_same_kind Straight Straight = true
 is_same_kind OnArc OnArc = true
 is_same_kind k other = false
 
+-- the same vertex: its kind and its numbers are the same
 abbrev pub is_same_vertex : KeyVertex → KeyVertex → Bool
 is_same_vertex a b = is_same_kind a.kind b.kind && pointwise is_same a.numbers b.numbers
 
+-- the same value
 abbrev pub is_same_value : Value → Value → Bool
 is_same_value (Numbers a) (Numbers b) = pointwise is_same a b
 is_same_value (Bytes a) (Bytes b) = pointwise nat_eq a b

@@ -4,6 +4,7 @@ use Rattle.std.specs.List.{starts_with}
 use Rattle.ili_grammar.specs.declared.syntax.SyntaxCode as stored
 use Rattle.ili_grammar.specs.declared.syntax.SyntaxCode.TheVariants as variants
 
+-- the codes of faults of the grammar
 pub data Code : Type 0 where
   Expected EndName FixFormat Views LineForm Scaling Codes Deep : Code
 

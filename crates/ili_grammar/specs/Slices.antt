@@ -20,6 +20,7 @@ use Rattle.ili_grammar.specs.Tokens.{star, greater, period, two_periods, arrow, 
 use Rattle.ili_grammar.specs.Kinds.{same_kind}
 use Rattle.ili_grammar.specs.Numbers.{is_short}
 
+-- a keyword of the lexer as one of the grammar
 abbrev pub word_of : keyword.Keyword → Word
 word_of keywords.Transfer = TRANSFER
 word_of keywords.Domain = DOMAIN
@@ -68,6 +69,7 @@ word_of keywords.Any = ANY
 word_of keywords.View = VIEW
 word_of keywords.Derivatives = DERIVATIVES
 
+-- a mark of the lexer as a kind of the grammar
 abbrev pub mark_of : mark.Mark → Kind
 mark_of marks.Semicolon = semicolon
 mark_of marks.Colon = colon
@@ -83,6 +85,7 @@ mark_of marks.Period = period
 mark_of marks.TwoPeriods = two_periods
 mark_of marks.Arrow = arrow
 
+-- a kind of the lexer as one of the grammar
 abbrev pub kind_of : kind.Kind → Kind
 kind_of kinds.Name = name
 kind_of (kinds.Keyword k) = word (word_of k)
@@ -100,6 +103,7 @@ abbrev pub is_behind : Option Token → Token → Bool
 is_behind None t = false
 is_behind (Some p) t = same_kind number (kind_of p.kind) && (p.upto == t.from)
 
+-- what a token is besides its kind, by the text and the token before it
 abbrev pub info_of : List ℕ → Option Token → Token → Info
 info_of text p t =
     record {

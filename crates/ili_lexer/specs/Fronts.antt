@@ -17,6 +17,7 @@ use Rattle.ili_lexer.specs.declared.tokens.Mark.TheVariants.{TwoPeriods, Arrow}
 use Rattle.ili_lexer.specs.Bytes.{is_blank, is_name_byte, is_inside_line}
 use Rattle.ili_lexer.specs.Keywords.{keyword_of}
 
+-- the text begins with the word
 abbrev pub begins : List ℕ → List ℕ → Bool
 begins text word = starts_with nat_eq text word
 

@@ -17,7 +17,7 @@ pub record Stands (text : List ℕ) (k : Kind) (n : ℕ) : Type 0 where
   pub within : n ≤ length text
   pub token : IsToken k (take n text)
 
--- and no longer front of the text is a token of any kind
+-- a token of that length, and no longer front of the text is a token of any kind
 pub record IsLongest (text : List ℕ) (k : Kind) (n : ℕ) : Type 0 where
   pub stands : Stands text k n
   pub longest : (j : Kind) (m : ℕ) → Stands text j m → m ≤ n
@@ -26,6 +26,7 @@ pub record IsLongest (text : List ℕ) (k : Kind) (n : ℕ) : Type 0 where
 abbrev pub HasNone : List ℕ → Type 0
 HasNone text = (k : Kind) (n : ℕ) → Stands text k n → ⊥
 
+-- the text begins with a blank
 abbrev pub begins_blank : List ℕ → Bool
 begins_blank [] = false
 begins_blank (b ∷ bs) = is_blank b

@@ -9,6 +9,7 @@ use Rattle.ili_lexer.specs.declared.tokens.LexFault.TheVariants.{LongNumber, Mem
 use Rattle.ili_lexer.specs.Places.{line_after, column_after, StandsAt}
 use Rattle.ili_lexer.specs.Longest.{IsBetween, IsTaken, IsBad, IsOpen, IsTooLong}
 
+-- what a text is: its tokens, or its first fault
 pub data Answer : Type 0 where
   tokens : List Token → Answer
   fault : LexFault → Answer

@@ -52,7 +52,7 @@ head_line number line =
       fields = without_first (fields line);
     }
 
--- those lines, the first of which has that number
+-- the lines of the head, the first of which has that number
 abbrev pub head_lines : ℕ → List (List ℕ) → List LogicalLine
 head_lines number [] = []
 head_lines number (line ∷ lines) = head_line number line ∷ head_lines (number + 1) lines
@@ -73,6 +73,8 @@ goes_on code line = ends_in code (trim_end line)
 abbrev pub without_code : ℕ → List ℕ → List ℕ
 without_code code line = if goes_on code line then without_last (trim_end line) else line
 
+-- a physical line as part of a logical one: its number, its fields, and whether the next line goes
+-- on with it
 abbrev pub piece : ℕ → ℕ → List ℕ → Piece
 piece code number line =
     record {
@@ -144,6 +146,7 @@ line_of (p ∷ ps) = line_with p.number (fields_of (p ∷ ps))
 abbrev pub body_groups : ℕ → List (List ℕ) → List (List Piece)
 body_groups code lines = groups (pieces code (1 + length (head lines)) (body lines))
 
+-- the logical lines of these physical lines, up to the first fault
 abbrev pub logical_of : ℕ → List (List ℕ) → LogicalLines
 logical_of code lines = record {
   lines = head_lines 1 (head lines) ++ flat_map line_of (sound_groups (body_groups code lines));

@@ -1,3 +1,4 @@
+pub mod Among
 pub mod Arcs
 pub mod Back
 pub mod ByTable
@@ -17,6 +18,7 @@ pub mod Openings
 pub mod Placed
 pub mod Readings
 pub mod RowLaws
+pub mod RowLines
 pub mod Sorting
 pub mod Stands
 pub mod Thin

@@ -17,6 +17,7 @@ pub data Other : Type 0 where
   Line : ℕ → Other
   Word : List ℕ → Other
 
+-- a fault of values or keys: its line of the transfer, its column, its code, and what else it names
 pub record Finding : Type 0 where
   pub line : ℕ
   pub column : ℕ
@@ -41,12 +42,13 @@ rank Tid = 12
 rank Ident = 13
 rank Reference = 14
 
--- by the line, on one line by the column, in one column by the code
+-- the order of findings: by the line, on one line by the column, in one column by the code
 abbrev pub finding_cmp : Finding → Finding → Ordering
 finding_cmp =
     then_cmp (on (λ f. f.line) nat_cmp)
     (then_cmp (on (λ f. f.column) nat_cmp) (on (λ f. rank f.code) nat_cmp))
 
+-- f stands before g in the report
 abbrev pub is_before : Finding → Finding → Bool
 is_before f g = is_lt (finding_cmp f g)
 

@@ -19,11 +19,14 @@ pub record Form : Type 0 where
 pub data Kind : Type 0 where
   Start Straight OnArc : Kind
 
+-- a vertex of a line: its line of the transfer, how it is joined to the one before it, and its
+-- fields
 pub record Vertex : Type 0 where
   pub line : ℕ
   pub kind : Kind
   pub fields : List (List ℕ)
 
+-- the vertex with these parts
 abbrev pub vertex : Kind → ℕ → List (List ℕ) → Vertex
 vertex kind line fields = record { line = line; kind = kind; fields = fields }
 

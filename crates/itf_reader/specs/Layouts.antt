@@ -7,5 +7,6 @@ use Rattle.itf_reader.specs.Forms.{Table, Form}
 abbrev pub wanted_of : LayoutTable → Table
 wanted_of t = record { topic = t.topic; name = t.name; lines = length t.lines }
 
+-- what a reader of a transfer wants to know of a layout
 abbrev pub form_of : Layout → Form
 form_of l = record { model = l.model; topics = l.topics; tables = map wanted_of l.tables }

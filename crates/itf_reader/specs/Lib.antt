@@ -19,6 +19,7 @@ pub mod RowFeeds
 pub mod RowFindings
 pub mod RowForms
 pub mod RowKeys
+pub mod RowLines
 pub mod RowReadings
 pub mod StrokeFindings
 pub mod TableKeys

@@ -32,26 +32,28 @@ widths (c ∷ cs) = width c.form + widths cs
 abbrev pub is_counted : Table → Row → Bool
 is_counted t r = length r.fields == (1 + widths t.columns)
 
--- columns in a line of the transfer, the first of which has that number, and their words
+-- the findings of columns in a line of the transfer, the first of which has that number, and their
+-- words
 abbrev pub columns_findings : Codes → ℕ → ℕ → List Column → List (List ℕ) → List Finding
 columns_findings codes line number [] words = []
 columns_findings codes line number (c ∷ cs) words =
     finding_at line number (column_code codes c (take (width c.form) words))
     ++ columns_findings codes line (number + 1) cs (drop (width c.form) words)
 
--- a polyline of an object in that line of the transfer; an undefined one has no vertices
+-- the findings of a polyline of an object in that line of the transfer; an undefined one has no
+-- vertices
 abbrev pub line_findings : Role → ℕ → ℕ → LineForm → List Vertex → List Finding
 line_findings role line number l [] = finding_at line number (code_if (not l.optional) Undefined)
 line_findings role line number l (v ∷ vs) = stroke_findings role l number (v ∷ vs)
 
--- the lines of an object, the first of which has that number
+-- the findings of the lines of an object, the first of which has that number
 abbrev pub lines_findings : Role → ℕ → ℕ → List LineForm → List (List Vertex) → List Finding
 lines_findings role line number [] strokes = []
 lines_findings role line number (l ∷ ls) [] = []
 lines_findings role line number (l ∷ ls) (s ∷ ss) =
     line_findings role line number l s ++ lines_findings role line (number + 1) ls ss
 
--- a row with too few or too many words has no other finding
+-- the findings of a row; one with too few or too many words has no other finding
 abbrev pub row_findings : Codes → Table → Row → List Finding
 row_findings codes t r =
     if is_counted t r

@@ -23,6 +23,7 @@ finding_at line column None = []
 finding_at line column (Some code) =
     record { line = line; column = column; code = code; other = Nothing } ∷ []
 
+-- a code, where a test failed
 abbrev pub code_if : Bool → Code → Option Code
 code_if failed code = if failed then Some code else None
 
@@ -43,17 +44,20 @@ code_of faults.Enum = Enum
 code_of faults.Coord = Coord
 
 -- ---- single vertices
+-- the vertex is one on an arc, and not an end of it
 abbrev pub is_on_arc : Kind → Bool
 is_on_arc OnArc = true
 is_on_arc Start = false
 is_on_arc Straight = false
 
--- its fields break no rule, and it lies on no arc where the line may have none
+-- what is wrong with a vertex: its fields break a rule, or it lies on an arc where the line may
+-- have none
 abbrev pub vertex_code : LineForm → Vertex → Option Code
 vertex_code l v =
     first_code (option_map code_of (vertex_fault l v.fields))
     (code_if (is_on_arc v.kind && not l.arcs) Arcs)
 
+-- the finding of a vertex, where it has one
 abbrev pub vertex_finding : LineForm → ℕ → Vertex → List Finding
 vertex_finding l column v = finding_at v.line column (vertex_code l v)
 
@@ -67,6 +71,7 @@ pub record Seen : Type 0 where
 abbrev pub place_of : LineForm → Vertex → Place
 place_of l v = place_named l.window v.fields
 
+-- a vertex by its place, its line of the transfer and its kind
 abbrev pub seen : LineForm → Vertex → Seen
 seen l v = record { at = place_of l v; line = v.line; kind = v.kind }
 
@@ -83,6 +88,7 @@ is_bad_arc s m e = is_on_arc m.kind && is_no_arc s.at m.at e.at
 abbrev pub arc_finding : ℕ → Seen → Seen → Seen → List Finding
 arc_finding column s m e = finding_at e.line column (code_if (is_bad_arc s m e) Arc)
 
+-- the findings of the arcs of a line: one for each three vertices at most
 abbrev pub arc_findings : ℕ → List Seen → List Finding
 arc_findings column [] = []
 arc_findings column (s ∷ []) = []
@@ -112,7 +118,7 @@ abbrev pub is_short : Role → List Seen → Bool
 is_short role [] = false
 is_short role (v ∷ vs) = is_of_area role && is_one_place (v ∷ vs)
 
--- it is reported at the vertex that begins the line
+-- the finding of a line that is one place; it is reported at the vertex that begins the line
 abbrev pub short_finding : Role → ℕ → List Seen → List Finding
 short_finding role column [] = []
 short_finding role column (v ∷ vs) =
@@ -123,9 +129,11 @@ short_finding role column (v ∷ vs) =
 abbrev pub is_clean : LineForm → Vertex → Bool
 is_clean l v = is_none (vertex_code l v)
 
+-- no vertex of the line has a finding of its own
 abbrev pub are_clean : LineForm → List Vertex → Bool
 are_clean l vs = list_all (is_clean l) vs
 
+-- all vertices of a line, as they are read
 abbrev pub all_seen : LineForm → List Vertex → List Seen
 all_seen l vs = map (seen l) vs
 

@@ -1,6 +1,6 @@
 // Laws of the form of a transfer text.
 ghost use Rattle.std.specs.Prelude.{◌≡◌, List, ℕ, Ok, Err, ◌++◌, ◌∷◌, []};
-ghost use Rattle.itf_lines.specs.LogicalLines.{LogicalLine, LogicalLines};
+ghost use Rattle.itf_lines.specs.LogicalLines.{LogicalLine, LogicalLines, logical};
 ghost use Rattle.itf_reader.specs.Forms.{Form, Row, TopicRows};
 ghost use Rattle.itf_reader.specs.TransferText.{IsText, TransferText, Begins, IsFaultAt};
 ghost use Rattle.itf_reader.specs.Machine.{State, start, done, Code, Twice, run, step};
@@ -8,9 +8,12 @@ ghost use Rattle.itf_reader.specs.Codes.{HasCode};
 ghost use Rattle.itf_reader.specs.NamedBefore.{NamedBefore};
 ghost use Rattle.itf_reader.specs.ClosedRows.{by_table, closed_rows};
 ghost use Rattle.itf_reader.specs.RowForms.{EachRow, IsCounted, HasForm};
+ghost use Rattle.itf_reader.specs.RowLines.{LinesRise};
 ghost use Rattle.itf_reader.specs.Readings.{Structure, IsRead, IsRefused, HasAnswer};
 ghost use Rattle.itf_reader.specs.Reads.{read, refused, read_from, opening, end_of};
 ghost use Rattle.itf_reader.specs.RowFeeds.{standing, shown_rows};
+
+use itf_lines::numbers_rise;
 
 /// Some lines are the text of at most one transfer.
 pub fn one_transfer()
@@ -68,6 +71,15 @@ pub fn strokes_counted()
     ensures form { (form : Form) (lines : List LogicalLine) (transfer : List (List Row))
         → TransferText form lines transfer → EachRow HasForm form.tables transfer }
 {}
+
+/// In each table of a text the lines rise: the line of a row, then those of its vertices, then
+/// those of the next row.
+pub fn lines_rise()
+    ensures { (form : Form) (code : ℕ) (text : List ℕ) (transfer : List (List Row))
+        → IsRead form (logical code text) transfer → LinesRise transfer }
+{
+    numbers_rise();
+}
 
 /// The rows that the lines of a text close one after another, each with the number of its table,
 /// are all rows of its transfer, those of one table in their order. So a caller that takes each

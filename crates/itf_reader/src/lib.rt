@@ -15,8 +15,9 @@
 //!   line of that word may come there at all is asked of the form with further topics and tables,
 //!   so that a line TOPI is no wrong word where every topic was read.
 //! - **Rows.** Each row has as many strokes as its table has lines (`strokes_counted`), and the
-//!   rows that lines close one after another are those of the transfer (`rows_by_table`). A line
-//!   with the code `twice` names what an earlier line named (`named_before`).
+//!   rows that lines close one after another are those of the transfer (`rows_by_table`). In each
+//!   table the lines of rows and of their vertices rise (`lines_rise`). A line with the code
+//!   `twice` names what an earlier line named (`named_before`).
 //! - **Reading.** `read_transfer` takes the lines of a text one after another, by the names of a
 //!   layout, and keeps what is open between two of them. It gives the rows of each table in the
 //!   order of the layout, none for a table that is not in the text, each row with as many strokes
@@ -64,8 +65,8 @@ mod vertices;
 
 pub use findings::{Code, Fault, Finding};
 pub use laws::{
-    from_the_opening, machine_begins, machine_reads, machine_stops, named_before, one_answer,
-    one_transfer, rows_by_table, strokes_counted,
+    from_the_opening, lines_rise, machine_begins, machine_reads, machine_stops, named_before,
+    one_answer, one_transfer, rows_by_table, strokes_counted,
 };
 pub use machine::Names;
 pub use order::sort_findings;

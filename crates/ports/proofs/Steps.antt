@@ -1,8 +1,6 @@
 -- One call after another: counts, and what is left of a room.
 use Rattle.std.proofs.Common.{◌≡◌, ℕ, ◌+◌, ◌≤◌, List, Option, Some, None, refl, ◌∙◌, subst, arith}
 use Rattle.ports.specs.Faults.{CountsStay}
-use Rattle.ports.specs.Files.{Files}
-use Rattle.ports.specs.Reading.{OnlyReads}
 use Rattle.ports.specs.Rooms.{HasRoom, FellBy, StaysReady}
 
 pub stay_none : (reads : List ℕ → ℕ) (writes : ℕ) → CountsStay reads writes reads writes
@@ -29,35 +27,6 @@ pub ready_then : (readable : List ℕ → Type 0) (space : List ℕ → Option �
 ready_then readable space readable_mid space_mid readable_now space_now h k = record {
   readable = λ q r. k.readable q (h.readable q r);
   space = λ q. no_less_then (space q) (space_mid q) (space_now q) (h.space q) (k.space q);
-}
-
-pub reads_none : (surely : Type 0) (held : Option Files) (reads : List ℕ → ℕ) (writes : ℕ)
-    (readable : List ℕ → Type 0) (space : List ℕ → Option ℕ)
-    → OnlyReads surely held reads writes readable space held reads writes readable space
-reads_none surely held reads writes readable space = record {
-  held = refl;
-  reads = λ q. omega arith;
-  writes = omega arith;
-  ready = ready_none readable space;
-  stay = λ h. stay_none reads writes;
-}
-
--- one call after another, where what the whole reads can be read, then what each of the two reads
-pub reads_then : (surely first second : Type 0) (held : Option Files) (reads : List ℕ → ℕ)
-    (writes : ℕ) (readable : List ℕ → Type 0) (space : List ℕ → Option ℕ) (held_mid : Option Files)
-    (reads_mid : List ℕ → ℕ) (writes_mid : ℕ) (readable_mid : List ℕ → Type 0)
-    (space_mid : List ℕ → Option ℕ) (held_now : Option Files) (reads_now : List ℕ → ℕ)
-    (writes_now : ℕ) (readable_now : List ℕ → Type 0) (space_now : List ℕ → Option ℕ)
-    → (surely → first) → (surely → second)
-    → OnlyReads first held reads writes readable space held_mid reads_mid writes_mid readable_mid space_mid
-    → OnlyReads second held_mid reads_mid writes_mid readable_mid space_mid held_now reads_now writes_now readable_now space_now
-    → OnlyReads surely held reads writes readable space held_now reads_now writes_now readable_now space_now
-reads_then surely first second held reads writes readable space held_mid reads_mid writes_mid readable_mid space_mid held_now reads_now writes_now readable_now space_now f s h k = record {
-  held = k.held ∙ h.held;
-  reads = λ q. omega (arith, h.reads q, k.reads q);
-  writes = omega (arith, h.writes, k.writes);
-  ready = ready_then readable space readable_mid space_mid readable_now space_now h.ready k.ready;
-  stay = λ r. stay_then reads writes reads_mid writes_mid reads_now writes_now (h.stay (f r)) (k.stay (s r));
 }
 
 pub same_room : (m n : ℕ) (room : Option ℕ) → m ≡ n → HasRoom m room → HasRoom n room

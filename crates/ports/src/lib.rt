@@ -16,7 +16,8 @@
 //! - **When none fails.** A shelf says of which files a read is not to fail (`readable`), and how
 //!   much can be written under a name without a fault (`space`); a sink has a `space`, too.
 //! - **In memory** (`MemoryShelf`, `MemorySink`) all bytes are known, chosen calls fail, and the
-//!   contracts say exactly when a call fails and how much room there is without a refusal.
+//!   contracts say exactly when a call fails and how much room there is without a refusal. Once
+//!   all chosen calls are over they say that no further one fails.
 //! - **Real files and standard output** (`RealShelf`, `RealSink`) never say what they hold. They
 //!   are a few lines over std, and what they read or write is trusted, not proved.
 //! - **Names.** `Bytes` owns a list of bytes, `Name` those of a name; `Key` borrows them as the key

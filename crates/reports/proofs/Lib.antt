@@ -1,1 +1,2 @@
 pub mod AreaLines
+pub mod LineKinds

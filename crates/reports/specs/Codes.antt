@@ -12,6 +12,7 @@ use Rattle.commands.specs.declared.refusals.RefusalCode.{RefusalCode}
 use Rattle.commands.specs.declared.refusals.RefusalCode.TheVariants as refusal
 
 -- ---- refused models
+-- the words of the codes of the grammar
 abbrev pub syntax_text : SyntaxCode → List ℕ
 syntax_text syntax.Expected = codes "expected"
 syntax_text syntax.EndName = codes "endname"
@@ -22,6 +23,7 @@ syntax_text syntax.Scaling = codes "scaling"
 syntax_text syntax.Codes = codes "codes"
 syntax_text syntax.Deep = codes "deep"
 
+-- the words of the codes of names and types
 abbrev pub model_text : ModelCode → List ℕ
 model_text model.Unknown = codes "unknown"
 model_text model.Twice = codes "twice"
@@ -34,6 +36,7 @@ model_text model.NotCoord = codes "notcoord"
 model_text model.LineAttr = codes "lineattr"
 model_text model.IdentUnknown = codes "identunknown"
 
+-- the word of the code with which a model is refused
 abbrev pub refusal_text : RefusalCode → List ℕ
 refusal_text refusal.BadByte = codes "badbyte"
 refusal_text refusal.OpenExplanation = codes "openexplanation"
@@ -42,6 +45,7 @@ refusal_text (refusal.Syntax code) = syntax_text code
 refusal_text (refusal.Names code) = model_text code
 
 -- ---- transfers
+-- the words of the codes of a line at fault
 abbrev pub structure_text : Structure → List ℕ
 structure_text (OfLine Word) = codes "word"
 structure_text (OfLine AsMotr) = codes "motr"
@@ -51,6 +55,7 @@ structure_text End = codes "end"
 structure_text Continue = codes "continue"
 structure_text Cont = codes "cont"
 
+-- the words of the codes of findings
 abbrev pub code_text : Code → List ℕ
 code_text value.Count = codes "count"
 code_text value.Undefined = codes "undefined"

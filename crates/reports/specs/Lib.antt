@@ -2,6 +2,7 @@ pub mod AreaKinds
 pub mod AreaNames
 pub mod Codes
 pub mod FileRefusals
+pub mod Kinds
 pub mod LineViews
 pub mod Lines
 pub mod OutcomeViews

@@ -5,8 +5,9 @@ use Rattle.itf_reader.specs.Refusals.{fault_of}
 use Rattle.itf_reader.specs.declared.findings.Finding as found
 use Rattle.table_layout.specs.Values.{role_view}
 use Rattle.reports.specs.Lines as lines
-use Rattle.reports.specs.Lines.{TableLine, AreaLine, Line}
+use Rattle.reports.specs.Lines.{TableLine, AreaNames, AreaLine, Line}
 use Rattle.commands.specs.RefusalViews.{refusal_of}
+use Rattle.reports.specs.declared.area_names.AreaNames as names
 use Rattle.reports.specs.declared.lines.TableLine as table
 use Rattle.reports.specs.declared.lines.AreaLine as area
 use Rattle.reports.specs.declared.lines.Line as code
@@ -25,8 +26,11 @@ table_of t =
       lines = t.lines;
     }
 
+abbrev pub area_names_of : names.AreaNames → AreaNames
+area_names_of n = record { topic = n.topic; table = n.table; attribute = n.attribute }
+
 abbrev pub area_of : area.AreaLine → AreaLine
-area_of a = record { topic = a.topic; table = a.table; attribute = a.attribute; answer = a.answer }
+area_of a = record { names = area_names_of a.names; answer = a.answer }
 
 abbrev pub line_of : code.Line → Line
 line_of UsageFault = lines.usage_fault

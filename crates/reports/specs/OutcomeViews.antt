@@ -1,22 +1,24 @@
 -- The outcome of the code, without where its parts lie in memory.
-use Rattle.std.specs.Prelude.{◌++◌, Option}
+use Rattle.std.specs.Prelude.{ℕ, List, ◌++◌, Option}
 use Rattle.std.specs.Borrow.{Bor}
 use Rattle.std.specs.Option.{option_map}
-use Rattle.certificate.specs.Spelling.{views}
+use Rattle.certificate.specs.Spelling.{spelling, views}
 use Rattle.table_layout.specs.Layouts.{Table}
 use Rattle.table_layout.specs.Values.{table_view}
 use Rattle.table_layout.specs.declared.layouts.Table as table
 use Rattle.reports.specs.LineViews.{findings_view, lines_of}
-use Rattle.reports.specs.Outcomes.{Filing, Target, Outcome}
+use Rattle.reports.specs.Outcomes.{Filing, Outcome}
+use Rattle.reports.specs.declared.outcome.Content as content
+use Rattle.reports.specs.declared.outcome.Content.TheVariants.{Certificates}
 use Rattle.reports.specs.declared.outcome.Filing as filing
 use Rattle.reports.specs.declared.outcome.Outcome as outcome
-use Rattle.reports.specs.declared.outcome.Target as target
+
+-- the text of what is written
+abbrev pub text_of : content.Content → List ℕ
+text_of (Certificates cs) = spelling (views cs.items)
 
 abbrev pub filing_of : filing.Filing → Filing
-filing_of f = record { name = f.name.now; certificates = views f.certificates.items }
-
-abbrev pub target_of : target.Target → Target
-target_of t = record { name = t.name.now; trial = t.trial }
+filing_of f = record { name = f.name.now; text = text_of f.content }
 
 -- the lines for the findings come first
 abbrev pub outcome_of : outcome.Outcome → Outcome

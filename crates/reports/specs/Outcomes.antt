@@ -3,14 +3,16 @@ use Rattle.std.specs.Prelude.{ℕ, if◌then◌else◌, List, [], ◌∷◌, ◌
 use Rattle.std.specs.Prelude.{None, slice_index_or}
 use Rattle.std.specs.List.{flat_map}
 use Rattle.plane.specs.Rule.Plans.{Plan}
-use Rattle.certificate.specs.Spelling.{Plain}
+use Rattle.certificate.specs.Spelling.{Plain, spelling}
 use Rattle.itf_reader.specs.Findings.{Finding}
 use Rattle.itf_reader.specs.Readings.{Structure}
 use Rattle.table_layout.specs.Layouts.{Table, AreaOf, Layout}
-use Rattle.reports.specs.AreaKinds.{has_fault, has_undecided, proof_answer}
+use Rattle.reports.specs.AreaKinds.{proof_answer}
 use Rattle.reports.specs.AreaNames.{topic_name, table_name}
+use Rattle.reports.specs.Kinds.{has_fault, has_undecided}
 use Rattle.reports.specs.Lines as lines
 use Rattle.reports.specs.Lines.{Line, line_text}
+use Rattle.commands.specs.Commands.{Target}
 use Rattle.commands.specs.ModelTexts.{Refusal}
 use Rattle.reports.specs.Verifications.{Verification, proved, not_proved}
 use Rattle.commands.specs.declared.files.File.{File}
@@ -21,23 +23,12 @@ use Rattle.reports.specs.declared.lines.Verdict.TheVariants as verdict
 use Rattle.reports.specs.declared.status.Status.{Status}
 use Rattle.reports.specs.declared.status.Status.TheVariants as status
 
--- certificates, and the name of the file that they go to
+-- a text that is written, and the name of its file
 pub record Filing : Type 0 where
   pub name : List ℕ
-  pub certificates : List Plain
+  pub text : List ℕ
 
--- where certificates go: the name of their file; and for a trial its size, which the report names
-pub record Target : Type 0 where
-  pub name : List ℕ
-  pub trial : Option ℕ
-
-abbrev pub check_target : List ℕ → Target
-check_target name = record { name = name; trial = None }
-
-abbrev pub trial_target : ℕ → List ℕ → Target
-trial_target n name = record { name = name; trial = Some n }
-
--- a status, the lines of the report, and the certificates where there are any to write
+-- a status, the lines of the report, and the text of a file where there is one to write
 pub record Outcome : Type 0 where
   pub status : Status
   pub lines : List Line
@@ -47,7 +38,7 @@ pub record Outcome : Type 0 where
 abbrev pub report_of : Outcome → List ℕ
 report_of o = flat_map line_text o.lines
 
--- an outcome that writes no certificates
+-- an outcome that writes no file
 abbrev pub reported : Status → List Line → Outcome
 reported s ls = record { status = s; lines = ls; filing = None }
 
@@ -105,12 +96,11 @@ rejected found =
 abbrev pub area_line : Layout → AreaOf → AreaAnswer → Line
 area_line l a x =
     lines.area (record {
-      topic = topic_name l a;
-      table = table_name l a;
-      attribute = a.name;
+      names = record { topic = topic_name l a; table = table_name l a; attribute = a.name };
       answer = x;
     })
 
+-- the lines of the areas of a layout, in order
 abbrev pub area_lines : Layout → List AreaOf → List AreaAnswer → List Line
 area_lines l [] xs = []
 area_lines l (a ∷ as_) [] = []
@@ -123,12 +113,13 @@ trial_line n (answer.Proved level curves points) c =
     lines.trial n curves (length c.positions) points ∷ []
 trial_line n x c = []
 
+-- the lines of the sizes of a trial
 abbrev pub size_lines : ℕ → List AreaAnswer → List Plain → List Line
 size_lines n [] cs = []
 size_lines n (x ∷ xs) [] = []
 size_lines n (x ∷ xs) (c ∷ cs) = trial_line n x c ++ size_lines n xs cs
 
--- nothing where it is no trial
+-- the lines of the sizes of a trial, none where it is no trial
 abbrev pub trial_lines : Option ℕ → List AreaAnswer → List Plain → List Line
 trial_lines None xs cs = []
 trial_lines (Some n) xs cs = size_lines n xs cs
@@ -137,26 +128,36 @@ trial_lines (Some n) xs cs = size_lines n xs cs
 abbrev pub with_verdict : List Line → verdicts.Verdict → List Line
 with_verdict ls v = ls ++ (lines.verdict v ∷ [])
 
--- accepted, with the lines of the areas and the number of objects: the certificates go to the file
--- of that name
-abbrev pub accepted : List Line → ℕ → List ℕ → List Plain → Outcome
-accepted ls objects name cs =
+-- accepted, with the lines of the areas and the number of objects, and what is to be written
+abbrev pub accepted : List Line → ℕ → Filing → Outcome
+accepted ls objects filing =
     record {
       status = status.Accepted;
       lines = with_verdict ls (verdict.Accepted objects);
-      filing = Some (record { name = name; certificates = cs });
+      filing = Some filing;
     }
 
--- The outcome of a number of objects without a finding and of the answers to the areas of the
--- layout. One at fault rejects the transfer, else one that is undecided leaves it so, else it is
--- accepted, with these certificates for the target.
+-- certificates for a target
+abbrev pub certificates_for : Target → List Plain → Filing
+certificates_for target cs = record { name = target.name; text = spelling cs }
+
+-- The outcome of the lines on what was judged, by their kinds: one fault rejects the transfer, else
+-- one that is undecided leaves it so, else it is accepted, with these lines more, a number of
+-- objects and what is to be written.
+abbrev pub lines_outcome : List Line → List Line → ℕ → Filing → Outcome
+lines_outcome ls more objects filing =
+    if has_fault ls
+    then reported status.Rejected (with_verdict ls verdict.Rejected)
+    else if has_undecided ls
+    then reported status.Undecided (with_verdict ls verdict.Undecided)
+    else accepted (ls ++ more) objects filing
+
+-- the outcome of a number of objects without a finding and of the answers to the areas of the
+-- layout, with certificates for the target
 abbrev pub areas_outcome : Layout → ℕ → Target → List AreaAnswer → List Plain → Outcome
 areas_outcome l objects target xs cs =
-    if has_fault xs
-    then reported status.Rejected (with_verdict (area_lines l l.areas xs) verdict.Rejected)
-    else if has_undecided xs
-    then reported status.Undecided (with_verdict (area_lines l l.areas xs) verdict.Undecided)
-    else accepted (area_lines l l.areas xs ++ trial_lines target.trial xs cs) objects target.name cs
+    lines_outcome (area_lines l l.areas xs) (trial_lines target.trial xs cs) objects
+    (certificates_for target cs)
 
 -- the answers to drawings that are shown to be partitions at these levels
 abbrev pub proof_answers : List Plan → List ℕ → List AreaAnswer

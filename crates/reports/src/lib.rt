@@ -1,6 +1,6 @@
 //! The outcome of a call, and the text of its report.
 //!
-//! An outcome is a status, the lines of a report, and the certificates where there are any to
+//! An outcome is a status, the lines of a report, and the text of a file where there is one to
 //! write. `outcome` makes each of them: wrong words, a file that was not read, a refused model, a
 //! compiled one, a transfer with a line at fault or with findings, the answers to all areas, and
 //! what filed certificates prove. `report` gives the text of an outcome, line by line.
@@ -12,8 +12,8 @@
 //! - **Order of a report.** Findings come first, or one line for each table or area; then the line
 //!   of a trial, if it is one; the verdict is last. A call that could not read or compile, or that
 //!   met a limit, has one line, and two for wrong words.
-//! - **Areas.** One fault rejects the transfer, else one undecided area leaves it undecided, else
-//!   it is accepted.
+//! - **Kinds of lines** (`specs/Kinds`). One line that names a fault rejects the transfer, else one
+//!   that is undecided leaves it undecided, else it is accepted.
 //! - **Not here:** which answer an area has, whether certificates prove anything, and the writing.
 //!
 //! The layer above may use the clauses of these calls and the definitions. Cost: time and memory in
@@ -23,6 +23,7 @@
 mod area_answers;
 mod area_names;
 mod codes;
+mod kinds;
 mod lines;
 pub mod outcome;
 mod status;

@@ -7,62 +7,44 @@ ghost use Rattle.table_layout.specs.Values.{area_view, areas_view, layout_view, 
 ghost use Rattle.table_layout.specs.Values.{tables_view};
 ghost use Rattle.reports.specs.Outcomes.{reported, usage, area_too_large};
 ghost use Rattle.reports.specs.Outcomes.{refused, compiled, misbuilt, rejected, areas_outcome};
+ghost use Rattle.reports.specs.Outcomes.{lines_outcome};
 ghost use Rattle.reports.specs.Outcomes.{accepted, area_line, area_lines, table_line};
 ghost use Rattle.reports.specs.Outcomes.{with_verdict, trial_line, size_lines, trial_lines};
-ghost use Rattle.reports.specs.Outcomes.{proof_answers, verified, check_target, trial_target};
+ghost use Rattle.reports.specs.Outcomes.{proof_answers, verified};
 ghost use Rattle.reports.specs.AreaKinds.{plans};
 ghost use Rattle.reports.specs.LineViews.{line_of, lines_of};
-ghost use Rattle.reports.specs.OutcomeViews.{outcome_of, target_of};
+ghost use Rattle.reports.specs.OutcomeViews.{filing_of, outcome_of};
+ghost use Rattle.commands.specs.CommandViews.{target_of};
 ghost use Rattle.reports.specs.FileRefusals.{IsNotRead};
 ghost use Rattle.commands.specs.RefusalViews.{refusal_of};
 ghost use Rattle.reports.specs.VerificationViews.{verification_of};
 
-use crate::area_answers::{Answers, has_fault, has_undecided, proof_answer};
+use crate::area_answers::{Answers, proof_answer};
 use crate::area_names::{names_of, topic_text};
+use crate::kinds::{has_fault, has_undecided};
 use crate::lines::{AreaAnswer, AreaLine, Line, TableLine, Verdict};
 use crate::status::Status;
 use crate::verification::Verification;
 use certificate::Certificate;
-use commands::trial::TrialWords;
-use commands::{File, FileRefusal, Refusal};
+use commands::{File, FileRefusal, Refusal, Target};
 use itf_reader::{Finding, Structure};
 use plane::Drawing;
 use ports::{Memory, Name};
 use std::alloc::Global;
 use table_layout::{AreaOf, Layout, Table};
 
-/// Where certificates go: the name of their file; and for a trial its size, which the report
-/// says.
-#[derive(Clone, Copy)]
-pub struct Target<'a> {
-    pub name: &'a str,
-    pub trial: Option<u32>,
+/// What is written to a file.
+#[derive(Drop)]
+pub enum Content {
+    /// Certificates, in their text.
+    Certificates(Vec<Certificate>),
 }
 
-impl<'a> Target<'a> {
-    /// The certificates of a check go to the file of that name.
-    pub fn of_check(name: &'a str) -> Target<'a>
-        ensures { target_of result ≡ check_target name.now }
-    {
-        Target { name, trial: None }
-    }
-
-    /// The certificates of a trial go to its file.
-    pub fn of_trial(trial: &TrialWords<'a>) -> Target<'a>
-        ensures { target_of result ≡ trial_target trial.now.size trial.now.certificate.now }
-    {
-        Target {
-            name: trial.certificate,
-            trial: Some(trial.size),
-        }
-    }
-}
-
-/// Certificates, and the name of the file that they go to.
+/// What is written, and the name of its file.
 #[derive(Drop)]
 pub struct Filing<'a> {
     pub name: &'a str,
-    pub certificates: Vec<Certificate>,
+    pub content: Content,
 }
 
 /// What a call answers, reports and writes. The lines for the findings come first; they are kept
@@ -75,7 +57,7 @@ pub struct Outcome<'a> {
     pub filing: Option<Filing<'a>>,
 }
 
-// An outcome without findings that writes no certificates.
+// An outcome without findings that writes no file.
 fn reported<'a>(alloc: Global, status: Status, lines: Vec<Line>) -> Outcome<'a>
     ensures { outcome_of result ≡ reported status (lines_of lines.items) }
 {
@@ -203,12 +185,7 @@ fn area_line(
         (area_view area.now) answer) }
 {
     let names = names_of(alloc, layout, area)?;
-    Ok(Line::Area(AreaLine {
-        topic: names.topic,
-        table: names.table,
-        attribute: names.attribute,
-        answer,
-    }))
+    Ok(Line::Area(AreaLine { names, answer }))
 }
 
 // The lines for areas, one for each answer.
@@ -261,24 +238,18 @@ fn size_lines(
     Ok(lines)
 }
 
-// Adds what the report of a trial says of its areas, where it is one.
-fn add_trial_lines(
-    alloc: Global,
-    trial: Option<u32>,
-    answers: &Answers,
-    lines: &mut Vec<Line>,
-) -> Result<(), Memory>
-    ensures { OnOk result (lines_of lines.new.items ≡ lines_of lines.old.items
-        ++ trial_lines trial answers.now.areas.items (views answers.now.certificates.items)) }
+// What the report of a trial says of its areas; nothing where it is none.
+fn trial_lines(alloc: Global, trial: Option<u32>, answers: &Answers) -> Result<Vec<Line>, Memory>
+    ensures { IfOk result (λ lines. lines_of lines.items ≡ trial_lines trial
+        answers.now.areas.items (views answers.now.certificates.items)) }
 {
-    if let Some(size) = trial {
-        let mut more = size_lines(alloc, size, &answers.areas, &answers.certificates)?;
-        lines.append(&mut more)?;
+    match trial {
+        Some(size) => size_lines(alloc, size, &answers.areas, &answers.certificates),
+        None => Ok(Vec::new(alloc)),
     }
-    Ok(())
 }
 
-// Accepted, with the number of objects and the certificates for the file.
+// Accepted, with the number of objects and what is written.
 fn accepted(
     alloc: Global,
     lines: Vec<Line>,
@@ -286,7 +257,7 @@ fn accepted(
     filing: Filing<'_>,
 ) -> Result<Outcome<'_>, Memory>
     ensures { IfOk result (λ o. outcome_of o ≡ accepted (lines_of lines.items) objects
-        filing.entry.name.now (views filing.entry.certificates.items)) }
+        (filing_of filing.entry)) }
 {
     let mut lines = lines;
     lines.push(Line::Verdict(Verdict::Accepted(objects)))?;
@@ -298,7 +269,7 @@ fn accepted(
     })
 }
 
-// Lines and a verdict, without certificates.
+// Lines and a verdict, without a file.
 fn ended<'a>(
     alloc: Global,
     status: Status,
@@ -313,6 +284,31 @@ fn ended<'a>(
     Ok(reported(alloc, status, lines))
 }
 
+/// The outcome of the lines on what was judged, by their kinds: one fault rejects the transfer,
+/// else one that is undecided leaves it so, else it is accepted, with these lines more, a number of
+/// objects and what is written.
+pub fn lines_outcome(
+    alloc: Global,
+    lines: Vec<Line>,
+    more: Vec<Line>,
+    objects: u128,
+    filing: Filing<'_>,
+) -> Result<Outcome<'_>, Memory>
+    ensures { IfOk result (λ o. outcome_of o ≡ lines_outcome (lines_of lines.items)
+        (lines_of more.items) objects (filing_of filing.entry)) }
+{
+    if has_fault(&lines) {
+        return ended(alloc, Status::Rejected, lines, Verdict::Rejected);
+    }
+    if has_undecided(&lines) {
+        return ended(alloc, Status::Undecided, lines, Verdict::Undecided);
+    }
+    let mut lines = lines;
+    let mut more = more;
+    lines.append(&mut more)?;
+    accepted(alloc, lines, objects, filing)
+}
+
 /// The outcome of a number of objects without a finding and of the answers to the areas of the
 /// layout, whose certificates go to the target where all are proved.
 pub fn areas_outcome<'a>(
@@ -325,19 +321,13 @@ pub fn areas_outcome<'a>(
     ensures { IfOk result (λ o. outcome_of o ≡ areas_outcome (layout_view layout.now) objects
         (target_of target.now) answers.areas.items (views answers.certificates.items)) }
 {
-    let mut lines = area_lines(alloc, layout, &answers.areas)?;
-    if has_fault(&answers.areas) {
-        return ended(alloc, Status::Rejected, lines, Verdict::Rejected);
-    }
-    if has_undecided(&answers.areas) {
-        return ended(alloc, Status::Undecided, lines, Verdict::Undecided);
-    }
-    add_trial_lines(alloc, target.trial, &answers, &mut lines)?;
+    let lines = area_lines(alloc, layout, &answers.areas)?;
+    let more = trial_lines(alloc, target.trial, &answers)?;
     let filing = Filing {
         name: target.name,
-        certificates: answers.certificates,
+        content: Content::Certificates(answers.certificates),
     };
-    accepted(alloc, lines, objects, filing)
+    lines_outcome(alloc, lines, more, objects, filing)
 }
 
 // The answers to drawings that are proved at these levels.

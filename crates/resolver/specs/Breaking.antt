@@ -20,9 +20,11 @@ use Rattle.resolver.specs.Occurring.{IsScope, HasType, HasAttributes, HasAttribu
 use Rattle.resolver.specs.Occurring.{HasReference, HasElements, line_type}
 
 -- ---- names
+-- a domain of that name is declared in the scope or further out
 abbrev pub IsVisible : Scope → List ℕ → Type 0
 IsVisible s name = Contains (names_of s.above) name ⊎ Contains (names_of s.own) name
 
+-- the bytes of the names of some entries
 abbrev pub names_in : List Entry → List (List ℕ)
 names_in es = map (λ e. e.key) es
 
@@ -35,7 +37,7 @@ pub record StandsAgain (earlier : List (List ℕ)) (names : List Entry) (at : Id
   pub known : Contains (earlier ++ names_in before) again.key
   pub place : again.name ≡ at
 
--- the same of names that count where they are written
+-- a name that stands again, of names that count where they are written
 abbrev pub IsRepeated : List Ident → Ident → Type 0
 IsRepeated names at = StandsAgain [] (map entry names) at
 
@@ -71,7 +73,7 @@ pub record LeadsAtOnce (s : Scope) (i j : ℕ) : Type 0 where
   pub here : Contains (names_of s.above) name.text → ⊥
   pub first : place name.text (names_of s.own) ≡ Some j
 
--- in one step or more
+-- one domain leads to another in one step or more
 pub data LeadsTo (s : Scope) (j : ℕ) : ℕ → Type 0 where
   at_once : (i : ℕ) → LeadsAtOnce s i j → LeadsTo s j i
   by_way_of : (i k : ℕ) → LeadsAtOnce s i k → LeadsTo s j k → LeadsTo s j i
@@ -81,6 +83,7 @@ pub data LeadsTo (s : Scope) (j : ℕ) : ℕ → Type 0 where
 abbrev pub IsLong : ℕ → Decimal → Type 0
 IsLong scale d = 10 ^ 18 ≤ magnitude scale d
 
+-- the upper bound is below the lower one, in units of a scale
 abbrev pub IsReversed : ℕ → Span → Type 0
 IsReversed scale b = in_units scale b.high <ℤ in_units scale b.low
 

@@ -30,6 +30,7 @@ pub record IsFirstBroken (m : ModelSyntax) (f : Fault) : Type 0 where
   pub broken : Breaks m f.code f.name
   pub first : (g : Fault) → Breaks m g.code g.name → ComesBefore g f → ⊥
 
+-- the model breaks no rule on names and types
 abbrev pub BreaksNone : ModelSyntax → Type 0
 BreaksNone m = (f : Fault) → Breaks m f.code f.name → ⊥
 

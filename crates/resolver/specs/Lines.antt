@@ -18,6 +18,7 @@ is_coord (Coord2 c) = true
 is_coord (Coord3 c) = true
 is_coord _ = false
 
+-- coordinates of two axes
 abbrev pub is_coord2 : TypeSyntax → Bool
 is_coord2 (Coord2 c) = true
 is_coord2 _ = false
@@ -32,6 +33,7 @@ abbrev pub is_long_overlap : Option Decimal → TypeSyntax → Bool
 is_long_overlap overlap kind =
     is_coord kind && option_map_or (is_long (scale_of kind)) overlap false
 
+-- a line of one of the three kinds
 abbrev pub is_line : TypeSyntax → Bool
 is_line (Polyline l) = true
 is_line (Surface l) = true

@@ -8,10 +8,12 @@ pub record Limits : Type 0 where
   pub high : ℤ
   pub scale : ℕ
 
+-- the bounds of a coordinate in two axes
 pub record Window : Type 0 where
   pub x : Limits
   pub y : Limits
 
+-- the bounds of a coordinate in three axes
 pub record Block : Type 0 where
   pub x : Limits
   pub y : Limits
@@ -25,6 +27,8 @@ pub data Form : Type 0 where
   Text Enumeration Reference : ℕ → Form
   Date HAlignment VAlignment : Form
 
+-- what a line may be: its name, whether it may be undefined and may have arcs, the bounds of its
+-- vertices and of their heights, and the permitted overlap
 pub record LineForm : Type 0 where
   pub name : List ℕ
   pub optional : Bool
@@ -34,10 +38,12 @@ pub record LineForm : Type 0 where
   pub overlap : Option ℤ
 
 mutual
-  -- its name, whether it may be undefined, and its content
+  -- an attribute: its name, whether it may be undefined, and its content
   pub data Attribute : Type 0 where
     an_attribute : List ℕ → Bool → AttributeForm → Attribute
 
+  -- what an attribute holds: a value or a line; lines of a SURFACE and of an AREA may have
+  -- attributes of their own
   pub data AttributeForm : Type 0 where
     Value : Form → AttributeForm
     Polyline : LineForm → AttributeForm
@@ -47,19 +53,23 @@ mutual
   pub data LinePart : Type 0 where
     a_part : Attributes → List (List ℕ) → LinePart
 
+  -- a list of attributes
   pub data Attributes : Type 0 where
     no_attributes : Attributes
     and_attribute : Attribute → Attributes → Attributes
 
+-- a declared table: its name, its attributes, and its IDENT lists by the places of attributes
 pub record ModelTable : Type 0 where
   pub name : List ℕ
   pub attributes : Attributes
   pub idents : List (List ℕ)
 
+-- a topic: its name and its tables
 pub record Topic : Type 0 where
   pub name : List ℕ
   pub tables : List ModelTable
 
+-- what a model stands for: its name, its three codes and its topics
 pub record ResolvedModel : Type 0 where
   pub name : List ℕ
   pub codes : Codes

@@ -26,6 +26,7 @@ pub record Entry : Type 0 where
   pub key : List ℕ
   pub name : Ident
 
+-- a declared name that counts where it stands
 abbrev pub entry : Ident → Entry
 entry n = record { key = n.text; name = n }
 
@@ -39,6 +40,7 @@ abbrev pub twice_in : List Ident → List Fault
 twice_in names = twice [] (map entry names)
 
 -- ---- the elements of an enumeration
+-- the names of elements, not those of their parts
 abbrev pub element_names : Elements → List Ident
 element_names no_elements = []
 element_names (and_element (an_element n parts) es) = n ∷ element_names es
@@ -88,6 +90,7 @@ vertex_faults s owner shape vertex overlap =
     type_name_faults s vertex ++ meaning_faults owner shape vertex overlap (meaning s vertex.text)
 
 -- ---- attributes and IDENT lists, of a table or of a line
+-- the names of attributes
 abbrev pub attribute_names : Attributes → List Ident
 attribute_names no_attributes = []
 attribute_names (and_attribute (an_attribute n o c) as_) = n ∷ attribute_names as_

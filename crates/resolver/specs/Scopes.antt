@@ -7,6 +7,7 @@ use Rattle.std.specs.Cmp.Lexicographic.{pointwise}
 use Rattle.ili_grammar.specs.Syntax.{Ident, TypeSyntax, Named, Content, Value, Reference}
 use Rattle.ili_grammar.specs.Syntax.{DomainSyntax, TableSyntax, TopicSyntax, ModelSyntax}
 
+-- the same bytes
 abbrev pub same : List ℕ → List ℕ → Bool
 same = pointwise nat_eq
 
@@ -25,15 +26,19 @@ pub record Scope : Type 0 where
   pub own : List DomainSyntax
   pub tables : List (List ℕ)
 
+-- the names of domains
 abbrev pub domain_names : List DomainSyntax → List Ident
 domain_names ds = map (λ d. d.name) ds
 
+-- the names of tables
 abbrev pub table_names : List TableSyntax → List Ident
 table_names ts = map (λ t. t.name) ts
 
+-- the bytes of names
 abbrev pub texts : List Ident → List (List ℕ)
 texts names = map (λ n. n.text) names
 
+-- the bytes of the names of domains
 abbrev pub names_of : List DomainSyntax → List (List ℕ)
 names_of ds = texts (domain_names ds)
 
@@ -44,9 +49,11 @@ is_visible s name = is_among name (names_of s.above) || is_among name (names_of 
 abbrev pub everywhere : ModelSyntax → List DomainSyntax
 everywhere m = m.outer ++ m.domains
 
+-- what is visible outside of the topics: these domains
 abbrev pub outside : List DomainSyntax → Scope
 outside ds = record { above = []; own = ds; tables = [] }
 
+-- what is visible in a topic: these domains, its own, and its tables
 abbrev pub inside : List DomainSyntax → TopicSyntax → Scope
 inside ds t = record { above = ds; own = t.domains; tables = texts (table_names t.tables) }
 

@@ -89,6 +89,7 @@ IsForm t f = ⊥
 abbrev pub IsReference : Scope → Ident → Form → Type 0
 IsReference s n f = (k : ℕ) × (f ≡ resolved.Reference k) × (place n.text s.tables ≡ Some k)
 
+-- a type or a reference stands for what a value may be
 abbrev pub IsValue : Scope → Content → Form → Type 0
 IsValue s (Value t) f = (m : Meaning) × StandsFor m s t × IsForm m.kind f
 IsValue s (syntax.Reference n) f = IsReference s n f
@@ -124,6 +125,7 @@ pub record HasForm (shape : Shape) (name : List ℕ) (optional : Bool) (head : L
   pub optional_is : f.optional ≡ optional
   pub arcs : f.arcs ≡ head.arcs
 
+-- a line as it is written stands for what a line may be
 abbrev pub IsLine : Shape → List ℕ → Bool → Scope → LineSyntax → LineForm → Type 0
 IsLine shape name optional s (a_line head as_ lists) f =
     (v : Meaning) × StandsFor v s (Named head.vertex) × HasForm shape name optional head v.kind f
@@ -162,6 +164,7 @@ IsContent name optional s (Value t) f =
 IsContent name optional s (syntax.Reference n) f =
     (v : Form) × (f ≡ resolved.Value v) × IsReference s n v
 
+-- attributes as they are written stand for these, one for each
 abbrev pub AreAttributes : Scope → Attributes → resolved.Attributes → Type 0
 AreAttributes s no_attributes fs = fs ≡ resolved.no_attributes
 AreAttributes s (and_attribute (an_attribute n o c) as_) fs =

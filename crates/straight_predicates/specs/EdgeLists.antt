@@ -9,9 +9,11 @@ use Rattle.straight_predicates.specs.Meetings.{AreClose, EdgesAreClose}
 abbrev pub HasEnds : Edge → Point → Point → Type 0
 HasEnds e p q = ((e.low ≡ p) × (e.high ≡ q)) ⊎ ((e.low ≡ q) × (e.high ≡ p))
 
+-- a point that is not meant
 abbrev pub no_point : Point
 no_point = record { x = pos 0; y = pos 0 }
 
+-- an edge beyond the last one; it is not meant
 abbrev pub no_edge : Edge
 no_edge = record { low = no_point; high = no_point }
 

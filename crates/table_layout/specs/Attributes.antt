@@ -57,7 +57,7 @@ list_at places (i ∷ is) =
 abbrev pub lists_at : List (Option ℕ) → List (List ℕ) → List (List ℕ)
 lists_at places lists = flat_map (λ is. option_to_list (list_at places is)) lists
 
--- the same after so many columns that are no attributes
+-- the IDENT lists of a table by columns, after so many columns that are no attributes
 abbrev pub idents_of : ℕ → List Attribute → List (List ℕ) → List (List ℕ)
 idents_of first own lists =
     lists_at (places_from (first + length (flat_map (columns_of []) own)) first 0 own) lists

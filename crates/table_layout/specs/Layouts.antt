@@ -10,11 +10,14 @@ pub data Role : Type 0 where
   AreaLines : ℕ → ℕ → Role
   SurfaceLines : ℕ → Role
 
+-- a column: its name, whether it may be undefined, and what its value may be
 pub record Column : Type 0 where
   pub name : List ℕ
   pub optional : Bool
   pub form : Form
 
+-- a table of a transfer: the number of its topic, its name and role, its columns, its lines and its
+-- IDENT lists
 pub record Table : Type 0 where
   pub topic : ℕ
   pub name : List ℕ
@@ -30,6 +33,8 @@ pub record AreaOf : Type 0 where
   pub column : ℕ
   pub name : List ℕ
 
+-- what a transfer of the model has: the model's name, its codes, its topics, all tables in order,
+-- and its AREA attributes
 pub record Layout : Type 0 where
   pub model : List ℕ
   pub codes : Codes

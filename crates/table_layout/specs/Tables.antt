@@ -21,12 +21,14 @@ pub record Owner : Type 0 where
   pub name : List ℕ
 
 -- ---- whether an attribute has a helper table, before or after its table
+-- 1 for an AREA attribute, 0 for any other
 abbrev pub area_count : Attribute → ℕ
 area_count (an_attribute n o (Area l p)) = 1
 area_count (an_attribute n o (Value f)) = 0
 area_count (an_attribute n o (Polyline l)) = 0
 area_count (an_attribute n o (Surface l p)) = 0
 
+-- 1 for a SURFACE attribute, 0 for any other
 abbrev pub surface_count : Attribute → ℕ
 surface_count (an_attribute n o (Surface l p)) = 1
 surface_count (an_attribute n o (Value f)) = 0
@@ -78,6 +80,7 @@ surface_table w (an_attribute n o (Polyline l)) = []
 surface_table w (an_attribute n o (Area l p)) = []
 
 -- ---- declared tables
+-- the table that is declared, with its columns and its polylines
 abbrev pub main_table : Owner → List Attribute → List (List ℕ) → Table
 main_table w own lists =
     record {
@@ -95,10 +98,12 @@ with_helpers w own lists =
     area_tables w 0 own ++ main_table w own lists ∷ flat_map (surface_table w) own
 
 -- ---- how many tables stand for a declared table
+-- how many AREA attributes there are
 abbrev pub areas_in : List Attribute → ℕ
 areas_in [] = 0
 areas_in (a ∷ as_) = area_count a + areas_in as_
 
+-- how many SURFACE attributes there are
 abbrev pub surfaces_in : List Attribute → ℕ
 surfaces_in [] = 0
 surfaces_in (a ∷ as_) = surface_count a + surfaces_in as_
@@ -126,6 +131,7 @@ tables_beside topic mains (m ∷ ms) (t ∷ ts) =
     (listed t.attributes) t.idents
     ++ tables_beside topic mains ms ts
 
+-- the tables of a topic, the first of which has this number
 abbrev pub topic_tables : ℕ → ℕ → List ModelTable → List Table
 topic_tables topic first ts = tables_beside topic (numbers_from first ts) (numbers_from first ts) ts
 
@@ -137,6 +143,7 @@ tables_from topic first (t ∷ ts) =
     ++ tables_from (topic + 1) (first + length (topic_tables topic first t.tables)) ts
 
 -- ---- areas
+-- a column by the numbers of its table and its own
 abbrev pub column_at : List Table → ℕ → ℕ → Option Column
 column_at tables main column =
     option_and_then (λ (t : Table). slice_get t.columns column) (slice_get tables main)
@@ -161,9 +168,11 @@ areas_from tables number (t ∷ ts) =
     area_of tables number t.role ++ areas_from tables (number + 1) ts
 
 -- ---- the whole
+-- the names of topics
 abbrev pub topic_names_of : List Topic → List (List ℕ)
 topic_names_of ts = map (λ (t : Topic). t.name) ts
 
+-- the layout of what a model stands for
 abbrev pub layout_of : ResolvedModel → Layout
 layout_of m =
     let tables = tables_from 0 0 m.topics in record {

@@ -23,7 +23,7 @@ straight_edge c = edge_from c.from c.to
 abbrev pub edges_of : Plan → List Edge
 edges_of d = map straight_edge d.curves
 
--- beyond the last one it is not meant
+-- the curve of a number; beyond the last one it is not meant
 abbrev pub nth_curve : List Curve → ℕ → Curve
 nth_curve curves i =
     get_or curves i (straight (record { x = pos 0; y = pos 0 }) (record { x = pos 0; y = pos 0 }) 0)

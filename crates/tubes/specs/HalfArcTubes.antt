@@ -22,11 +22,12 @@ root (suc n) = cond (nat_lt (suc n) (suc (root n) * suc (root n))) (root n) (suc
 abbrev pub whole_distance : Point → Point → ℕ
 whole_distance p q = root (unsigned_abs (distance p q))
 
--- The way from p to q, turned by a quarter to the side on which the half arc lies: away from its
--- third point.
+-- The x of the way from p to q, turned by a quarter to the side on which the half arc lies: away
+-- from its third point.
 abbrev pub turned_x : HalfArc → Point → Point → ℤ
 turned_x h p q = cond (is_positive (bend h)) (q.y -ℤ p.y) (p.y -ℤ q.y)
 
+-- The y of that way.
 abbrev pub turned_y : HalfArc → Point → Point → ℤ
 turned_y h p q = cond (is_positive (bend h)) (p.x -ℤ q.x) (q.x -ℤ p.x)
 
@@ -57,6 +58,7 @@ count h p q =
     cond (nat_lt 0 (whole_distance p q))
     (cond (is_inside h p q 0) (Some (with_bits (is_inside h p q) 27 0)) None) None
 
+-- What f makes of a value, if there is one.
 abbrev pub and_then : {X Y : Type 0} → Option X → (X → Option Y) → Option Y
 and_then None f = None
 and_then (Some x) f = f x

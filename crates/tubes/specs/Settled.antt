@@ -29,12 +29,15 @@ use Rattle.tubes.specs.declared.kinds.Facing.TheVariants as facing
 use Rattle.tubes.specs.declared.kinds.Tube.{Tube}
 
 -- ---- the edges at a level, by number
+-- The edges of the drawing at a level.
 abbrev pub edges_at : Plan → ℕ → List Edge
 edges_at d level = map edge_as (runs.edge_list (drawn_bays d level) 0 d.curves)
 
+-- The edge of a number at a level.
 abbrev pub edge_at : Plan → ℕ → ℕ → Edge
 edge_at d level = edge_of (edges_at d level)
 
+-- That edge in the direction of its curve, with its owner.
 abbrev pub owned_at : Plan → ℕ → ℕ → runs.Owned
 owned_at d level e = runs.owned d (drawn_bays d level) e
 

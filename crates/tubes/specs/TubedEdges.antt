@@ -35,7 +35,7 @@ bays_at h level =
     bays (made (inner_points h (level + 1)))
     (made (outer_points h h.from (made (inner_points h (level + 1)))))
 
--- The same by the number of a curve.
+-- The bays of the tube of the curve of a number at the level, where it has one.
 abbrev pub drawn_bays : Plan → ℕ → ℕ → List Bay
 drawn_bays d level i = bays_at (arc (curve d i)) level
 

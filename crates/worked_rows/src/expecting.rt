@@ -1,6 +1,6 @@
 //! What a row expects, beside what came.
 
-use super::rows::{Row, Rows};
+use super::rows::{Expected, Row, Rows};
 use super::running::{Failure, Outcome, before};
 use std::alloc::Global;
 use std::fmt::Write;
@@ -37,28 +37,32 @@ fn is_kept(file: &Option<Vec<u8>>, before: &Option<String>) -> bool {
 // The certificates are as they are expected.
 fn are_filed(alloc: Global, rows: &Rows, row: &Row, outcome: &Outcome) -> Result<bool, Failure> {
     let file = &outcome.certificate;
-    if let Some(text) = &row.filed {
+    if let Some(text) = row.expected.filed {
         return Ok(holds_text(file, text));
     }
-    if let Some(text) = &row.filed_front {
+    if let Some(text) = row.expected.filed_front {
         return Ok(begins_with(file, text));
     }
-    Ok(row.certified || is_kept(file, &before(alloc, rows, row, "C", &row.certificate)?))
+    if row.expected.certified {
+        return Ok(true);
+    }
+    let kept = before(alloc, rows, row, "C", row.files.certificate)?;
+    Ok(is_kept(file, &kept))
 }
 
 // The files that are only read are as before.
 fn are_kept(alloc: Global, rows: &Rows, row: &Row, outcome: &Outcome) -> Result<bool, Failure> {
-    let model = before(alloc, rows, row, "M", &row.model)?;
-    let transfer = before(alloc, rows, row, "T", &row.transfer)?;
+    let model = before(alloc, rows, row, "M", row.files.model)?;
+    let transfer = before(alloc, rows, row, "T", row.files.transfer)?;
     Ok(is_kept(&outcome.model, &model) && is_kept(&outcome.transfer, &transfer))
 }
 
 // Adds what differs in the answer and the report.
-fn add_answer(text: &mut String, row: &Row, outcome: &Outcome) -> Result<(), Failure> {
-    if outcome.status != row.status {
+fn add_answer(text: &mut String, expected: &Expected, outcome: &Outcome) -> Result<(), Failure> {
+    if outcome.status != expected.status {
         write!(text, "status {}\n", outcome.status)?;
     }
-    if outcome.report.as_slice() != row.report.as_bytes() {
+    if outcome.report.as_slice() != expected.report.as_bytes() {
         write!(text, "report\n{}", shown(&outcome.report))?;
     }
     Ok(())
@@ -73,7 +77,7 @@ pub fn differences(
     verified: &Option<Outcome>,
 ) -> Result<String, Failure> {
     let mut text = String::new(alloc);
-    add_answer(&mut text, row, outcome)?;
+    add_answer(&mut text, &row.expected, outcome)?;
     if !are_filed(alloc, rows, row, outcome)? {
         write!(text, "certificates\n{}", shown_file(&outcome.certificate))?;
     }
@@ -81,7 +85,7 @@ pub fn differences(
         text.push_str("the model or the transfer was changed\n")?;
     }
     if let Some(verified) = verified {
-        add_answer(&mut text, row, verified)?;
+        add_answer(&mut text, &row.expected, verified)?;
     }
     Ok(text)
 }

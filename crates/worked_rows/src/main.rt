@@ -7,6 +7,7 @@
 #![tactic(auto)]
 
 mod expecting;
+mod fields;
 mod pieces;
 mod rows;
 mod running;
@@ -37,7 +38,8 @@ fn holds(rt: &HostRuntime, alloc: Global, rows: &Rows, row: &Row) -> Result<bool
 // How many rows of the file hold, and whether all do.
 fn run_file(rt: &HostRuntime, alloc: Global, name: &str) -> Result<bool, Failure> {
     let text = fs::read_to_string(rt, name)?;
-    let rows: Rows = toml::from_str(alloc, &text)?;
+    let file = toml::table_from_str(alloc, &text)?;
+    let rows = Rows::read(alloc, &file)?;
     let mut held = 0usize;
     for row in &rows.rows {
         if holds(rt, alloc, &rows, row)? {

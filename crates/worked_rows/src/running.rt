@@ -17,8 +17,12 @@ pub enum Failure {
     Memory,
     /// The file was not read, or the output not taken.
     Io,
-    /// The file has no rows as `rows` says.
+    /// The file is no TOML.
     Form(toml::de::Error),
+    /// A field of that name is missing where it has to be, or has another type than `rows` says.
+    Field(&'static str),
+    /// A field of that name is nowhere in `rows`, or stands in another table.
+    Unknown(String),
     /// A row names a text or a file that is not there.
     Missing(String),
     /// A text that a row changes is not exactly once in its file.
@@ -32,6 +36,8 @@ impl fmt::Display for Failure {
             Failure::Memory => f.write_str("out of memory"),
             Failure::Io => f.write_str("a file was not read, or the output not taken"),
             Failure::Form(error) => write!(f, "{}", error),
+            Failure::Field(name) => write!(f, "the field {} is missing or has another type", name),
+            Failure::Unknown(name) => write!(f, "a table has no field of the name {}", name),
             Failure::Missing(name) => write!(f, "no text has the name {}", name),
             Failure::Change(old) => write!(f, "this is not once in the file: {}", old),
         }
@@ -85,9 +91,9 @@ pub struct Outcome {
 }
 
 // The text of that name.
-fn text_of<'a>(alloc: Global, rows: &'a Rows, name: &str) -> Result<&'a str, Failure> {
-    match rows.texts.iter().find(|text| text.name.as_str() == name) {
-        Some(text) => Ok(text.text.as_str()),
+fn text_of<'a>(alloc: Global, rows: &Rows<'a>, name: &str) -> Result<&'a str, Failure> {
+    match rows.texts.iter().find(|text| text.name == name) {
+        Some(text) => Ok(text.text),
         None => Err(Failure::Missing(String::from_str(alloc, name)?)),
     }
 }
@@ -104,7 +110,7 @@ fn command(alloc: Global, name: &str) -> Result<Vec<Word>, Failure> {
     Ok(words)
 }
 
-fn words_of(alloc: Global, texts: &[String]) -> Result<Vec<Word>, Failure> {
+fn words_of(alloc: Global, texts: &[&str]) -> Result<Vec<Word>, Failure> {
     let mut words = Vec::new(alloc);
     for text in texts {
         words.push(Word::new(alloc, text)?)?;
@@ -118,14 +124,14 @@ pub fn before(
     rows: &Rows,
     row: &Row,
     file: &str,
-    name: &Option<String>,
+    name: Option<&str>,
 ) -> Result<Option<String>, Failure> {
     let Some(name) = name else {
         return Ok(None);
     };
     let mut text = String::from_str(alloc, text_of(alloc, rows, name)?)?;
-    for change in &row.changes {
-        if change.file.as_str() == file {
+    for change in &row.files.changes {
+        if change.file == file {
             text = changed(alloc, &text, change)?;
         }
     }
@@ -133,15 +139,23 @@ pub fn before(
 }
 
 fn changed(alloc: Global, text: &str, change: &Change) -> Result<String, Failure> {
-    if text.matches(change.old.as_str()).count() != 1 {
-        return Err(Failure::Change(String::from_str(alloc, &change.old)?));
+    if text.matches(change.old).count() != 1 {
+        return Err(Failure::Change(String::from_str(alloc, change.old)?));
     }
-    Ok(text.replace(alloc, &change.old, &change.new)?)
+    Ok(text.replace(alloc, change.old, change.new)?)
 }
 
-fn with_file(files: &mut MemoryShelf, name: &str, text: &Option<String>) -> Result<(), Failure> {
-    if let Some(text) = text {
-        files.with_file(name, text.as_bytes())?;
+// Adds the file with the text of that name, if there is one, with its changes.
+fn add_file(
+    alloc: Global,
+    files: &mut MemoryShelf,
+    rows: &Rows,
+    row: &Row,
+    file: &str,
+    name: Option<&str>,
+) -> Result<(), Failure> {
+    if let Some(text) = before(alloc, rows, row, file, name)? {
+        files.with_file(file, text.as_bytes())?;
     }
     Ok(())
 }
@@ -149,30 +163,22 @@ fn with_file(files: &mut MemoryShelf, name: &str, text: &Option<String>) -> Resu
 // The files before the call, with the calls that fail.
 fn shelf_of(alloc: Global, rows: &Rows, row: &Row) -> Result<Pieces, Failure> {
     let mut files = MemoryShelf::new(alloc);
-    with_file(&mut files, "M", &before(alloc, rows, row, "M", &row.model)?)?;
-    with_file(
-        &mut files,
-        "T",
-        &before(alloc, rows, row, "T", &row.transfer)?,
-    )?;
-    with_file(
-        &mut files,
-        "C",
-        &before(alloc, rows, row, "C", &row.certificate)?,
-    )?;
-    for call in &row.failing_shelf_calls {
+    add_file(alloc, &mut files, rows, row, "M", row.files.model)?;
+    add_file(alloc, &mut files, rows, row, "T", row.files.transfer)?;
+    add_file(alloc, &mut files, rows, row, "C", row.files.certificate)?;
+    for call in &row.call.failing_shelf_calls {
         files.fail_call(*call)?;
     }
     Ok(Pieces {
         files,
-        most: row.bytes_a_read,
+        most: row.call.bytes_a_read,
         faults: 0,
     })
 }
 
 fn sink_of(alloc: Global, row: &Row) -> Result<MemorySink, Failure> {
     let mut out = MemorySink::new(alloc);
-    for call in &row.failing_puts {
+    for call in &row.call.failing_puts {
         out.fail_call(*call)?;
     }
     Ok(out)
@@ -211,14 +217,14 @@ pub fn run_row(
     rows: &Rows,
     row: &Row,
 ) -> Result<(Outcome, Option<Outcome>), Failure> {
-    let words = match &row.words {
+    let words = match &row.call.words {
         Some(texts) => words_of(alloc, texts)?,
         None => command(alloc, "check")?,
     };
     let mut shelf = shelf_of(alloc, rows, row)?;
     let mut out = sink_of(alloc, row)?;
     let outcome = call(alloc, &words, &mut shelf, &mut out)?;
-    if !row.certified {
+    if !row.expected.certified {
         return Ok((outcome, None));
     }
     let words = command(alloc, "verify")?;

@@ -1,5 +1,5 @@
 // What the text of a transfer comes to.
-ghost use Rattle.std.specs.Prelude.{◌≡◌, ◌≢◌, ◌≤◌, ◌++◌, ℕ, List, [], false, length, map};
+ghost use Rattle.std.specs.Prelude.{◌≡◌, ◌≢◌, ◌≤◌, ◌++◌, ℕ, List, [], false, length};
 ghost use Rattle.std.specs.Prelude.{IfOk, OnOk, Err, IsTrue, IsFalse};
 ghost use Rattle.itf_lines.specs.Feeds.{line_if};
 ghost use Rattle.itf_lines.specs.Views.{line_view};
@@ -14,16 +14,16 @@ ghost use Rattle.table_layout.specs.Values.{area_view, areas_view, layout_view};
 ghost use Rattle.ident_refs.specs.FedRows.{fed_keys};
 ghost use Rattle.ident_refs.specs.KeptViews.{HasRows};
 ghost use Rattle.delivery.specs.Judging.{objects};
-ghost use Rattle.delivery.specs.KeptDrawings.{has_kept_large, is_kept_large, kept_vertices};
-ghost use Rattle.delivery.specs.KeptRows.{all_found, places_of, transfer_so_far};
-ghost use Rattle.delivery.specs.KeptViews.{HasTaken, kept_in, kept_of};
+ghost use Rattle.area_drawings.specs.KeptDrawings.{has_kept_large, is_kept_large, kept_vertices};
+ghost use Rattle.area_drawings.specs.KeptViews.{kept_in};
+ghost use Rattle.delivery.specs.KeptRows.{all_found, transfer_so_far};
+ghost use Rattle.delivery.specs.KeptViews.{HasTaken, found_in, found_of};
 ghost use Rattle.delivery.specs.Pieces.{AreKept, HasText, IsJudged, IsKept};
 
-use super::kept::TableKept;
+use super::found::TableFound;
 use super::lines::Judge;
 use super::rows::{RowJudge, TransferKept};
-use crate::area_limits::AREA_LIMIT;
-use crate::drawings::drawings_from;
+use area_drawings::{AREA_LIMIT, TablePlaces, drawings_from};
 use ident_refs::{KeyFeed, fed_transfer};
 use itf_lines::{Line, from_the_opening, numbers_rise};
 use itf_reader::{Finding, Names, ReadRefusal, Structure, sort_findings, strokes_counted};
@@ -135,11 +135,11 @@ fn count_objects(layout: &Layout, keys: &KeyFeed) -> u128
 }
 
 // How many vertices are kept of the rows of that table, none where there is no such table.
-fn count_vertices(tables: &[TableKept], id: TableId) -> usize
-    ensures { result ≡ length (kept_vertices (kept_in tables.now) id.0) }
+fn count_vertices(places: &[TablePlaces], id: TableId) -> usize
+    ensures { result ≡ length (kept_vertices (kept_in places.now) id.0) }
 {
-    match tables.get(id.0 as usize) {
-        Some(kept) => kept.vertices.len(),
+    match places.get(id.0 as usize) {
+        Some(kept) => kept.vertex_count(),
         None => 0,
     }
 }
@@ -147,17 +147,17 @@ fn count_vertices(tables: &[TableKept], id: TableId) -> usize
 // The table of the area's lines, or its main table, has more than the limit.
 fn is_too_large(kept: &TransferKept, area: &AreaOf) -> bool
     ensures { (l : GivenLayout) (rows : List (ℕ × GivenRow)) → HasRows l kept.now.keys rows
-        → result ≡ is_kept_large (kept_in kept.now.tables.items) (transfer_so_far l rows)
+        → result ≡ is_kept_large (kept_in kept.now.places.items) (transfer_so_far l rows)
         (area_view area.now) }
 {
-    AREA_LIMIT < count_vertices(&kept.tables, area.lines)
+    AREA_LIMIT < count_vertices(&kept.places, area.lines)
         || AREA_LIMIT < kept.keys.row_count(area.main)
 }
 
 // Some area is too large.
 fn has_too_large(kept: &TransferKept, areas: &[AreaOf]) -> bool
     ensures { (l : GivenLayout) (rows : List (ℕ × GivenRow)) → HasRows l kept.now.keys rows
-        → result ≡ has_kept_large (kept_in kept.now.tables.items) (transfer_so_far l rows)
+        → result ≡ has_kept_large (kept_in kept.now.places.items) (transfer_so_far l rows)
         (areas_view areas.now) }
 {
     for area in areas {
@@ -169,25 +169,21 @@ fn has_too_large(kept: &TransferKept, areas: &[AreaOf]) -> bool
 }
 
 // Moves the findings of a table after others; where there are none, without copying them.
-fn take_found(kept: &mut TableKept, all: &mut Vec<Finding>) -> Result<(), Memory>
-    ensures found { OnOk result (findings_of all.new.items ≡ findings_of all.old.items ++
-        (kept_of kept.old).found) }
-    ensures places { OnOk result (places_of (kept_of kept.new) ≡ places_of (kept_of kept.old)) }
+fn take_found(table: &mut TableFound, all: &mut Vec<Finding>) -> Result<(), Memory>
+    ensures { OnOk result (findings_of all.new.items ≡ findings_of all.old.items ++
+        (found_of table.old).found) }
 {
     if all.is_empty() {
-        swap(all, &mut kept.found);
+        swap(all, &mut table.found);
         return Ok(());
     }
-    all.append(&mut kept.found)?;
+    all.append(&mut table.found)?;
     Ok(())
 }
 
 // The findings of all rows, in the order of the tables.
-fn gather(alloc: Global, tables: &mut [TableKept]) -> Result<Vec<Finding>, Memory>
-    ensures found { IfOk result (λ found. findings_of found.items ≡ all_found
-        (kept_in tables.old)) }
-    ensures places { IfOk result (λ found. map places_of (kept_in tables.new) ≡ map places_of
-        (kept_in tables.old)) }
+fn gather(alloc: Global, tables: &mut [TableFound]) -> Result<Vec<Finding>, Memory>
+    ensures { IfOk result (λ found. findings_of found.items ≡ all_found (found_in tables.old)) }
 {
     let mut all = Vec::new(alloc);
     for place in 0..tables.len() {
@@ -197,11 +193,9 @@ fn gather(alloc: Global, tables: &mut [TableKept]) -> Result<Vec<Finding>, Memor
 }
 
 // The findings of the rows, in order.
-fn row_findings(alloc: Global, tables: &mut [TableKept]) -> Result<Vec<Finding>, Memory>
-    ensures found { IfOk result (λ found. findings_of found.items ≡ in_order (all_found
-        (kept_in tables.old))) }
-    ensures places { IfOk result (λ found. map places_of (kept_in tables.new) ≡ map places_of
-        (kept_in tables.old)) }
+fn row_findings(alloc: Global, tables: &mut [TableFound]) -> Result<Vec<Finding>, Memory>
+    ensures { IfOk result (λ found. findings_of found.items ≡ in_order (all_found
+        (found_in tables.old))) }
 {
     let mut found = gather(alloc, tables)?;
     sort_findings(&mut found)?;
@@ -222,14 +216,12 @@ fn key_findings(alloc: Global, keys: KeyFeed) -> Result<Vec<Finding>, Memory>
 // All findings, in the order of the report: those of the rows and those of the keys.
 fn all_findings(
     alloc: Global,
-    tables: &mut [TableKept],
+    tables: &mut [TableFound],
     keys: KeyFeed,
 ) -> Result<Vec<Finding>, Memory>
-    ensures found { (l : GivenLayout) (rows : List (ℕ × GivenRow)) → HasRows l keys.entry rows
+    ensures { (l : GivenLayout) (rows : List (ℕ × GivenRow)) → HasRows l keys.entry rows
         → IfOk result (λ found. findings_of found.items ≡ in_order (in_order (all_found
-        (kept_in tables.old)) ++ in_order (fed_keys l rows))) }
-    ensures places { IfOk result (λ found. map places_of (kept_in tables.new) ≡ map places_of
-        (kept_in tables.old)) }
+        (found_in tables.old)) ++ in_order (fed_keys l rows))) }
 {
     let mut found = row_findings(alloc, tables)?;
     let mut of_keys = key_findings(alloc, keys)?;
@@ -260,7 +252,11 @@ fn judge_rows(alloc: Global, layout: &Layout, kept: TransferKept) -> Result<Judg
     fed_transfer();
     let objects = count_objects(layout, &kept.keys);
     let oversized = has_too_large(&kept, &layout.areas);
-    let TransferKept { mut tables, keys } = kept;
+    let TransferKept {
+        mut tables,
+        places,
+        keys,
+    } = kept;
     let found = all_findings(alloc, &mut tables, keys)?;
     if has_any(&found) {
         return Ok(Judged::Faulty(found));
@@ -268,6 +264,6 @@ fn judge_rows(alloc: Global, layout: &Layout, kept: TransferKept) -> Result<Judg
     if oversized {
         return Ok(Judged::Oversized);
     }
-    let drawings = drawings_from(alloc, layout, &tables)?;
+    let drawings = drawings_from(alloc, layout, &places)?;
     Ok(Judged::Clean(objects, drawings))
 }

@@ -1,5 +1,6 @@
 // How the rows of a transfer are judged, one after another.
-ghost use Rattle.std.specs.Prelude.{◌≡◌, ◌++◌, ◌∷◌, ℕ, List, [], false, IfOk, OnOk, map};
+ghost use Rattle.std.specs.Prelude.{◌≡◌, ◌++◌, ◌∷◌, ℕ, List, [], false, IfOk, IfSome, OnOk, map};
+ghost use Rattle.std.specs.Prelude.{slice_get};
 ghost use Rattle.std.specs.List.{All};
 ghost use Rattle.itf_lines.specs.Views.{line_view};
 ghost use Rattle.itf_reader.specs.Few.{HasFew};
@@ -8,16 +9,19 @@ ghost use Rattle.itf_reader.specs.Layouts.{form_of};
 ghost use Rattle.itf_reader.specs.Machine.{start};
 ghost use Rattle.itf_reader.specs.Names.{form_in};
 ghost use Rattle.itf_reader.specs.RowFeeds.{next, shows, standing};
-ghost use Rattle.table_layout.specs.Layouts.{Table as GivenTable};
 ghost use Rattle.table_layout.specs.Valid.{IsValid};
 ghost use Rattle.table_layout.specs.Values.{layout_view, tables_view};
 ghost use Rattle.ili_grammar.specs.Syntax.{Codes as GivenCodes};
 ghost use Rattle.ili_grammar.specs.Values.{codes_of};
 ghost use Rattle.itf_reader.specs.Views.{row_of};
-ghost use Rattle.delivery.specs.KeptRows.{all_kept, no_rows, with_row_at};
-ghost use Rattle.delivery.specs.KeptViews.{HasTaken, kept_in};
+ghost use Rattle.itf_reader.specs.RowReadings.{cells_view, vertices_view};
+ghost use Rattle.area_drawings.specs.KeptRows.{kept, with_row};
+ghost use Rattle.area_drawings.specs.KeptViews.{kept_in};
+ghost use Rattle.delivery.specs.KeptRows.{changed_at, rows_found, with_found};
+ghost use Rattle.delivery.specs.KeptViews.{AreReadAs, HasTaken, found_in};
 
-use super::kept::TableKept;
+use super::found::TableFound;
+use area_drawings::TablePlaces;
 use ident_refs::KeyFeed;
 use ili_grammar::Codes;
 use itf_lines::Line;
@@ -26,11 +30,12 @@ use ports::Memory;
 use std::alloc::Global;
 use table_layout::{Layout, Table, TableId};
 
-/// What is kept of the rows of a transfer: their findings and places, table by table, and their
-/// keys.
+/// What is kept of the rows of a transfer: table by table their findings and what areas are drawn
+/// from, and their keys.
 #[derive(Drop)]
 pub struct TransferKept<'a> {
-    pub tables: Vec<TableKept<'a>>,
+    pub tables: Vec<TableFound<'a>>,
+    pub places: Vec<TablePlaces>,
     pub keys: KeyFeed<'a>,
 }
 
@@ -43,36 +48,65 @@ pub struct RowJudge<'a> {
     pub kept: TransferKept<'a>,
 }
 
-// The tables of a layout, without rows.
-fn empty_tables<'a>(alloc: Global, tables: &'a [Table]) -> Result<Vec<TableKept<'a>>, Memory>
+// The findings of the tables of a layout, without rows.
+fn empty_tables<'a>(alloc: Global, tables: &'a [Table]) -> Result<Vec<TableFound<'a>>, Memory>
     requires { All HasFew (tables_view tables.now) }
-    ensures { IfOk result (λ kept. (codes : GivenCodes)
-        → kept_in kept.items ≡ map (no_rows codes) (tables_view tables.now)) }
+    ensures { IfOk result (λ fs. (codes : GivenCodes)
+        → found_in fs.items ≡ map (λ t. rows_found codes t []) (tables_view tables.now)) }
 {
-    let mut kept = Vec::with_capacity(alloc, tables.len())?;
+    let mut found = Vec::with_capacity(alloc, tables.len())?;
     for table in tables {
-        kept.push(TableKept::new(alloc, table)?)?;
+        found.push(TableFound::new(alloc, table)?)?;
     }
-    Ok(kept)
+    Ok(found)
 }
 
-// Adds a row to what is kept of the table at that place, if there is one.
-fn add_at(
-    kept: &mut [TableKept],
+// What areas are drawn from, of tables without rows.
+fn empty_places(alloc: Global, tables: &[Table]) -> Result<Vec<TablePlaces>, Memory>
+    ensures { IfOk result (λ ks. (codes : GivenCodes)
+        → kept_in ks.items ≡ map (λ t. kept codes t []) (tables_view tables.now)) }
+{
+    let mut places = Vec::with_capacity(alloc, tables.len())?;
+    for table in tables {
+        places.push(TablePlaces::new(alloc, table)?)?;
+    }
+    Ok(places)
+}
+
+// Reads a row of the table at that place, if there is one.
+fn read_at(
+    tables: &mut [TableFound],
     codes: &Codes,
     place: usize,
     row: &Row,
     values: &mut RowValues,
 ) -> Result<(), Memory>
-    ensures { OnOk result ((tables : List GivenTable) (transfer : List (List GivenRow))
-        → kept_in kept.old ≡ all_kept (codes_of codes.now) tables transfer
-        → kept_in kept.new ≡ all_kept (codes_of codes.now) tables
-        (with_row_at place (row_of row.now) transfer)) }
+    ensures found { OnOk result (found_in tables.new ≡ changed_at place
+        (with_found (codes_of codes.now) (row_of row.now)) (found_in tables.old)) }
+    ensures read { OnOk result (IfSome (slice_get (found_in tables.old) place)
+        (λ f. AreReadAs (codes_of codes.now) f.table (row_of row.now) values.new)) }
 {
-    if kept.len() <= place {
+    if tables.len() <= place {
         return Ok(());
     }
-    kept[place].add_row(codes, row, values)
+    tables[place].add_row(codes, row, values)
+}
+
+// Keeps what areas are drawn from of a row that was read, one of the table at that place.
+fn keep_at(
+    places: &mut [TablePlaces],
+    place: usize,
+    line: u32,
+    values: &mut RowValues,
+) -> Result<(), Memory>
+    ensures { OnOk result (kept_in places.new ≡ changed_at place
+        (with_row line (cells_view values.old.cells.items)
+        (vertices_view values.old.vertices.items)) (kept_in places.old)) }
+{
+    if places.len() <= place {
+        return Ok(());
+    }
+    places[place].add_row(line, values)
 }
 
 impl<'a> RowJudge<'a> {
@@ -84,11 +118,16 @@ impl<'a> RowJudge<'a> {
         ensures none { IfOk result (λ j. HasTaken (layout_view layout.now) [] j.kept) }
     {
         let tables = empty_tables(alloc, &layout.tables)?;
+        let places = empty_places(alloc, &layout.tables)?;
         let keys = KeyFeed::new(alloc, layout)?;
         Ok(RowJudge {
             feed: RowFeed::new(alloc),
             values: RowValues::new(alloc),
-            kept: TransferKept { tables, keys },
+            kept: TransferKept {
+                tables,
+                places,
+                keys,
+            },
         })
     }
 
@@ -102,8 +141,9 @@ impl<'a> RowJudge<'a> {
     {
         let row = self.feed.closed();
         let place = table.0 as usize;
-        let tables = &mut self.kept.tables;
-        add_at(tables, &layout.codes, place, row, &mut self.values)?;
+        let values = &mut self.values;
+        read_at(&mut self.kept.tables, &layout.codes, place, row, values)?;
+        keep_at(&mut self.kept.places, place, row.line, values)?;
         self.kept.keys.add_row(table, row)
     }
 

@@ -21,8 +21,10 @@ abbrev pub AreWide : Plan → (ℕ → List Bay) → Type 0
 AreWide d bays =
     (i : ℕ) → i < length d.curves → (curve d i).kind ≡ kind.HalfArc → IsSome (later_bays (bays i))
 
--- ---- settled, in the words of the edge list; that its edges meet in ends alone, and that corners
--- of tubes are their own, is part of a run with tubes
+-- ---- settled, in the words of the edge list
+-- No end of an edge lies in a triangle of a tube except as a corner of it, and where a straight
+-- joins the ends of a half arc, the inner corners of its tube stand over the chord. That the edges
+-- meet in ends alone, and that corners of tubes are their own, is part of a run with tubes.
 pub record IsSettledRun (d : Plan) (bays : ℕ → List Bay) (m : ℕ) (E : ℕ → Edge) : Type 0 where
   -- No end of an edge lies in a triangle of a tube except as a corner of it.
   pub enter : (e : ℕ) → e < m → (p : Point) → IsEnd (E e) p → (i : ℕ) → i < length d.curves

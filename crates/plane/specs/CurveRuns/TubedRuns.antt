@@ -44,15 +44,17 @@ abbrev pub chain : ℕ → Part → Point → List Point → List Owned
 chain i part p [] = []
 chain i part p (q ∷ qs) = record { from = p; to = q; curve = i; part = part } ∷ chain i part q qs
 
--- The corners of a tube after its first one: v1 to vK, and o1 to oK.
+-- v1 to vK, the inner corners of a tube after its first one.
 abbrev pub inner_corners : List Bay → List Point
 inner_corners [] = []
 inner_corners (b ∷ bs) = b.inner ∷ inner_corners bs
 
+-- o1 to oK, the outer corners of a tube after its first one.
 abbrev pub outer_corners : List Bay → List Point
 outer_corners [] = []
 outer_corners (b ∷ bs) = b.outer ∷ outer_corners bs
 
+-- The edges of curve i: a straight itself, or the two chains of a half arc's tube.
 abbrev pub edges_of : ℕ → CurveKind → Curve → List Bay → List Owned
 edges_of i kind.Straight c bs = chain i whole c.from (c.to ∷ [])
 edges_of i kind.HalfArc c bs =
@@ -64,6 +66,7 @@ abbrev pub edge_list : (ℕ → List Bay) → ℕ → List Curve → List Owned
 edge_list bays i [] = []
 edge_list bays i (c ∷ cs) = edges_of i c.kind c (bays i) ++ edge_list bays (suc i) cs
 
+-- an edge beyond the last one; it is not meant
 abbrev pub no_edge : Owned
 no_edge =
     record {
@@ -77,6 +80,7 @@ no_edge =
 abbrev pub owned : Plan → (ℕ → List Bay) → ℕ → Owned
 owned d bays e = get_or (edge_list bays 0 d.curves) e no_edge
 
+-- the curve to which an edge belongs
 abbrev pub owner : Plan → (ℕ → List Bay) → ℕ → Curve
 owner d bays e = curve d (owned d bays e).curve
 
@@ -84,6 +88,7 @@ owner d bays e = curve d (owned d bays e).curve
 abbrev pub Connects : Edge → Point → Point → Type 0
 Connects e p q = ((e.low ≡ p) × (e.high ≡ q)) ⊎ ((e.low ≡ q) × (e.high ≡ p))
 
+-- The edge belongs to a tube.
 abbrev pub IsOfTube : Part → Type 0
 IsOfTube whole = ⊥
 IsOfTube inner = Unit {0}
@@ -137,6 +142,8 @@ pub record FacesTube (d : Plan) (bays : ℕ → List Bay) (E : ℕ → Edge) (e 
 abbrev pub runs_on : Curve → Edge → Bool
 runs_on c e = is_positive (along (arc c) (point e.high) -ℤ along (arc c) (point e.low))
 
+-- The half-edge of edge e that faces the tube from within: by whether the third point is left of
+-- the chord, which chain it is, and whether the edge runs on.
 abbrev pub side_within : Bool → Part → Bool → ℕ → Half
 side_within false inner true e = over e
 side_within false inner false e = under e
@@ -148,6 +155,7 @@ side_within true outer true e = over e
 side_within true outer false e = under e
 side_within left whole on e = over e
 
+-- The half-edge of an edge that faces its tube from within.
 abbrev pub half_within : Plan → (ℕ → List Bay) → (ℕ → Edge) → ℕ → Half
 half_within d bays E e =
     side_within (third_is_left (owner d bays e)) (owned d bays e).part

@@ -8,6 +8,7 @@ use Rattle.plane.specs.Forms.Vectors.{Vector, Place, Same, side, sweep, HitsEdge
 use Rattle.plane.specs.Faces.Labels.{Labels, label_at}
 use Rattle.plane.specs.Faces.Replays.{Replay, reach}
 
+-- above 0
 abbrev pub is_positive : ℤ → Bool
 is_positive (pos zero) = false
 is_positive (pos (suc n)) = true
@@ -30,6 +31,7 @@ pub record Sector : Type 0 where
   pub strip : ℕ
   pub index : ℕ
 
+-- the piece of a cell in strip k above i edges
 abbrev pub position : ℕ → ℕ → Sector
 position k i = record { strip = k; index = i }
 

@@ -9,10 +9,12 @@ use Rattle.plane.specs.Faces.Cells.{label_of, Sector, IsSector, IsBorder}
 use Rattle.plane.specs.Faces.Halves.{Half, under, over, edge_of, twin, mark, Beside}
 
 -- ---- rotation
+-- the half-edges above these edges, in their order
 abbrev pub starting_halves : List ℕ → List Half
 starting_halves [] = []
 starting_halves (e ∷ es) = over e ∷ starting_halves es
 
+-- the half-edges below these edges, in the opposite order
 abbrev pub ending_halves : List ℕ → List Half
 ending_halves [] = []
 ending_halves (e ∷ es) = ending_halves es ++ (under e ∷ [])
@@ -22,10 +24,12 @@ ending_halves (e ∷ es) = ending_halves es ++ (under e ∷ [])
 abbrev pub fan : Step → List Half
 fan s = starting_halves s.starting ++ ending_halves s.ending
 
+-- x is the first element
 abbrev pub IsFirst : {X : Type 0} → X → List X → Type 0
 IsFirst x [] = ⊥
 IsFirst x (y ∷ ys) = x ≡ y
 
+-- x is the last element
 abbrev pub IsLast : {X : Type 0} → X → List X → Type 0
 IsLast x [] = ⊥
 IsLast x (y ∷ []) = x ≡ y
@@ -36,7 +40,7 @@ abbrev pub Follows : {X : Type 0} → List X → X → X → Type 0
 Follows [] x y = ⊥
 Follows (z ∷ zs) x y = ((x ≡ z) × IsFirst y zs) ⊎ Follows zs x y
 
--- the same, and the first one comes after the last one
+-- y follows x in the list, or x is its last element and y its first
 abbrev pub FollowsRound : {X : Type 0} → List X → X → X → Type 0
 FollowsRound xs x y = Follows xs x y ⊎ (IsLast x xs × IsFirst y xs)
 

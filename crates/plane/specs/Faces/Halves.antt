@@ -12,10 +12,12 @@ pub data Half : Type 0 where
   under : ℕ → Half
   over : ℕ → Half
 
+-- the edge of a half-edge
 abbrev pub edge_of : Half → ℕ
 edge_of (under e) = e
 edge_of (over e) = e
 
+-- the other half-edge of its edge
 abbrev pub twin : Half → Half
 twin (under e) = over e
 twin (over e) = under e
@@ -47,6 +49,7 @@ abbrev pub IsMatched : Replay → Labels → Type 0
 IsMatched r a = (k : ℕ) → k < r.steps → MatchesAt a (r.step k)
 
 -- ---- numbers of half-edges
+-- the number of a half-edge
 abbrev pub number : Half → ℕ
 number (under e) = e + e
 number (over e) = suc (e + e)
@@ -56,6 +59,7 @@ abbrev pub shifted : Half → Half
 shifted (under e) = under (suc e)
 shifted (over e) = over (suc e)
 
+-- the half-edge of a number
 abbrev pub half_of : ℕ → Half
 half_of zero = under 0
 half_of (suc zero) = over 0

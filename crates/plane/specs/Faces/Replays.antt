@@ -15,6 +15,7 @@ pub record Replay : Type 0 where
   pub step : ℕ → Step
   pub list : ℕ → List ℕ
 
+-- a step beyond the last one; it is not meant
 abbrev pub no_step : Step
 no_step =
     record {

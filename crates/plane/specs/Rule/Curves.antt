@@ -18,10 +18,12 @@ pub record HitsStraight (c : Curve) (p q : Vector) : Type 0 where
   pub of_segment : IsOnStraight p q z
   pub of_curve : IsOnStraight (point c.from) (point c.to) z
 
+-- The place is on the curve, by the curve's kind.
 abbrev pub IsOnKind : CurveKind → Curve → Vector → Type 0
 IsOnKind kind.Straight c z = IsOnStraight (point c.from) (point c.to) z
 IsOnKind kind.HalfArc c z = IsOnHalfArc (arc c) z
 
+-- The segment from p to q hits the curve, by the curve's kind.
 abbrev pub HitsKind : CurveKind → Curve → Vector → Vector → Type 0
 HitsKind kind.Straight c p q = HitsStraight c p q
 HitsKind kind.HalfArc c p q = HitsHalfArc (arc c) p q

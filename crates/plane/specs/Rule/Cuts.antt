@@ -12,6 +12,7 @@ use Rattle.plane.specs.Rule.CrossedCurves.{CrossesCurve, CrossesHalfArc}
 abbrev pub course : Curve → Edge
 course c = record { low = c.from; high = c.to }
 
+-- The segment from p to q crosses curve i, by the curve's kind.
 abbrev pub CrossesKind : CurveKind → Plan → ℕ → Vector → Vector → Type 0
 CrossesKind kind.Straight d i p q = CrossesCurve d (course (curve d i)) i p q
 CrossesKind kind.HalfArc d i p q = CrossesHalfArc d i p q
@@ -31,6 +32,6 @@ pub record IsCut (d : Plan) (i : ℕ) : Type 0 where
   pub crossing : CrossesOne d i p q
   pub one : Joined d p q ⊎ (IsOuter d p × IsOuter d q)
 
--- No curve has.
+-- No curve has one face on both sides.
 abbrev pub HasNoCut : Plan → Type 0
 HasNoCut d = (i : ℕ) → i < length d.curves → IsCut d i → ⊥

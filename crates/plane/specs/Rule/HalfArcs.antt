@@ -12,36 +12,42 @@ pub record HalfArc : Type 0 where
   pub to : Point
   pub third : Point
 
--- The other end and the third point, seen from `from`.
+-- The x of the other end, seen from `from`.
 abbrev pub wide : HalfArc → ℤ
 wide h = h.to.x -ℤ h.from.x
 
+-- The y of the other end, seen from `from`.
 abbrev pub tall : HalfArc → ℤ
 tall h = h.to.y -ℤ h.from.y
 
+-- The x of the third point, seen from `from`.
 abbrev pub third_x : HalfArc → ℤ
 third_x h = h.third.x -ℤ h.from.x
 
+-- The y of the third point, seen from `from`.
 abbrev pub third_y : HalfArc → ℤ
 third_y h = h.third.y -ℤ h.from.y
 
--- v seen from `from`, times n
+-- The x of v seen from `from`, times n.
 abbrev pub off_x : HalfArc → Vector → ℤ
 off_x h v = v.x -ℤ (h.from.x *ℤ v.n)
 
+-- The y of v seen from `from`, times n.
 abbrev pub off_y : HalfArc → Vector → ℤ
 off_y h v = v.y -ℤ (h.from.y *ℤ v.n)
 
--- D, A and B of the circle: seen from `from`, its centre is (A / 2 D, B / 2 D). D is 0 where the
--- three points are collinear.
+-- D of the circle: seen from `from`, its centre is (A / 2 D, B / 2 D) with A and B as below. D is 0
+-- where the three points are collinear.
 unfoldable pub bend : HalfArc → ℤ
 bend h = (wide h *ℤ third_y h) -ℤ (tall h *ℤ third_x h)
 
+-- A of the circle.
 unfoldable pub circle_x : HalfArc → ℤ
 circle_x h =
     (((wide h *ℤ wide h) +ℤ (tall h *ℤ tall h)) *ℤ third_y h)
     -ℤ (((third_x h *ℤ third_x h) +ℤ (third_y h *ℤ third_y h)) *ℤ tall h)
 
+-- B of the circle.
 unfoldable pub circle_y : HalfArc → ℤ
 circle_y h =
     (wide h *ℤ ((third_x h *ℤ third_x h) +ℤ (third_y h *ℤ third_y h)))

@@ -18,6 +18,7 @@ pub record Move : Type 0 where
 abbrev pub no_move : Move
 no_move = record { at = record { x = pos 0; y = pos 0 }; position = 0; ending = 0; starting = [] }
 
+-- the step that an event makes of a live list
 abbrev pub step_of : List ℕ → Move → Step
 step_of now v = step_at v.at now v.position v.ending v.starting
 
@@ -26,7 +27,7 @@ abbrev pub steps_from : List ℕ → List Move → List Step
 steps_from now [] = []
 steps_from now (v ∷ vs) = step_of now v ∷ steps_from (after (step_of now v)) vs
 
--- the live list after them
+-- the live list after these moves
 abbrev pub live_from : List ℕ → List Move → List ℕ
 live_from now [] = now
 live_from now (v ∷ vs) = live_from (after (step_of now v)) vs

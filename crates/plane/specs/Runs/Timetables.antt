@@ -39,11 +39,13 @@ pub record IsTimetable (m : ℕ) (E : ℕ → Edge) (table : List Timed) : Type 
 abbrev pub move_at : Timed → ℕ → Move
 move_at t p = record { at = t.at; position = p; ending = length t.ending; starting = t.starting }
 
+-- the moves of a whole timetable at these positions
 abbrev pub moves_at : List Timed → List ℕ → List Move
 moves_at [] positions = []
 moves_at (t ∷ table) [] = []
 moves_at (t ∷ table) (p ∷ positions) = move_at t p ∷ moves_at table positions
 
+-- an event beyond the last one; it is not meant
 abbrev pub no_event : Timed
 no_event = record { at = record { x = pos 0; y = pos 0 }; ending = []; starting = [] }
 

@@ -63,6 +63,7 @@ pub record IsBay (h : HalfArc) (v : Point) (b : Bay) : Type 0 where
   pub on : along h (point b.outer) <ℤ along h (point b.inner)
   pub over : pos 0 <ℤ outward h v b.inner b.outer
 
+-- the bays follow each other, from the inner point v on
 abbrev pub AreBays : HalfArc → Point → List Bay → Type 0
 AreBays h v [] = Unit {0}
 AreBays h v (b ∷ rest) = IsBay h v b × AreBays h b.inner rest

@@ -12,6 +12,7 @@ pub use Rattle.plane.specs.Tubes.Bays.{Bay}
 abbrev pub arrow : Point → Point → Edge
 arrow p q = record { low = p; high = q }
 
+-- the arrow the other way
 abbrev pub back : Edge → Edge
 back e = arrow e.high e.low
 
@@ -34,6 +35,7 @@ abbrev pub total : {X : Type 0} → (X → ℤ) → List X → ℤ
 total f [] = pos 0
 total f (x ∷ xs) = f x +ℤ total f xs
 
+-- a triangle of three points
 pub record Tile : Type 0 where
   pub a : Point
   pub b : Point
@@ -57,6 +59,7 @@ pub record IsSteep (w : ℤ) (t : Tile) : Type 0 where
   pub bc : sweep w (point t.b) ≡ sweep w (point t.c) → ⊥
   pub ca : sweep w (point t.c) ≡ sweep w (point t.a) → ⊥
 
+-- the mean of three points with these weights
 abbrev pub weighed : ℤ → Point → ℤ → Point → ℤ → Point → Vector
 weighed r a s b t c = record {
   x = ((r *ℤ a.x) +ℤ (s *ℤ b.x)) +ℤ (t *ℤ c.x);
@@ -90,6 +93,7 @@ strips p u (k ∷ ks) =
     record { a = u; b = p; c = k.outer } ∷ record { a = p; b = k.inner; c = k.outer }
     ∷ strips k.inner k.outer ks
 
+-- the triangles of a tube, from its first point on
 abbrev pub tiles : Point → List Bay → List Tile
 tiles a [] = []
 tiles a (k ∷ ks) = record { a = a; b = k.inner; c = k.outer } ∷ strips k.inner k.outer ks

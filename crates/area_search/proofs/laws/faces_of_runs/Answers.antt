@@ -1,4 +1,4 @@
-use Rattle.area_search.proofs.RunFaces.{are_faces}
+use Rattle.area_search.proofs.SettledLemmas.RunFaces.{are_faces}
 use Rattle.area_search.proofs.laws.faces_of_runs.Goals as goal
 
 pub returns : goal.returns

@@ -1,6 +1,6 @@
 use Rattle.std.proofs.Common.{◌+◌, ap, sym, ◌∙◌, subst}
-use Rattle.area_search.specs.CurvePoints.{AreMarkedTo}
-use Rattle.area_search.proofs.MarkedNumbers.{number_more, number_passed, refuted}
+use Rattle.area_search.specs.Unsettled.CurvePoints.{AreMarkedTo}
+use Rattle.area_search.proofs.UnsettledLemmas.MarkedNumbers.{number_more, number_passed, refuted}
 use Rattle.area_search.proofs.numbers.numbers_with.Goals as goal
 use Rattle.area_search.proofs.numbers.numbers_with.Goals.{then-is_marked+in_ok-push, else-is_marked}
 

@@ -1,4 +1,4 @@
-use Rattle.area_search.specs.CurvePoints.{AreMarkedTo}
+use Rattle.area_search.specs.Unsettled.CurvePoints.{AreMarkedTo}
 use Rattle.area_search.proofs.numbers.numbers_with.Given as goal
 
 abbrev pub invariant-loop-number : goal.invariant-loop-number

@@ -3,7 +3,7 @@ use Rattle.plane.specs.Rule.Plans.{plan}
 use Rattle.near_pairs.specs.Boxes.{IsOneMarked}
 use Rattle.meetings.specs.CurvePairs.{IsArcPair}
 use Rattle.area_search.specs.Answers.{IsAnswer, meeting}
-use Rattle.area_search.proofs.LevelSearch.{none_of_all}
+use Rattle.area_search.proofs.LevelLemmas.LevelSearch.{none_of_all}
 use Rattle.area_search.proofs.unsettled.answer_clear.Goals as goal
 
 pub arc_meeting_among-requires-clause-marked : goal.arc_meeting_among-requires-clause-marked

@@ -2,7 +2,7 @@ use Rattle.std.proofs.Common.{sym, subst}
 use Rattle.plane.specs.Rule.Plans.{plan}
 use Rattle.meetings.specs.StraightRuns.{IsStraightRun}
 use Rattle.area_search.specs.Answers.{IsAnswer, meeting}
-use Rattle.area_search.proofs.LevelSearch.{straights_clear}
+use Rattle.area_search.proofs.LevelLemmas.LevelSearch.{straights_clear}
 use Rattle.area_search.proofs.unsettled.answer_unsettled.Goals as goal
 
 pub answer_clear-requires-clause-straights : goal.answer_clear-requires-clause-straights

@@ -1,15 +1,13 @@
-use Rattle.std.proofs.Common.{◌≤◌, ℕ, List, take, Ok}
+use Rattle.std.proofs.Common.{take}
 use Rattle.std.specs.List.{flat_map}
-use Rattle.ports.specs.Faults.{CountsStay}
-use Rattle.certificate.specs.Appending.{Writes, NeedsRoom}
+use Rattle.file_pages.specs.Writing.{sight, Wrote}
 use Rattle.certificate.specs.Spelling.{event_line}
 use Rattle.certificate.proofs.writing.put_events.Given as goal
 
 abbrev pub invariant-loop-position : goal.invariant-loop-position
-invariant-loop-position g l = record {
-  written : Writes l.name (flat_map event_line (take l.position-index l.positions)) (g.S.Shelf.held l.fn.shelf) l.fn.page (Ok tt) (g.S.Shelf.held l.shelf) l.page;
-  room : NeedsRoom (flat_map event_line (take l.position-index l.positions)) (g.S.Shelf.space l.fn.shelf l.name) l.fn.page (Ok tt) (g.S.Shelf.space l.shelf l.name) l.page;
-  reads : (q : List ℕ) → g.S.Shelf.read_faults l.fn.shelf q ≤ g.S.Shelf.read_faults l.shelf q;
-  writes : g.S.Shelf.write_faults l.fn.shelf ≤ g.S.Shelf.write_faults l.shelf;
-  stay : CountsStay (g.S.Shelf.read_faults l.fn.shelf) (g.S.Shelf.write_faults l.fn.shelf) (g.S.Shelf.read_faults l.shelf) (g.S.Shelf.write_faults l.shelf);
-}
+invariant-loop-position g l =
+    Wrote l.name (flat_map event_line (take l.position-index l.positions))
+    (sight (g.S.Shelf.held l.fn.shelf) (g.S.Shelf.space l.fn.shelf l.name)
+    (g.S.Shelf.read_faults l.fn.shelf) (g.S.Shelf.write_faults l.fn.shelf)) l.fn.page
+    (sight (g.S.Shelf.held l.shelf) (g.S.Shelf.space l.shelf l.name)
+    (g.S.Shelf.read_faults l.shelf) (g.S.Shelf.write_faults l.shelf)) l.page

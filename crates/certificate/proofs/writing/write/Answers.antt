@@ -1,41 +1,41 @@
-use Rattle.std.proofs.Common.{[], List, ℕ, subst, arith}
-use Rattle.std.proofs.lemmas.List.{append-nil}
-use Rattle.std.proofs.lemmas.Result.{err_from_is_err_and}
+use Rattle.std.proofs.Common.{arith}
+use Rattle.file_pages.specs.Writing.{sight, Appends}
+use Rattle.file_pages.proofs.Steps.{appends}
 use Rattle.certificate.specs.Spelling.{spelling, views}
-use Rattle.certificate.specs.Appending.{Outcome}
-use Rattle.certificate.proofs.Files.{writes_then}
-use Rattle.certificate.proofs.Whole.{begin, is_done, is_failed, gained_stays, outcome_stays}
-use Rattle.certificate.proofs.Rooms.{needs_all, needs_all_failed}
 use Rattle.certificate.proofs.writing.write.Given as given
 use Rattle.certificate.proofs.writing.write.Goals as goal
 
-pub returns-in_err-put_text-clause-failed : goal.returns-in_err-put_text-clause-failed
-returns-in_err-put_text-clause-failed g c =
-    let p = err_from_is_err_and c.from_residual.result c.from_residual.ensures.1 in
-    rw p.1 (c.in_err-put_text.ensures.written (g.S.Shelf.held c.args.shelf.now) [] (begin (g.S.Shelf.held c.args.shelf.now) c.args.name.now c.new-page.result c.new-page.ensures))
-
-pub returns-in_err-put_text-clause-others : goal.returns-in_err-put_text-clause-others
-returns-in_err-put_text-clause-others g c =
-    gained_stays (g.S.Shelf.held c.args.shelf.now) c.args.name.now (spelling (views c.args.all.now)) (g.S.Shelf.held c.put_text.new.shelf) (c.in_err-put_text.ensures.written (g.S.Shelf.held c.args.shelf.now) [] (begin (g.S.Shelf.held c.args.shelf.now) c.args.name.now c.new-page.result c.new-page.ensures))
-
-ended : (g : given.Over) (c : goal.After-flush g) → Outcome c.flush.result (g.S.Shelf.held c.args.shelf.now) c.args.name.now (spelling (views c.args.all.now)) (g.S.Shelf.held c.flush.new.shelf) c.flush.new.page
-ended g c =
-    let h = writes_then c.args.name.now (spelling (views c.args.all.now)) [] (g.S.Shelf.held c.args.shelf.now) c.new-page.result (g.S.Shelf.held c.put_text.new.shelf) c.put_text.new.page c.flush.result (g.S.Shelf.held c.flush.new.shelf) c.flush.new.page c.in_ok-put_text.ensures.written c.flush.ensures.written in
-    subst (λ (t : List ℕ). Outcome c.flush.result (g.S.Shelf.held c.args.shelf.now) c.args.name.now t (g.S.Shelf.held c.flush.new.shelf) c.flush.new.page) (append-nil (spelling (views c.args.all.now))) (h (g.S.Shelf.held c.args.shelf.now) [] (begin (g.S.Shelf.held c.args.shelf.now) c.args.name.now c.new-page.result c.new-page.ensures))
+whole : (g : given.Over) (c : goal.After-finish g)
+    → Appends c.args.name.now (spelling (views c.args.all.now))
+    (sight (g.S.Shelf.held c.args.shelf.now) (g.S.Shelf.space c.args.shelf.now c.args.name.now)
+    (g.S.Shelf.read_faults c.args.shelf.now) (g.S.Shelf.write_faults c.args.shelf.now))
+    c.finish.result
+    (sight (g.S.Shelf.held c.finish.new.shelf) (g.S.Shelf.space c.finish.new.shelf c.args.name.now)
+    (g.S.Shelf.read_faults c.finish.new.shelf) (g.S.Shelf.write_faults c.finish.new.shelf))
+whole g c =
+    appends c.finish.result c.new-page.ensures.failed c.new-page.ensures.waits (omega arith)
+    c.put_text.ensures c.finish.ensures
 
 pub returns-clause-done : goal.returns-clause-done
-returns-clause-done g c = is_done c.flush.result (g.S.Shelf.held c.args.shelf.now) c.args.name.now (spelling (views c.args.all.now)) (g.S.Shelf.held c.flush.new.shelf) c.flush.new.page (omega arith) c.flush.ensures.empty (ended g c)
+returns-clause-done g c = (whole g c).done
 
 pub returns-clause-failed : goal.returns-clause-failed
-returns-clause-failed g c = is_failed c.flush.result (g.S.Shelf.held c.args.shelf.now) c.args.name.now (spelling (views c.args.all.now)) (g.S.Shelf.held c.flush.new.shelf) c.flush.new.page (ended g c)
+returns-clause-failed g c = (whole g c).failed
 
 pub returns-clause-others : goal.returns-clause-others
-returns-clause-others g c = outcome_stays c.flush.result (g.S.Shelf.held c.args.shelf.now) c.args.name.now (spelling (views c.args.all.now)) (g.S.Shelf.held c.flush.new.shelf) c.flush.new.page (omega arith) c.flush.ensures.empty (ended g c)
+returns-clause-others g c = (whole g c).others
 
-pub returns-in_err-put_text-clause-answers : goal.returns-in_err-put_text-clause-answers
-returns-in_err-put_text-clause-answers g c = λ room.
-    let p = err_from_is_err_and c.from_residual.result c.from_residual.ensures.1 in
-    rw p.1 (needs_all_failed (spelling (views c.args.all.now)) (g.S.Shelf.space c.args.shelf.now c.args.name.now) c.new-page.result c.in_err-put_text.field-0.0 p.0 (g.S.Shelf.space c.put_text.new.shelf c.args.name.now) c.put_text.new.page c.new-page.ensures c.in_err-put_text.ensures.room room)
+pub returns-clause-reads : goal.returns-clause-reads
+returns-clause-reads g c = (whole g c).reads
+
+pub returns-clause-writes : goal.returns-clause-writes
+returns-clause-writes g c = (whole g c).writes
+
+pub returns-clause-cause : goal.returns-clause-cause
+returns-clause-cause g c = (whole g c).cause
 
 pub returns-clause-answers : goal.returns-clause-answers
-returns-clause-answers g c = λ room. needs_all (spelling (views c.args.all.now)) (g.S.Shelf.space c.args.shelf.now c.args.name.now) c.new-page.result (g.S.Shelf.space c.put_text.new.shelf c.args.name.now) c.put_text.new.page c.flush.result (g.S.Shelf.space c.flush.new.shelf c.args.name.now) c.flush.new.page c.new-page.ensures c.in_ok-put_text.ensures.room c.flush.ensures.room room
+returns-clause-answers g c = (whole g c).answers
+
+pub returns-clause-uncounted : goal.returns-clause-uncounted
+returns-clause-uncounted g c = (whole g c).uncounted

@@ -5,7 +5,7 @@ use Rattle.std.specs.Slice.Iter.{iter_rest}
 use Rattle.certificate.specs.Spelling.{Fits, views}
 use Rattle.table_layout.specs.Values.{areas_view, layout_view}
 use Rattle.reports.specs.AreaKinds.{plans}
-use Rattle.delivery.specs.AreaLimits.{IsSmallPlan}
+use Rattle.area_drawings.specs.AreaLimits.{IsSmallPlan}
 use Rattle.reports.specs.AreaNames.{HasTitle}
 use Rattle.delivery.proofs.AnswerLemmas.{GoesOn}
 use Rattle.delivery.proofs.area_answers.answers_of.Given as goal

@@ -1,18 +1,17 @@
 use Rattle.std.proofs.Common.{ℕ, List, [], ◌∷◌, ◌++◌, refl, inr, subst}
 use Rattle.ports.specs.Faults.{ReadRose}
 use Rattle.table_layout.specs.Values.{layout_view}
-use Rattle.commands.specs.Commands.{verify}
-use Rattle.commands.specs.CommandViews.{names_of}
-use Rattle.delivery.specs.FiledTexts.{IsVerified}
+use Rattle.commands.specs.Commands.{from_file, verifies}
 use Rattle.commands.specs.Gathering.{texts, ReadsAll}
-use Rattle.reports.specs.OutcomeViews.{outcome_of}
 use Rattle.commands.specs.declared.files.File.TheVariants.{Certificate}
+use Rattle.reports.specs.OutcomeViews.{outcome_of}
 use Rattle.commands.proofs.Results.{if_ok}
+use Rattle.delivery.specs.FiledTexts.{IsVerified}
 use Rattle.delivery.proofs.Steps.{not_read_ends}
 use Rattle.delivery.proofs.deciding.decide_filed.Goals as goal
 
 pub returns-in-Ok-clause-outcome : goal.returns-in-Ok-clause-outcome
-returns-in-Ok-clause-outcome g c text j =
+returns-in-Ok-clause-outcome g c text source j =
     if_ok _ _ c.verified_by.result
     (λ o h. record {
       gathered = texts (layout_view c.args.layout.now) (text ∷ c.in-Ok.filed.items ∷ []);
@@ -22,11 +21,12 @@ returns-in-Ok-clause-outcome g c text j =
     (c.verified_by.ensures text j)
 
 pub returns-in-Err-clause-outcome : goal.returns-in-Err-clause-outcome
-returns-in-Err-clause-outcome g c text j =
+returns-in-Err-clause-outcome g c text source j =
     let held = g.S.Shelf.held c.args.shelf.now in
     let counted : List ℕ → Type 0 = ReadRose (g.S.Shelf.read_faults c.args.shelf.now) (g.S.Shelf.read_faults c.read_file.new.shelf) in
+    let l = layout_view c.args.layout.now in
     if_ok _ _ c.not_read.result
     (λ o h.
-    let e = not_read_ends _ held counted Certificate c.args.names.now.certificate.now c.in-Err.refusal (outcome_of o) (λ q filed. ReadsAll held counted (layout_view c.args.layout.now) ((text ∷ []) ++ (filed ∷ [])) [] q) c.in-Err.ensures.cause c.in-Err.ensures.long h in
-    record { gathered = e.0; reads = e.1; amounts = e.2 (verify (names_of c.args.names.now)) })
+    let e = not_read_ends _ held counted Certificate c.args.name.now c.in-Err.refusal (outcome_of o) (λ q filed. ReadsAll held counted l ((text ∷ []) ++ (filed ∷ [])) [] q) c.in-Err.ensures.cause c.in-Err.ensures.long h in
+    record { gathered = e.0; reads = e.1; amounts = e.2 (verifies source (from_file Certificate c.args.name.now)) })
     c.not_read.ensures

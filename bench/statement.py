@@ -1,0 +1,481 @@
+#!/usr/bin/env python3
+"""Writes docs/STATEMENT.md: which definitions a reader of the contract of `delivery::run` has to
+believe, file by file, each with the sentence that stands above it in specs/.
+
+It finds `run` in the code of `delivery`, takes the names in its clauses, and follows names from
+definition to definition through the folders specs/ of all crates, by the `use` lines of each file.
+No file is named here. The parts of the page are told apart by the labels of the clauses and by three
+names, `IsArea`, `ArePartedAreas` and `HasCause`. What std and the kit's crates define is not followed,
+nor the types of the code, which the page names. A name that some binder hides is followed too, where
+the file knows it, so the list may be a little too long; it is never too short.
+
+usage: statement.py            writes the page
+       statement.py --check    says how the page differs from what the sources say
+
+The status of `--check` is 1 where it differs. That of both is 1 where a definition has no sentence: it
+is then to be written in specs/, in the line above the definition.
+"""
+import collections
+import os
+import re
+import sys
+
+TOP = os.path.dirname(os.path.dirname(os.path.abspath(__file__)))
+PAGE = os.path.join(TOP, "docs", "STATEMENT.md")
+
+WORD = re.compile(r"[A-Za-z_][\w']*(?:\.[A-Za-z_][\w']*)*")
+HEAD = re.compile(r"(?:(?:unfoldable|abbrev|opaque|pub|data|record) )+([^\s:({]+)")
+EQUATION = re.compile(r"([A-Za-z_][\w']*)\b")
+CASES = re.compile(r"  (?:pub )?([A-Za-z_][\w']*(?: [A-Za-z_][\w']*)*) :")
+FIELD = re.compile(r"(?<=[{;])\s*[a-z_]\w*(?= =)|^\s+[a-z_]\w*(?= =)|\bpub [a-z_]\w*(?= :)")
+NAMES = re.compile(r"(?:pub )?use ([\w.\-]+)\.\{(.*)\}")
+MODULE = re.compile(r"(?:pub )?use ([\w.]+)(?: as (\w+))?$")
+CLAUSE = re.compile(r"    ensures (\w*) ?\{(.*)")
+
+# The parts of the page: how the claim on areas is cut in two, the answers whose causes come next, as
+# far as they have one, and the clauses of `run` of each part.
+AREA = [("The rule", "IsArea", "What a drawing has to be."),
+        ("The drawing", "ArePartedAreas", "What the drawing of an AREA is, by the layout and the rows.")]
+STATUSES = ["Usage", "ModelRefused", "Accepted", "Rejected", "Undecided", "NotProved", "OverLimit",
+            "ReadFault"]
+CLAIM = "Each AREA is a partition, and no curve has one face on both sides"
+CLAUSES = [("What each answer means", ["cause", "decided", "valid"]),
+           ("What is written", ["certified", "effects", "exact", "memory"]),
+           ("Counts of faults",
+            ["write", "counts", "complete", "served", "accepts", "reads", "writes",
+             "faults"])]
+
+HEAD_OF_PAGE = """# What the contract of `run` rests on
+
+`bench/statement.py` writes this page from the sources; do not change it by hand.
+
+`delivery::run` is the call that the program makes, and its contract is what is proved of the program. \
+The prover holds the code to the contract, so neither code nor proofs have to be believed. What has \
+to be believed is that the definitions which the contract names say what they ought to say. These are \
+all of them, those that they rest on included: **{definitions} definitions with {lines} lines**, in \
+{files} files of `specs/`. For the claim that each AREA is a partition, and that no curve has one face \
+on both sides, {area} are enough.
+
+| Part | Definitions | Lines | Files |
+|---|---:|---:|---:|
+{table}
+
+**How to read it.** A part has the definitions that no part before it has. In each, a file stands after \
+those that it uses, so the claim itself is in the last one. The sentence beside a definition is the \
+first that stands above it in its file, where the formula is; the sentence helps to read, and the \
+formula is what is proved. Lines are those of the formula. What a word means here is in \
+[DEFINITIONS](DEFINITIONS.md), which claim has which clause in [PROOFS](PROOFS.md).
+
+**What else a reader believes.** Each part names the types of the code that its definitions speak of, \
+such as `Curve` of `plane`: they are in `src/`. Numbers, lists, options and finite maps are the kit's. \
+What files hold, which of them can be read, how much can be written and what faults were counted is \
+said by the shelf and the sink, in words of the traits `Shelf` and `Sink` of `ports`; of real files and \
+a real output they say nothing but the counts. A few definitions may be listed that are not needed: the \
+script goes by names, also where some variable has the name of a definition.
+"""
+
+
+class Definition:
+    """A definition of specs/: the lines of the comment above it, and its own."""
+
+    def __init__(self, module, name, comment):
+        self.module, self.name, self.comment, self.lines = module, name, comment, []
+
+
+def first_sentence(comment):
+    """The first sentence of the lines of a comment, without its full stop."""
+    text = " ".join(comment)
+    end = re.search(r"(?<=\S)\.(?= [A-Z`(])|:$", text)
+    return (text[: end.start()] if end else text).rstrip(". ")
+
+
+class Uses:
+    """What the `use` lines of a file bring in: names, modules by the names that they have in the file,
+    and the modules in the order of the lines."""
+
+    def __init__(self):
+        self.names, self.modules, self.order = {}, {}, []
+
+    def use(self, line):
+        names, module = NAMES.match(line), MODULE.match(line)
+        if names:
+            self.order.append(names.group(1))
+            for name, local in as_pairs(names.group(2)):
+                self.names[local] = (names.group(1), name)
+        elif module:
+            self.order.append(module.group(1))
+            self.modules[module.group(2) or module.group(1).split(".")[-1]] = module.group(1)
+
+
+def as_pairs(text):
+    """The names of a list and those that they have here."""
+    for part in text.split(","):
+        before, _, after = part.strip().partition(" as ")
+        yield before.strip(), (after or before).strip()
+
+
+class Module(Uses):
+    """A file of specs/: what it uses, its definitions, and the definition to which a case belongs."""
+
+    def __init__(self, name, path):
+        super().__init__()
+        self.name, self.path, self.head = name, path, []
+        self.definitions, self.owners = {}, {}
+        with open(path, encoding="utf8") as file:
+            self.read(file.read().split("\n"))
+        self.operators = [name for name in [*self.owners, *self.names] if "◌" in name]
+
+    def read(self, lines):
+        """Notes what the lines use and define. A comment belongs to the definition right under it."""
+        comment, current, inside, begun = [], None, False, False
+        for line in lines:
+            if line.startswith("mutual"):
+                inside = True
+                continue
+            elif line and line[0] != " ":
+                inside = False
+            if inside and line.startswith("  "):
+                line = line[2:]
+            if line.startswith("--"):
+                comment = [] if line.startswith("-- ----") else comment + [line[2:].strip()]
+                continue
+            if not begun and comment:
+                self.head, comment = comment, []
+            begun = begun or line.strip() != ""
+            if not line.strip():
+                comment = []
+            elif line.startswith(("use ", "pub use ", "unfoldable pub use ")):
+                self.use(line.strip().removeprefix("unfoldable "))
+            elif line[0] != " ":
+                current = self.begin(line, comment)
+                comment = []
+            if current and line.strip() and not line.lstrip().startswith("--"):
+                self.add(current, line)
+
+    def begin(self, line, comment):
+        """The definition that a line at the margin begins or goes on with, if it does."""
+        head = HEAD.match(line)
+        if not head:
+            name = EQUATION.match(line)
+            return self.definitions.get(name.group(1)) if name else None
+        name = head.group(1)
+        if name not in self.definitions:
+            self.definitions[name] = Definition(self.name, name, comment)
+            self.owners[name] = name
+        return self.definitions[name]
+
+    def add(self, definition, line):
+        """Adds a line to a definition, and the cases that it names if the definition is one of data."""
+        definition.lines.append(line)
+        cases = CASES.match(line)
+        if cases and " data " in " " + definition.lines[0]:
+            for case in cases.group(1).split():
+                self.owners.setdefault(case, definition.name)
+
+
+def spec_modules():
+    """All files of specs/ by the names of their modules."""
+    found = {}
+    for crate in sorted(os.listdir(os.path.join(TOP, "crates"))):
+        base = os.path.join(TOP, "crates", crate, "specs")
+        for folder, _, files in os.walk(base):
+            for file in files:
+                path = os.path.join(folder, file)
+                inner = os.path.relpath(path, base).removesuffix(".antt").replace(os.sep, ".")
+                name = f"Rattle.{crate}.specs.{inner}"
+                found[name] = Module(name, path)
+    return found
+
+
+class Sources:
+    """The definitions of all crates, and the types of the code that they name."""
+
+    def __init__(self):
+        self.modules = spec_modules()
+
+    def find(self, module, name):
+        """The definition of that name in a module, or in one from which the module passes it on; or
+        the type of the code; or none, for what lies outside of the crates."""
+        here = self.modules.get(module)
+        if here is None:
+            return code_type(module)
+        if name in here.owners:
+            return here.definitions[here.owners[name]]
+        return self.find(*here.names[name]) if name in here.names else None
+
+    def named(self, module, lines):
+        """What the lines of a definition name."""
+        here = self.modules[module]
+        for line in lines:
+            text = FIELD.sub(" ", line.split(" --")[0])
+            for name in here.operators:
+                if name.strip("◌") in text:
+                    yield self.find(module, name)
+            for word in WORD.findall(text):
+                head, _, rest = word.partition(".")
+                if head in here.owners:
+                    yield self.find(module, head)
+                elif head in here.names:
+                    yield self.find(*here.names[head])
+                elif head in here.modules and rest:
+                    yield self.find(here.modules[head], rest.split(".")[0])
+
+    def reach(self, starts, known):
+        """All definitions and types that the given ones rest on, themselves included, but for the
+        known ones."""
+        waiting = [start for start in starts if start]
+        found = set()
+        while waiting:
+            one = waiting.pop()
+            if one not in known and one not in found:
+                found.add(one)
+                if isinstance(one, Definition):
+                    waiting += filter(None, self.named(one.module, one.lines))
+        return found
+
+    def in_order(self, definitions, starts):
+        """The modules of the definitions, each after those that it uses, as far as the starts lead."""
+        wanted = {one.module for one in definitions}
+        done, order = set(), []
+
+        def visit(name):
+            if name in done or name not in self.modules:
+                return
+            done.add(name)
+            for other in self.modules[name].order:
+                visit(other)
+            if name in wanted:
+                order.append(name)
+
+        for one in starts:
+            if isinstance(one, Definition):
+                visit(one.module)
+        for name in sorted(wanted):
+            visit(name)
+        return order
+
+
+def code_type(module):
+    """The type of the code whose module this is, with its crate; none for what is not of the crates."""
+    found = re.fullmatch(r"Rattle\.(\w+)\.specs\.declared\.(?:\w+\.)*?(\w+)(?:\.TheVariants)?", module)
+    if found is None or not os.path.isdir(os.path.join(TOP, "crates", found.group(1))):
+        return None
+    return (found.group(1), found.group(2))
+
+
+class Contract:
+    """The clauses of `run`: for each label the sentence above it, and what the clause names."""
+
+    def __init__(self, sources):
+        lines = run_file()
+        uses = Uses()
+        for line in lines:
+            if line.startswith("ghost use "):
+                uses.use(line.removeprefix("ghost ").rstrip(";"))
+        self.sentences, self.starts = {}, {}
+        for label, sentence, text in clauses(lines):
+            self.sentences[label] = sentence
+            named = [sources.find(*uses.names[word]) for word in WORD.findall(text)
+                     if word in uses.names]
+            self.starts[label] = [one for one in named if one]
+
+
+def run_file():
+    """The lines of the one file of `delivery` that holds `run`."""
+    found = []
+    for folder, _, files in os.walk(os.path.join(TOP, "crates", "delivery", "src")):
+        for file in files:
+            with open(os.path.join(folder, file), encoding="utf8") as source:
+                text = source.read()
+            if re.search(r"^pub fn run\b", text, re.MULTILINE):
+                found.append(text.split("\n"))
+    if len(found) != 1:
+        sys.exit(f"delivery has {len(found)} functions run")
+    return found[0]
+
+
+def clauses(lines):
+    """Label, sentence and text of each clause of `run`. A clause without a sentence of its own has
+    that of the clause before."""
+    begin = next(i for i, line in enumerate(lines) if re.match(r"pub fn run\b", line))
+    end = lines.index("{", begin)
+    found, sentence, above = [], [], False
+    for line in lines[begin:end]:
+        clause, said = CLAUSE.match(line), line.startswith("    // ")
+        if said:
+            sentence = (sentence if above else []) + [line.removeprefix("    // ")]
+        elif clause:
+            found.append((clause.group(1), " ".join(sentence), clause.group(2)))
+        elif found:
+            label, sentence_of, text = found[-1]
+            found[-1] = (label, sentence_of, text + " " + line)
+        above = said
+    return found
+
+
+class Section:
+    """What one section of the page adds: its definitions by module, in reading order, and its types."""
+
+    def __init__(self, sources, title, text, starts, known):
+        self.title, self.text = title, text
+        found = sources.reach(starts, known)
+        known |= found
+        self.types = sorted(one for one in found if not isinstance(one, Definition))
+        definitions = [one for one in found if isinstance(one, Definition)]
+        by_module = collections.defaultdict(list)
+        for name in sources.in_order(definitions, starts):
+            here = sources.modules[name].definitions.values()
+            by_module[name] = [one for one in here if one in found]
+        self.modules = by_module
+
+    def definitions(self):
+        """All its definitions, in reading order."""
+        return [one for group in self.modules.values() for one in group]
+
+
+def parts_of(sources, contract):
+    """The parts of the page, each with its sections."""
+    gone = set(contract.starts) ^ {label for _, labels in CLAUSES for label in labels}
+    if gone:
+        sys.exit(f"these clauses of run are new or gone, so change CLAUSES: {', '.join(sorted(gone))}")
+    every = sources.reach([one for starts in contract.starts.values() for one in starts], set())
+
+    known = set()
+    area = [Section(sources, title, text, [the_one(every, name)], known) for title, name, text in AREA]
+    parts = [(CLAIM, area)]
+    cause = the_one(every, "HasCause")
+    causes = [Section(sources, status, *cause_of(sources, cause, status), known) for status in STATUSES]
+    for title, labels in CLAUSES:
+        sections = [Section(sources, f"The clause `{label}`", contract.sentences[label],
+                            contract.starts[label], known) for label in labels]
+        parts.append((title, causes + sections))
+        causes = []
+    return parts
+
+
+def the_one(definitions, name):
+    found = [one for one in definitions if isinstance(one, Definition) and one.name == name]
+    if len(found) != 1:
+        sys.exit(f"the clauses of run rest on {len(found)} definitions {name}")
+    return found[0]
+
+
+def cause_of(sources, cause, status):
+    """What the comment above `HasCause` says of an answer, and what its equation names."""
+    said = re.search(rf"\b{status}: (.*?)(?= [A-Z]\w+: | The cause of |$)", " ".join(cause.comment))
+    text, inside = [], False
+    for line in cause.lines[1:]:
+        if not line.startswith(" "):
+            inside = line.split(" =")[0].endswith(status)
+        if inside:
+            text.append(line)
+    if said is None or not text:
+        sys.exit(f"HasCause has no {status}")
+    return said.group(1), [one for one in sources.named(cause.module, text) if one and one is not cause]
+
+
+def size(sections):
+    """Definitions, lines and files of some sections."""
+    definitions = [one for section in sections for one in section.definitions()]
+    lines = sum(len(one.lines) for one in definitions)
+    return len(definitions), lines, len({one.module for one in definitions})
+
+
+def cells(sizes):
+    return " | ".join(f"{number:,}" for number in sizes)
+
+
+def escaped(text):
+    return text.replace("|", "\\|").replace("<", "&lt;").replace("*", "\\*")
+
+
+def page_of(sources, parts):
+    """The text of the page."""
+    sections = [section for _, here in parts for section in here]
+    table = []
+    for title, here in parts:
+        table.append(f"| **{title}** | {cells(size(here))} |")
+        table += [f"| {section.title} | {cells(size([section]))} |" for section in here]
+    definitions, lines, files = size(sections)
+    area, area_lines, _ = size(parts[0][1])
+    text = [HEAD_OF_PAGE.format(
+        definitions=f"{definitions:,}", lines=f"{lines:,}", files=files,
+        area=f"{area} with {area_lines} lines", table="\n".join(table))]
+    for title, here in parts:
+        text.append(f"## {title}\n")
+        for section in here:
+            text += section_text(sources, section)
+    return "\n".join(text)
+
+
+def section_text(sources, section):
+    text = [f"### {section.title}\n", escaped(section.text[0].upper() + section.text[1:]) + "\n"]
+    if section.types:
+        crates = collections.defaultdict(list)
+        for crate, name in section.types:
+            crates[crate].append(f"`{name}`")
+        text.append("Types: " + "; ".join(
+            f"of `{crate}` {', '.join(names)}" for crate, names in crates.items()) + ".\n")
+    if not section.modules:
+        text.append("Nothing new.\n" if not section.types else "No definition that is not above.\n")
+    for name, definitions in section.modules.items():
+        module = sources.modules[name]
+        crate, inner = name.split(".", 3)[1], name.split(".", 3)[3]
+        path = os.path.relpath(module.path, os.path.dirname(PAGE))
+        text += [f"#### `{crate}`: [{inner}]({path})\n", escaped(first_sentence(module.head)) + ".\n",
+                 "| Definition | Lines | |", "|---|---:|---|"]
+        text += [f"| `{one.name}` | {len(one.lines)} | {escaped(first_sentence(one.comment)) or '-'} |"
+                 for one in definitions]
+        text.append("")
+    return text
+
+
+def rows(page):
+    """The rows of a page by file and name, to tell two pages apart."""
+    found, file = {}, None
+    for line in page.split("\n"):
+        if line.startswith("#### "):
+            file = line.removeprefix("#### ").split("](")[0].replace("[", "")
+        row = re.match(r"\| `([^`]+)` \| (.*) \|$", line)
+        if row and file:
+            found[f"{file} {row.group(1)}"] = row.group(2)
+    return found
+
+
+def differences(page):
+    """Says how the page that is filed differs, and whether it does."""
+    with open(PAGE, encoding="utf8") as file:
+        filed = file.read()
+    old, new = rows(filed), rows(page)
+    for name in sorted(set(old) | set(new)):
+        if name not in new:
+            print(f"{name}: no clause of run rests on it any more, or it has moved")
+        elif name not in old:
+            print(f"{name}: not on the page")
+        elif old[name] != new[name]:
+            print(f"{name}: other lines or words")
+    if filed != page:
+        print("docs/STATEMENT.md is not what the sources say: bench/statement.py writes it anew")
+    return filed != page
+
+
+def main():
+    if sys.argv[1:] not in ([], ["--check"]):
+        sys.exit(__doc__)
+    sources = Sources()
+    parts = parts_of(sources, Contract(sources))
+    page = page_of(sources, parts)
+    bare = [one for _, here in parts for section in here for one in section.definitions()
+            if not one.comment]
+    for one in bare:
+        print(f"{one.module}: {one.name} has no sentence", file=sys.stderr)
+    wrong = bool(bare)
+    if sys.argv[1:] == ["--check"]:
+        wrong = differences(page) or wrong
+    else:
+        with open(PAGE, "w", encoding="utf8") as file:
+            file.write(page)
+    sys.exit(1 if wrong else 0)
+
+
+main()

@@ -1,0 +1,9 @@
+pub mod CurveLemmas
+pub mod FewCurves
+pub mod KeptAt
+pub mod LineForms
+pub mod LineNames
+pub mod RowSteps
+pub mod StrokeSteps
+pub mod Windows
+pub mod Zips

@@ -1,0 +1,9 @@
+pub mod AreaLimits
+pub mod Drawable
+pub mod Drawings
+pub mod KeptDrawings
+pub mod KeptLines
+pub mod KeptPoints
+pub mod KeptRows
+pub mod KeptViews
+pub mod LineNames

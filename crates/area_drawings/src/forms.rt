@@ -1,0 +1,52 @@
+// The forms of an area in the layout.
+ghost use Rattle.std.specs.Prelude.{◌≡◌, ◌∷◌, [], slice_get};
+ghost use Rattle.resolver.specs.Sound.{IsNarrow};
+ghost use Rattle.resolver.specs.Values.{line_of, window_of};
+ghost use Rattle.table_layout.specs.Values.{area_view, layout_view, lines_view, tables_view};
+ghost use Rattle.area_drawings.specs.Drawings.{lines_in, IsWindowOf};
+ghost use Rattle.area_drawings.specs.Drawable.{HasForms};
+
+use plane::{Point, Window2};
+use resolver::{LineForm, Window};
+use table_layout::{AreaOf, Layout, TableId};
+
+// The forms of the lines of a table, none where there is no such table.
+fn lines_of(layout: &Layout, id: TableId) -> &[LineForm]
+    ensures { lines_view result.now ≡ lines_in (slice_get (tables_view layout.now.tables.items)
+        id.0) }
+{
+    match layout.tables.get(id.0 as usize) {
+        Some(table) => &table.lines,
+        None => &[],
+    }
+}
+
+/// The form of the lines of an area.
+pub fn line_form<'a>(layout: &'a Layout, area: &AreaOf) -> &'a LineForm
+    requires { HasForms (layout_view layout.now) (area_view area.now) }
+    ensures lines { lines_in (slice_get (tables_view layout.now.tables.items) area.now.lines.0) ≡
+        line_of result.now ∷ [] }
+    ensures narrow { IsNarrow (line_of result.now).window }
+{
+    match lines_of(layout, area.lines) {
+        [form, ..] => form,
+        [] => unreachable!(),
+    }
+}
+
+/// The window of the plane for the vertices of a line.
+pub fn plane_window(window: &Window) -> Window2
+    requires { IsNarrow (window_of window.now) }
+    ensures { IsWindowOf (window_of window.now) result }
+{
+    Window2 {
+        low: Point {
+            x: window.x.low,
+            y: window.y.low,
+        },
+        high: Point {
+            x: window.x.high,
+            y: window.y.high,
+        },
+    }
+}

@@ -1,6 +1,0 @@
-use Rattle.std.proofs.Common.{◌≡◌, take, map}
-use Rattle.area_search.specs.CaseNotes.{spot_place}
-use Rattle.area_search.proofs.case_notes.spot_places.Given as goal
-
-abbrev pub invariant-loop-spot : goal.invariant-loop-spot
-invariant-loop-spot l = l.places.items ≡ map spot_place (take l.spot-index l.spots)

@@ -1,5 +1,0 @@
-use Rattle.area_search.specs.Meshing.{IsWidest}
-use Rattle.area_search.proofs.meshing.widest.Given as goal
-
-abbrev pub invariant-loop-number : goal.invariant-loop-number
-invariant-loop-number l = IsWidest l.events l.number l.most

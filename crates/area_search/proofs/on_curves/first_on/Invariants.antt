@@ -1,5 +1,0 @@
-use Rattle.area_search.specs.CurvePoints.{AreInCells}
-use Rattle.area_search.proofs.on_curves.first_on.Given as goal
-
-abbrev pub invariant-loop-point : goal.invariant-loop-point
-invariant-loop-point l = AreInCells l.places l.point

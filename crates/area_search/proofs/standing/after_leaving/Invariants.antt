@@ -1,5 +1,0 @@
-use Rattle.area_search.specs.Alone.{AreLeftTo}
-use Rattle.area_search.proofs.standing.after_leaving.Given as goal
-
-abbrev pub invariant-loop-number : goal.invariant-loop-number
-invariant-loop-number l = AreLeftTo l.standings l.number l.next.items

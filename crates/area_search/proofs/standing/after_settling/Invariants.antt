@@ -1,6 +1,0 @@
-use Rattle.std.proofs.Common.{◌≡◌, ◌++◌, drop, map}
-use Rattle.area_search.specs.Alone.{after_settling}
-use Rattle.area_search.proofs.standing.after_settling.Given as goal
-
-abbrev pub invariant-loop-standing : goal.invariant-loop-standing
-invariant-loop-standing l = l.next.items ++ map after_settling (drop l.standing-index l.standings) ≡ map after_settling l.standings

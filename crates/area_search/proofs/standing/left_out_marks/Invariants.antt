@@ -1,6 +1,0 @@
-use Rattle.std.proofs.Common.{◌≡◌, ◌++◌, drop, map}
-use Rattle.area_search.specs.Alone.{is_left_out}
-use Rattle.area_search.proofs.standing.left_out_marks.Given as goal
-
-abbrev pub invariant-loop-standing : goal.invariant-loop-standing
-invariant-loop-standing l = l.marks.items ++ map is_left_out (drop l.standing-index l.standings) ≡ map is_left_out l.standings

@@ -1,0 +1,174 @@
+-- A drawing that a level settles, the complete run of its edges at that level, where its points
+-- lie, and its faces.
+use Rattle.std.specs.Prelude.{◌≡◌, ℕ, ◌*◌, ◌<◌, ◌≤◌, true, false, pos, ◌<ℤ◌, Option, Some, None}
+use Rattle.std.specs.Prelude.{List, [], length, map, slice_index, slice_index_or, ⊤}
+use Rattle.event_mesh.specs.Turned.{IsTurned}
+use Rattle.faces.specs.Joined.{AreKnown}
+use Rattle.half_edges.specs.HalfEdges.{HalfEdges, size}
+use Rattle.half_edges.specs.Meshes.{IsMesh}
+use Rattle.line_sweep.specs.Kinds.{gaps_of}
+use Rattle.line_sweep.specs.Sweeping.{HasTimetable}
+use Rattle.plane.specs.CurveRuns.FacedTubes.{IsFirstOn, LiesInTube, faced}
+use Rattle.plane.specs.CurveRuns.Levels.{IsSettledDrawing, beside_inner, beside_outer}
+use Rattle.plane.specs.CurveRuns.TubedRuns as runs
+use Rattle.plane.specs.Faces.Classes.{IsFaces}
+use Rattle.plane.specs.Faces.Halves.{number, over}
+use Rattle.plane.specs.Faces.Replays.{replay}
+use Rattle.plane.specs.Forms.Vectors.{point}
+use Rattle.plane.specs.Rule.Curves.{arc}
+use Rattle.plane.specs.Rule.HalfArcs.{power}
+use Rattle.plane.specs.Rule.Plans.{Plan, curve, object, plan}
+use Rattle.plane.specs.Runs.Gaps.{Gap, closed_gaps}
+use Rattle.plane.specs.Runs.Moves.{Fit, Move, steps_from}
+use Rattle.plane.specs.declared.kinds.Edge.{Edge}
+use Rattle.plane.specs.declared.kinds.Point.{Point}
+use Rattle.point_location.specs.Places.{IsCell}
+use Rattle.straight_predicates.specs.EdgeLists.{no_point}
+use Rattle.tubes.specs.Settled.{AreFacings, HaveTubes, edge_at, edges_at}
+use Rattle.tubes.specs.TubedEdges.{drawn_bays, owner_as}
+use Rattle.tubes.specs.declared.kinds.Facing.{Facing}
+use Rattle.tubes.specs.declared.kinds.Owner.{Owner}
+use Rattle.area_search.specs.declared.settled.case.SettledDrawing.{SettledDrawing}
+use Rattle.area_search.specs.declared.settled.case.SettledRun.{SettledRun}
+use Rattle.area_search.specs.declared.settled.case.SweptDrawing.{SweptDrawing}
+use Rattle.area_search.specs.declared.settled.case.Spot.{Spot}
+use Rattle.area_search.specs.declared.settled.case.Spot.TheVariants as spot
+use Rattle.area_search.specs.Settled.Writing.{positions_of}
+
+-- The level settles the drawing, the lists are those of its edges at the level, and the moves are a
+-- complete run over them.
+pub record IsCase (d : Plan) (level : ℕ) (edges : List Edge) (owners : List Owner)
+    (facings : List Facing) (vs : List Move) : Type 0 where
+  pub low : level ≤ 5
+  pub tubes : HaveTubes d level
+  pub edges_are : edges ≡ edges_at d level
+  pub owners_are : owners ≡ map owner_as (runs.edge_list (drawn_bays d level) 0 d.curves)
+  pub facings_are : AreFacings d level facings
+  pub settled : IsSettledDrawing d (drawn_bays d level) (length (edges_at d level))
+      (edge_at d level) (steps_from [] vs)
+  pub fit : Fit [] vs
+
+-- the edges of a settled drawing in code
+abbrev pub edges_of : SettledDrawing → List Edge
+edges_of c = edges_at (plan c.drawing.now) c.level
+
+abbrev pub IsCaseOf : SettledDrawing → List Move → Type 0
+IsCaseOf c vs =
+    IsCase (plan c.drawing.now) c.level (edges_of c) c.owners.now c.facings.now vs
+
+abbrev pub IsSweptDrawing : SweptDrawing → Type 0
+IsSweptDrawing c =
+    IsCase (plan c.drawing.now) c.level c.edges.now c.owners.now c.facings.now
+    c.run.now.events
+
+-- of some moves
+abbrev pub HasRun : SettledDrawing → Type 0
+HasRun c = (vs : List Move) × IsCaseOf c vs
+
+-- ---- points
+abbrev pub no_spot : Spot
+no_spot = spot.On 0
+
+abbrev pub spot_at : List Spot → ℕ → Spot
+spot_at spots j = slice_index_or spots j no_spot
+
+-- the half-edge over the edge under a cell, if there is one, faces no tube
+abbrev pub IsClearOver : Plan → ℕ → Option ℕ → Type 0
+IsClearOver d level None = ⊤
+IsClearOver d level (Some e) = faced d (drawn_bays d level) (edge_at d level) (over e) ≡ 0
+
+-- On a curve, and on none of a lesser number; or on no curve, in a tube and on a side of its
+-- circle; or on no curve, in no tube and in a cell of the run.
+abbrev pub IsSpot : Plan → ℕ → List Move → Point → Spot → Type 0
+IsSpot d level vs v (spot.On c) = IsFirstOn d c (point v)
+IsSpot d level vs v (spot.InTube c true) =
+    LiesInTube d (drawn_bays d level) c v × (power (arc (curve d c)) (point v) <ℤ pos 0)
+IsSpot d level vs v (spot.InTube c false) =
+    LiesInTube d (drawn_bays d level) c v × (pos 0 <ℤ power (arc (curve d c)) (point v))
+IsSpot d level vs v (spot.Cell position lower upper) =
+    IsCell (edges_at d level) vs v position lower upper × IsClearOver d level lower
+
+-- Each of these points has its spot.
+pub record AreSpotsOf (d : Plan) (level : ℕ) (vs : List Move) (points : List Point)
+    (spots : List Spot) : Type 0 where
+  pub size : length spots ≡ length points
+  pub each : (j : ℕ) → j < length points
+      → IsSpot d level vs (slice_index_or points j no_point) (spot_at spots j)
+
+-- Each object's point has its spot.
+pub record AreSpots (d : Plan) (level : ℕ) (vs : List Move) (spots : List Spot) : Type 0 where
+  pub size : length spots ≡ length d.points
+  pub each : (j : ℕ) → j < length d.points → IsSpot d level vs (object d j) (spot_at spots j)
+
+-- the point is on no curve
+abbrev pub IsOffCurves : Spot → Type 0
+IsOffCurves (spot.On c) = ⊥
+IsOffCurves (spot.InTube c inside) = ⊤
+IsOffCurves (spot.Cell position lower upper) = ⊤
+
+-- the first k points are on no curve
+abbrev pub AreOffCurves : List Spot → ℕ → Type 0
+AreOffCurves spots k = (j : ℕ) → j < k → IsOffCurves (spot_at spots j)
+
+-- Each point has its spot, and none is on a curve.
+pub record ArePlacedOff (d : Plan) (level : ℕ) (vs : List Move) (spots : List Spot) : Type 0 where
+  pub spots_are : AreSpots d level vs spots
+  pub off : AreOffCurves spots (length spots)
+
+-- ---- faces
+-- The half-edges have the face numbers of the run, which are below count.
+pub record HasRunFaces (d : Plan) (level : ℕ) (vs : List Move) (mesh : HalfEdges)
+    (count : ℕ) : Type 0 where
+  pub size_is : size mesh ≡ 2 * length (edges_at d level)
+  pub entries : length mesh.face ≡ size mesh
+  pub faces : IsFaces
+      (replay (pos 0) (length (edges_at d level)) (edge_at d level) (steps_from [] vs))
+      (λ h. slice_index mesh.face (number h))
+  pub below : (h : ℕ) → h < size mesh → slice_index mesh.face h < count
+  pub some : 0 < count
+
+-- The mesh is that of the run, all events turned, and the cells are those of the run.
+pub record IsRunMesh (d : Plan) (level : ℕ) (vs : List Move) (cells : List Gap)
+    (mesh : HalfEdges) : Type 0 where
+  pub turned : IsTurned (length (edges_at d level)) (edge_at d level) (steps_from [] vs) mesh
+      (length (steps_from [] vs))
+  pub mesh_is : IsMesh mesh
+  pub cells_are : cells ≡ closed_gaps vs
+  pub known : AreKnown (size mesh) (closed_gaps vs)
+
+-- The face of a point by its spot: that over the edge under its cell, 0 where there is none; in a
+-- tube that beside the chain on its side of the circle.
+abbrev pub face_over : List ℕ → Option ℕ → ℕ
+face_over faces None = 0
+face_over faces (Some e) = slice_index faces (number (over e))
+
+abbrev pub spot_face : Plan → ℕ → List ℕ → Spot → ℕ
+spot_face d level faces (spot.On c) = 0
+spot_face d level faces (spot.InTube c true) =
+    beside_inner d (drawn_bays d level) (edge_at d level) (λ h. slice_index faces (number h)) c
+spot_face d level faces (spot.InTube c false) =
+    beside_outer d (drawn_bays d level) (edge_at d level) (λ h. slice_index faces (number h)) c
+spot_face d level faces (spot.Cell position lower upper) = face_over faces lower
+
+abbrev pub spot_faces : Plan → ℕ → List ℕ → List Spot → List ℕ
+spot_faces d level faces spots = map (spot_face d level faces) spots
+
+-- ---- what is kept of a run
+-- the drawing of a run, and its level
+abbrev pub plan_of : SettledRun → Plan
+plan_of r = plan r.settled.now.drawing.now
+
+abbrev pub level_of : SettledRun → ℕ
+level_of r = r.settled.now.level
+
+-- Of one complete run of the edges of a drawing that the level settles, by their timetable: the
+-- objects' points lie at the spots, none of them on a curve; and the mesh with its faces, the cells
+-- and the positions are those of the run.
+pub record IsSettledRun (r : SettledRun) : Type 0 where
+  pub vs : List Move
+  pub settled : IsCaseOf r.settled.now vs
+  pub timed : HasTimetable (edges_of r.settled.now) vs
+  pub placed : ArePlacedOff (plan_of r) (level_of r) vs r.spots.now
+  pub faces : HasRunFaces (plan_of r) (level_of r) vs r.labelled.now.mesh r.labelled.now.count
+  pub outline : IsRunMesh (plan_of r) (level_of r) vs (gaps_of r.cells.now) r.labelled.now.mesh
+  pub positions_are : r.positions.items ≡ positions_of vs

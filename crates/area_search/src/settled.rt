@@ -1,0 +1,30 @@
+// A drawing that a level settles, with the complete run of its edges at that level, into its first
+// fault or the certificate that it has none.
+//
+// One replay of the run gives the places of the points, which say for each whether it lies on a
+// curve, in the tube of a half arc or in a cell (`spots`). Then the edges are freed but for what
+// they stand for, and a second replay gives the mesh of their half-edges (`meshing`), after which
+// the events of the run are freed but for their positions (`writing`). The faces of the mesh are
+// those that its cells join. What is kept of the run is a `SettledRun` (`case`), and each answer is
+// read off it: the first fault of its faces (`case_judging`), by the faces beside each curve
+// (`case_sides`, `sides`) and the points in each face (`owners`); or the certificate
+// (`case_certificates`), by links from each half-edge to the border, a tube or a point
+// (`case_roots`) and by labels (`case_notes`).
+//
+// Not here: whether the level settles the drawing, which the run has shown before (`level`).
+mod case;
+mod case_certificates;
+mod case_judging;
+mod case_notes;
+mod case_roots;
+mod case_sides;
+mod finishing;
+mod meshing;
+mod owners;
+mod sides;
+mod spots;
+mod writing;
+
+pub(crate) use case::SettledDrawing;
+pub(crate) use finishing::{answer_settled, object_spots};
+pub(crate) use spots::first_spot_on;

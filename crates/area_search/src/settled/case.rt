@@ -1,0 +1,57 @@
+// A drawing that a level settles, where its points lie, and what is kept of its run.
+use faces::Labelled;
+use line_sweep::{Cell, Swept};
+use plane::{Drawing, Edge};
+use tubes::{Facing, Owner};
+
+/// A drawing that a level settles, and of each of its edges at that level what it stands for and
+/// which side faces a tube.
+#[derive(Drop)]
+pub(crate) struct SettledDrawing<'a> {
+    pub drawing: &'a Drawing,
+    pub level: u8,
+    pub owners: &'a [Owner],
+    pub facings: &'a [Facing],
+}
+
+/// Such a drawing with its edges at the level and their complete run.
+#[derive(Drop)]
+pub(crate) struct SweptDrawing<'a> {
+    pub drawing: &'a Drawing,
+    pub level: u8,
+    pub edges: &'a [Edge],
+    pub owners: &'a [Owner],
+    pub facings: &'a [Facing],
+    pub run: &'a Swept,
+}
+
+/// What is kept of such a run when its edges and its events are freed: where the objects' points
+/// lie, none of them on a curve; the mesh of the half-edges with its faces; the cells; and the
+/// positions of the events. What is answered of a settled drawing is read off it.
+#[derive(Drop)]
+pub(crate) struct SettledRun<'a> {
+    pub settled: &'a SettledDrawing<'a>,
+    pub spots: &'a [Spot],
+    pub labelled: &'a Labelled,
+    pub cells: &'a [Cell],
+    pub positions: Vec<u32>,
+}
+
+/// Where a point lies.
+#[derive(Clone, Copy, Debug, PartialEq, Eq)]
+pub(crate) enum Spot {
+    /// On the curve of this number, and on none of a lesser one.
+    On(u32),
+    /// On no curve, in the tube of this half arc, and inside its circle or outside.
+    InTube {
+        curve: u32,
+        inside: bool,
+    },
+    /// On no curve and in no tube: after the events before it at this place of the live list, with
+    /// these edges beside it.
+    Cell {
+        position: u32,
+        lower: Option<u32>,
+        upper: Option<u32>,
+    },
+}

@@ -1,0 +1,85 @@
+// The certificate of a drawing that a level settles and whose faces have one point each.
+ghost use Rattle.std.specs.Prelude.{◌≡◌, IfOk};
+ghost use Rattle.certificate_checker.specs.Subjects.{claims};
+ghost use Rattle.certificate_checker.specs.Verdicts.{Proves};
+ghost use Rattle.plane.specs.Rule.Cuts.{HasNoCut};
+ghost use Rattle.area_search.specs.Answers.{IsNameless};
+ghost use Rattle.area_search.specs.Settled.CaseOwners.{HaveOwners};
+ghost use Rattle.area_search.specs.Settled.Cases.{IsSettledRun, level_of, plan_of};
+
+use super::case::SettledRun;
+use super::case_notes::{named_notes, spot_places};
+use super::case_roots::roots_of_case;
+use certificate::{Certificate, HalfNote, PointPlace};
+use faces::links;
+use ports::{Memory, Name};
+use std::alloc::Global;
+
+/// A certificate that proves the drawing at its level: the positions of the events, the place of
+/// each point, and a note for each half-edge, with the label of the tube that it faces or the owner
+/// of its face. Its names are empty. The only error is out of memory.
+/// It takes time linear in the edges, the cells, the curves and the points, and for a while
+/// what `faces::links` takes, 2 bytes a curve and 4 a root.
+pub(crate) fn certify_run(
+    alloc: Global,
+    run: SettledRun,
+    owners: &[u32],
+) -> Result<Certificate, Memory>
+    requires run { IsSettledRun run }
+    requires owned { HaveOwners (plan_of run) (level_of run) run.labelled.now.mesh.face
+        run.spots.now run.labelled.now.count owners.now }
+    requires uncut { HasNoCut (plan_of run) }
+    ensures proves { IfOk result (λ c. Proves (plan_of run.entry) (claims c)) }
+    ensures level { IfOk result (λ c. c.level ≡ level_of run.entry) }
+    ensures names { IfOk result IsNameless }
+{
+    certificate_checker::laws::certified_claims_prove();
+    let settled = run.settled;
+    let roots = roots_of_case(
+        alloc,
+        settled.drawing.curves.len(),
+        settled.facings,
+        settled.owners,
+        run.cells,
+        run.spots,
+    )?;
+    let found = links(alloc, run.labelled, run.cells, &roots)?;
+    let notes = named_notes(
+        found,
+        settled.drawing.points.len() as u32,
+        settled.facings,
+        settled.owners,
+        owners,
+    );
+    let places = spot_places(alloc, run.spots)?;
+    let certificate = nameless(alloc, settled.level, run.positions, notes, places)?;
+    Ok(certificate)
+}
+
+/// The certificate of these parts at a level, with empty names.
+fn nameless(
+    alloc: Global,
+    level: u8,
+    positions: Vec<u32>,
+    notes: Vec<HalfNote>,
+    places: Vec<PointPlace>,
+) -> Result<Certificate, Memory>
+    ensures parts { IfOk result (λ c. claims c ≡ record {
+      level = level;
+      positions = positions.items;
+      notes = notes.items;
+      places = places.items;
+    }) }
+    ensures level { IfOk result (λ c. c.level ≡ level) }
+    ensures names { IfOk result IsNameless }
+{
+    Ok(Certificate {
+        topic: Name::new(alloc, b"".as_slice())?,
+        table: Name::new(alloc, b"".as_slice())?,
+        attribute: Name::new(alloc, b"".as_slice())?,
+        level,
+        positions,
+        notes,
+        places,
+    })
+}

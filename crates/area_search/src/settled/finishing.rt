@@ -1,0 +1,150 @@
+// The answer to a drawing that a level settles.
+ghost use Rattle.std.specs.Prelude.{◌≡◌, ℕ, ◌^◌, ◌<◌, IfOk, length, slice_index_or};
+ghost use Rattle.line_sweep.specs.Kinds.{gaps_of};
+ghost use Rattle.line_sweep.specs.Sweeping.{HasTimetable};
+ghost use Rattle.plane.specs.Rule.Plans.{plan};
+ghost use Rattle.plane.specs.Runs.Gaps.{closed_gaps};
+ghost use Rattle.straight_predicates.specs.EdgeLists.{IsCloseToAll, no_point};
+ghost use Rattle.area_search.specs.Answers.{IsAnswer, IsLeastLevel};
+ghost use Rattle.area_search.specs.Settled.Cases.{ArePlacedOff, AreSpots, AreSpotsOf, IsCaseOf};
+ghost use Rattle.area_search.specs.Settled.Cases.{IsSettledRun, edges_of, level_of, plan_of};
+
+use super::case::{SettledDrawing, SettledRun, Spot, SweptDrawing};
+use super::case_certificates::certify_run;
+use super::case_judging::{Judged, judge_run};
+use super::meshing::mesh_of_run;
+use super::spots::{first_spot_on, spots_at};
+use super::writing::positions;
+use crate::kinds::{AreaAnswer, AreaFinding};
+use crate::points::points_at;
+use faces::label;
+use line_sweep::{Cell, Swept};
+use plane::{Edge, Point};
+use ports::Memory;
+use std::alloc::Global;
+
+/// The answer to a drawing by a complete run of its edges at the least level that settles it: its
+/// first fault, or a certificate with empty names. The only error is out of memory. It takes what
+/// placing the points, the mesh, its faces and the links of a certificate take, one after another;
+/// before the mesh is made, the edges are freed, and before its faces are labelled the events of
+/// the run.
+pub(crate) fn answer_settled(
+    alloc: Global,
+    settled: &SettledDrawing,
+    edges: Vec<Edge>,
+    swept: Swept,
+) -> Result<AreaAnswer, Memory>
+    requires settled { IsCaseOf settled.now swept.events }
+    requires edges { edges.items ≡ edges_of settled.now }
+    requires least { IsLeastLevel (plan settled.now.drawing.now) settled.now.level }
+    requires few { length (edges_of settled.now) < 2 ^ 31 }
+    requires timed { HasTimetable (edges_of settled.now) swept.events }
+    requires cells { gaps_of swept.cells.items ≡ closed_gaps swept.events }
+    ensures { IfOk result (IsAnswer (plan settled.now.drawing.now)) }
+{
+    let spots = object_spots(alloc, settled, edges, &swept)?;
+    match first_spot_on(&spots) {
+        Some(on) => Ok(AreaAnswer::Fault(AreaFinding::On {
+            point: on.point,
+            curve: on.curve,
+        })),
+        None => answer_placed(alloc, settled, &spots, swept),
+    }
+}
+
+/// Where the objects' points of the drawing lie, by its edges, which are then freed, and their run.
+pub(crate) fn object_spots(
+    alloc: Global,
+    settled: &SettledDrawing,
+    edges: Vec<Edge>,
+    swept: &Swept,
+) -> Result<Vec<Spot>, Memory>
+    requires settled { IsCaseOf settled.now swept.now.events }
+    requires edges { edges.items ≡ edges_of settled.now }
+    requires few { length (edges_of settled.now) < 2 ^ 31 }
+    ensures { IfOk result (λ spots. AreSpots (plan settled.now.drawing.now) settled.now.level
+        swept.now.events spots.items) }
+{
+    let points = points_at(alloc, &settled.drawing.points)?;
+    let spots = spots_of_run(alloc, settled, edges, swept, &points)?;
+    Ok(spots)
+}
+
+/// Where these points of the plane lie, by the edges of the drawing, which are then freed, and
+/// their run.
+pub(crate) fn spots_of_run(
+    alloc: Global,
+    settled: &SettledDrawing,
+    edges: Vec<Edge>,
+    swept: &Swept,
+    points: &[Point],
+) -> Result<Vec<Spot>, Memory>
+    requires settled { IsCaseOf settled.now swept.now.events }
+    requires edges { edges.items ≡ edges_of settled.now }
+    requires few { length (edges_of settled.now) < 2 ^ 31 }
+    requires close { (j : ℕ) → j < length points.now
+        → IsCloseToAll (edges_of settled.now) (slice_index_or points.now j no_point) }
+    ensures { IfOk result (λ spots. AreSpotsOf (plan settled.now.drawing.now) settled.now.level
+        swept.now.events points.now spots.items) }
+{
+    let swept_drawing = SweptDrawing {
+        drawing: settled.drawing,
+        level: settled.level,
+        edges: &edges,
+        owners: settled.owners,
+        facings: settled.facings,
+        run: swept,
+    };
+    spots_at(alloc, &swept_drawing, points)
+}
+
+/// The answer to the drawing, where no point lies on a curve.
+fn answer_placed(
+    alloc: Global,
+    settled: &SettledDrawing,
+    spots: &[Spot],
+    swept: Swept,
+) -> Result<AreaAnswer, Memory>
+    requires settled { IsCaseOf settled.now swept.events }
+    requires least { IsLeastLevel (plan settled.now.drawing.now) settled.now.level }
+    requires few { length (edges_of settled.now) < 2 ^ 31 }
+    requires timed { HasTimetable (edges_of settled.now) swept.events }
+    requires cells { gaps_of swept.cells.items ≡ closed_gaps swept.events }
+    requires placed { ArePlacedOff (plan settled.now.drawing.now) settled.now.level
+        swept.events spots.now }
+    ensures { IfOk result (IsAnswer (plan settled.now.drawing.now)) }
+{
+    let mesh = mesh_of_run(alloc, settled, &swept)?;
+    let positions = positions(alloc, &swept.events)?;
+    let cells = cells_alone(swept);
+    let labelled = label(alloc, mesh, &cells)?;
+    // `edges` says that it is a mesh.
+    let _ = labelled.mesh.edges();
+    let run = SettledRun {
+        settled,
+        spots,
+        labelled: &labelled,
+        cells: &cells,
+        positions,
+    };
+    answer_run(alloc, run)
+}
+
+/// The cells of a run, whose events are freed.
+fn cells_alone(swept: Swept) -> Vec<Cell>
+    ensures { result.items ≡ swept.cells.items }
+{
+    swept.cells
+}
+
+/// The answer to the drawing of a run.
+fn answer_run(alloc: Global, run: SettledRun) -> Result<AreaAnswer, Memory>
+    requires run { IsSettledRun run }
+    requires least { IsLeastLevel (plan_of run) (level_of run) }
+    ensures { IfOk result (IsAnswer (plan_of run.entry)) }
+{
+    match judge_run(alloc, &run)? {
+        Judged::Faulty(finding) => Ok(AreaAnswer::Fault(finding)),
+        Judged::Owned(owners) => Ok(AreaAnswer::Proved(certify_run(alloc, run, &owners)?)),
+    }
+}

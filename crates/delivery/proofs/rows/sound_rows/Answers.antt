@@ -1,0 +1,25 @@
+use Rattle.std.proofs.Common.{ap, ◌∙◌, subst}
+use Rattle.itf_reader.specs.Refusals.{fault_of}
+use Rattle.reports.specs.Outcomes.{rejected}
+use Rattle.delivery.specs.Judging.{at_fault, faulty, oversized}
+use Rattle.delivery.specs.Pieces.{IsJudged}
+use Rattle.delivery.specs.declared.judging.closing.Judged.{Judged}
+use Rattle.delivery.proofs.rows.sound_rows.Goals as goal
+
+pub returns-in_ok-misbuilt-in-Misbuilt : goal.returns-in_ok-misbuilt-in-Misbuilt
+returns-in_ok-misbuilt-in-Misbuilt c l text h =
+    let j = subst (λ (x : Judged). IsJudged l text x) c.in-Misbuilt.is h in
+    at_fault c.in-Misbuilt.line (fault_of c.in-Misbuilt.code) j c.in_ok-misbuilt-in-Misbuilt.ensures
+
+pub returns-in_ok-rejected-in-Faulty : goal.returns-in_ok-rejected-in-Faulty
+returns-in_ok-rejected-in-Faulty c l text h =
+    let j = subst (λ (x : Judged). IsJudged l text x) c.in-Faulty.is h in
+    faulty j.0 j.1 j.2 (c.in_ok-rejected-in-Faulty.ensures ∙ ap rejected j.3)
+
+pub returns-in_ok-area_too_large-in-Oversized : goal.returns-in_ok-area_too_large-in-Oversized
+returns-in_ok-area_too_large-in-Oversized c l text h =
+    let j = subst (λ (x : Judged). IsJudged l text x) c.in-Oversized.is h in
+    oversized j.0 j.1 j.2 j.3 c.in_ok-area_too_large-in-Oversized.ensures
+
+pub returns-in-Clean : goal.returns-in-Clean
+returns-in-Clean c l text h = subst (λ (x : Judged). IsJudged l text x) c.in-Clean.is h
