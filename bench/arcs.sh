@@ -56,7 +56,7 @@ tell() {
 # The count of the search: its own, or where the compiler wrote it into its callers, theirs, which
 # do little else.
 search() {
-    counted "$1" area_search::finding::find_area delivery::area_answers::answer_of delivery::rows::checked
+    counted "$1" area_search::level::finding::find_area delivery::area_answers::answer_of delivery::rows::checked
 }
 
 for kind in cover arcs; do

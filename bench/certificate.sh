@@ -4,7 +4,7 @@
 . "$(dirname "${BASH_SOURCE[0]}")/begin.sh"
 . "$top/bench/scratch.sh"
 edges=${1:-1000000}
-scratch_crate certificate_bench 'certificate ports' ports certificate
+scratch_crate certificate_bench 'certificate ports' ports file_pages certificate
 cat > "$crate/src/main.rt" <<'END'
 // Writes a certificate where there is none, else reads it.
 #![tactic(auto)]

@@ -3,7 +3,7 @@
 # squares (501,000 straights), one of 250 by 250, and parcels (900,600 straights). Beside them runs
 # (a) a plain C program that parses the same numbers from the transfer and (b) a plain C++ sweep
 # over the straights, whose own reading of binary numbers is taken away. Neither proves anything,
-# names an object or writes a certificate. Then it runs on level strokes that are all live at once,
+# names an object or writes a certificate. Then it runs on strokes that are live at once all but two,
 # at two sizes, and on areas with arcs: 883,957 curves, of which 33,286 are half arcs, and 234,252
 # with 72,300, beside the sweep over their straights and chords, and the same with a bad pair and
 # with an undecided half arc. The programs run in turn, the best of five counts, of the bad and the

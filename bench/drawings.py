@@ -6,17 +6,23 @@ usage: drawings.py grid N FOLDER        N by N squares, two N (N + 1) straights
                                         a building of six straights in every second one
        drawings.py arcs N FOLDER        the same, but three of five borders are arcs
        drawings.py cover N FOLDER       the same, but one of 12 borders is an arc
-       drawings.py strokes N FOLDER     N straights that all lie above one another, in no order, and
-                                        no object: a sweep has all of them live at once
+       drawings.py strokes N FOLDER     one parcel, a ring of N straights that lead to and fro above
+                                        one another and end in no order: a sweep has all of them but
+                                        two live at once
        drawings.py arcs-bad N FOLDER    the same as arcs, and cover-bad as cover, and one line more
                                         that goes through an arc
        drawings.py arcs-undecided N FOLDER    the same as arcs, and cover-undecided as cover, and one
                                         ring more with a half arc of more than half a turn, which
                                         has a tube at no level
-       drawings.py fan N FOLDER         N straights from one vertex, all round
-       drawings.py uprights N FOLDER    N upright straights, in columns
+       drawings.py fan N FOLDER         N straights in triangles that share one vertex, all round: two
+                                        of three straights end there
+       drawings.py uprights N FOLDER    about N straights, upright but for two of each pair of columns
        drawings.py comb N FOLDER        one parcel, a comb of level teeth, N straights in all, half of
                                         which a sweep has live at once
+
+Each straight of strokes, fan, uprights and comb has a parcel on one side and none on the other, since
+one with the same region on both is at fault. So two straights or more end at each vertex, and N
+straights have at most N events.
 
 FOLDER gets `model` and `transfer`, which `check` accepts where nothing else is said, and the same as
 32-bit numbers in units of a millimetre: `straights`, x and y of the start, x and y of the end,
@@ -108,14 +114,19 @@ def parcels(count, share=0.0):
 
 
 def strokes(count):
-    """Level straights with a pace of 50 mm, each from the left half of the drawing into the right."""
+    """A ring that leads to and fro between the left half of the drawing and the right one, 50 mm
+    higher each time, and back on the left. Each straight is a line of its own."""
     chance = random.Random(1)
-    starts, ends = list(range(count)), list(range(count))
+    pairs = max(2, (count - 2) // 2)
+    starts, ends = list(range(pairs)), list(range(pairs))
     chance.shuffle(starts)
     chance.shuffle(ends)
     middle = 50 * max(count, 1_000_000)
-    lines = [[(50 * starts[i], 50 * i), (middle + 50 * ends[i], 50 * i)] for i in range(count)]
-    return lines, []
+    ring = []
+    for i in range(pairs):
+        ring += [(50 * starts[i] + 50, 100 * i), (middle + 50 * ends[i], 100 * i + 50)]
+    ring += [(0, 100 * pairs), (0, 0)]
+    return [list(line) for line in zip(ring, ring[1:] + ring[:1])], [(25, 50)]
 
 
 def with_bad(lines):
@@ -133,29 +144,38 @@ def with_undecided(lines):
 
 
 def fan(count):
-    """Straights from one vertex to places on a square about it."""
+    """Triangles from one vertex to neighbouring places on a square about it."""
     middle, half = 50_000_000, 40_000_000
-    step = 8 * half // count
+    triangles = max(4, count // 3)
+    step = 8 * half // (2 * triangles)
 
     def around(place):
         side, along = divmod(place, 2 * half)
-        return [(along - half, -half), (half, along - half), (half - along, half), (-half, half - along)][side]
+        x, y = [(along - half, -half), (half, along - half), (half - along, half), (-half, half - along)][side]
+        return (middle + x, middle + y)
 
-    ends = [around(step * i) for i in range(count)]
-    random.Random(1).shuffle(ends)
-    return [[(middle, middle), (middle + x, middle + y)] for x, y in ends], []
+    lines, points = [], []
+    for i in range(triangles):
+        one, other = around(2 * i * step), around((2 * i + 1) * step)
+        lines.append([(middle, middle), one, other, (middle, middle)])
+        points.append(((middle + one[0] + other[0]) // 3, (middle + one[1] + other[1]) // 3))
+    random.Random(1).shuffle(lines)
+    return lines, points
 
 
 def uprights(count):
-    """Upright straights of 50 mm with gaps of 50 mm, in columns of as many as there are columns."""
+    """Pairs of columns, each of as many upright straights of 50 mm as there are columns, with a parcel
+    in each pair. Each straight is a line of its own."""
     high = max(1, round(count ** 0.5))
-    places = list(range(count))
-    random.Random(1).shuffle(places)
-    lines = []
-    for place in places:
-        x, y = 100 * (place // high), 100 * (place % high)
-        lines.append([(x, y), (x, y + 50)])
-    return lines, []
+    lines, points = [], []
+    for pair in range(max(1, round(count / (2 * high + 2)))):
+        x = 200 * pair
+        for y in range(0, 50 * high, 50):
+            lines += [[(x, y), (x, y + 50)], [(x + 100, y), (x + 100, y + 50)]]
+        lines += [[(x, y), (x + 100, y)] for y in (0, 50 * high)]
+        points.append((x + 50, 25))
+    random.Random(1).shuffle(lines)
+    return lines, points
 
 
 def comb(count):

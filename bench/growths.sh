@@ -82,7 +82,8 @@ LIPT 160.000 160.000
 LIPT 140.000 160.000
 LIPT 140.000 140.000
 ELIN
-OBJE 3
+"""
+ENDING = """OBJE 3
 STPT 120.000 120.000
 LIPT 130.000 120.000
 ELIN
@@ -137,8 +138,11 @@ def transfer(lines, parcels):
 
 
 SQUARE = transfer(RING, "OBJE 1 77 o1 110.000 150.000\n")
-HOLED = transfer(RING + HOLE, "OBJE 1 77 o1 110.000 150.000\nOBJE 2 78 o2 150.000 150.000\n")
-CROSSED = transfer(RING + RING.replace("STPT 100", "STPT 300"), "OBJE 1 77 o1 110.000 150.000\n")
+IN_HOLE = "OBJE 1 77 o1 110.000 150.000\nOBJE 2 78 o2 150.000 150.000\n"
+HOLED = transfer(RING + HOLE, IN_HOLE)
+CUT = transfer(RING + HOLE + ENDING, IN_HOLE)
+OTHER = RING.replace("OBJE 1", "OBJE 2").replace("STPT 100", "STPT 300")
+CROSSED = transfer(RING + OTHER, "OBJE 1 77 o1 110.000 150.000\n")
 ROUND = transfer(CIRCLE, "OBJE 1 77 o1 500.000 500.000\n")
 NEAR = transfer(CIRCLE + SMALL, "OBJE 1 77 o1 500.000 500.000\nOBJE 2 78 o2 508.870 503.670\n")
 WRONG = transfer(RING, "OBJE 1 77 o3 110.000 150.000\nOBJE 2 77 o1 x 1.000\n")
@@ -147,7 +151,7 @@ WRONG = transfer(RING, "OBJE 1 77 o3 110.000 150.000\nOBJE 2 77 o1 x 1.000\n")
 CHECKS = [
     ("a square", "check", MODEL, SQUARE, None, 0),
     ("a square, filed before", "check", MODEL, SQUARE, b"as it was", 0),
-    ("a ring with a hole and a line that ends inside", "check", MODEL, HOLED, None, 0),
+    ("a ring with a hole", "check", MODEL, HOLED, None, 0),
     ("a circle of two arcs", "check", MODEL, ROUND, None, 0),
     ("a circle, and a square that level 0 does not settle", "check", MODEL, NEAR, None, 0),
     ("two arcs that begin in one direction", "check", MODEL, transfer(FORKED, ""), None, 2),
@@ -157,6 +161,7 @@ CHECKS = [
               .replace("520.000 520.000", "320.000 120.000"), ""), None, 2),
     ("circles near each other round the spiral, which is alone", "check", MODEL, transfer(SPIRAL + RINGED, ""), None, 2),
     ("two lines that meet", "check", MODEL, CROSSED, None, 1),
+    ("a ring with a hole and a line that ends inside", "check", MODEL, CUT, None, 1),
     ("wrong rows", "check", MODEL, WRONG, None, 1),
     ("a transfer that ends too soon", "check", MODEL, SQUARE[:150], None, 1),
     ("a refused model", "check", MODEL.replace("-> Owner", "-> Nobody"), SQUARE, None, 3),

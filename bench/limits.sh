@@ -170,11 +170,20 @@ size = put("T", (OBJECTS + b"OBJE 1\nSTPT 1 2\n", 1), (b"ARCP 2 3\nLIPT 1 3\nARC
 tell("transfer", "one line of arcs of a POLYLINE", size, run("check", "N", "T", "C"), EMPTY, ORDINARY)
 size = put("T", (FRONT + b"OBJE 1\nSTPT 1 2\n", 1), (b"LIPT 2 1\nLIPT 1 2\n", SIZE // 18), (b"ELIN\nETAB\n" + TAIL[5:], 1))
 tell("transfer", "one line of an AREA, to and fro", size, run("check", "M", "T", "C"), EMPTY, ORDINARY)
-size = put("T", (FRONT + b"OBJE 1\nSTPT 1 2\n", 1), (b"LIPT 1 2\n", SIZE // 9 - 1), (b"LIPT 2 2\nELIN\nETAB\n" + TAIL[5:], 1))
+
+
+def one_line(start, parts, end, point):
+    """The transfer of one line of an AREA and one object; its size."""
+    return put("T", (FRONT + b"OBJE 1\nSTPT %b\n" % metres(*start), 1), *parts,
+               (b"".join(b"LIPT %b\n" % metres(*at) for at in end), 1),
+               (b"ELIN\nETAB\nTABL A\nOBJE 1 %b\n" % metres(*point) + TAIL, 1))
+
+
+size = one_line((1000, 2000), [(b"LIPT 1 2\n", SIZE // 9)], [(2000, 2000), (2000, 3000), (1000, 2000)], (1900, 2200))
 tell("transfer", "one line of an AREA that stays at its start", size, run("check", "M", "T", "C"), EMPTY, ORDINARY)
-step = min(1000, 899000000 * 24 // SIZE)
-saw = b"".join(b"LIPT %b\n" % metres(step * i, step * (i % 2)) for i in range(1, SIZE // 24))
-size = put("T", (FRONT + b"OBJE 1\nSTPT 0 0\n" + saw + b"ELIN\nETAB\n" + TAIL[5:], 1))
+step, teeth = min(1000, 899000000 * 24 // SIZE), SIZE // 24
+saw = b"".join(b"LIPT %b\n" % metres(step * i, step * (i % 2)) for i in range(1, teeth))
+size = one_line((0, 0), [(saw, 1)], [(step * teeth, 2 * step), (0, 2 * step), (0, 0)], (step, step + step // 2))
 tell("transfer", "one line of an AREA, a saw", size, run("check", "M", "T", "C"), EMPTY, ORDINARY)
 
 # ---- circles about one place: each two of their half arcs have boxes that meet
@@ -276,18 +285,22 @@ def leaf(k, inside):
 
 
 def half_way():
-    """A straight that ends 4 units inside the circle of leaf 0, in the middle of a part of level 4."""
+    """A triangle in leaf 0, and its point: one corner is 4 units inside the circle, in the middle of a part
+    of level 4."""
     turn = math.atan2(60000, 80000)
     angle = turn * (16.5 / 32)
-    near, far = (((200000 + (RADIUS - d) * math.cos(angle)), 200000 + (RADIUS - d) * math.sin(angle)) for d in (4, 2000))
-    return [tuple(map(round, near)), (b"LIPT", tuple(map(round, far)))]
+    places = ((4, 0), (2000, 0.01), (2000, -0.01), (1400, 0))
+    near, one, other, point = ((round(200000 + (RADIUS - d) * math.cos(angle + a)), round(200000 + (RADIUS - d) * math.sin(angle + a)))
+                               for d, a in places)
+    return [near, (b"LIPT", one), (b"LIPT", other), (b"LIPT", near)], point
 
 
 for what, level, inside in (("level 0", 0, False), ("level 5, points elsewhere", 5, False), ("level 5, points in tubes", 5, True)):
-    leaves = [leaf(k, inside) for k in range(LEAVES)]
-    lines = [arc for arc, _ in leaves] + ([half_way()] if level else [])
-    delivery(lines, [at for _, at in leaves])
+    rings = [leaf(k, inside) for k in range(LEAVES)] + ([half_way()] if level else [])
+    delivery([ring for ring, _ in rings], [at for _, at in rings])
     checked = run("check", "M", "T", "C")
+    if checked[1] != 0:
+        sys.exit("%d half arcs, %s, are not accepted" % (2 * LEAVES, what))
     with open("C", "rb") as file:
         text = file.read()
     got = run("verify", "M", "T", "C")

@@ -18,14 +18,15 @@ from random_drawings import NAMES, compare_many, fail
 
 MODEL = random_arcs.ARCS_TOO.encode()
 BYTES = b"0123456789 .-@\\_:;=()[]*>,/!ABCDEILMNOPRSTV\n\r\t\x00\xff"
-# a circle with a square in the tube of its first half arc, and a square with a straight within
+# a circle with a square in the tube of its first half arc, and a square with a square within
 ROUND = [[((510000, 500000), (500000, 510000), (490000, 500000)),
           ((490000, 500000), (500000, 490000), (510000, 500000))]]
 SMALL = [random_arcs.square((508860, 503660), 20)]
 DELIVERIES = [
     (ROUND, [(500000, 500000)]),
     (ROUND + SMALL, [(500000, 500000), (508870, 503670)]),
-    ([random_arcs.square((100000, 100000), 100000), [((120000, 120000), (130000, 125000))]], [(150000, 150000)]),
+    ([random_arcs.square((100000, 100000), 100000), random_arcs.square((120000, 120000), 5000)],
+     [(150000, 150000), (122000, 123000)]),
 ]
 
 

@@ -3,9 +3,9 @@
 # straights of a square grid and 900,600 of a drawing of parcels, beside a plain C++ sweep over the
 # same numbers. What reading the numbers and the certificate takes is measured by itself and taken
 # away, and what reading the numbers takes from the plain sweep. Memory is what `check` takes above
-# the drawing and the certificate, which are held before it begins. Then it runs over level strokes
-# that are all live at once, at two sizes: each event moves the part of the live list that is above
-# it. The certificates are made by `check` of the built program that is named, else by
+# the drawing and the certificate, which are held before it begins. Then it runs over strokes that
+# are live at once all but two, at two sizes: each event moves a part of the live list. The
+# certificates are made by `check` of the built program that is named, else by
 # plain_certificate.py; the program over `certificate_checker` is built in a scratch folder. Prints
 # ratios, no absolute times.
 #
@@ -16,8 +16,8 @@
 . "$top/bench/scratch.sh"
 itfcheck=${1:+$(realpath "$1")}
 scratch_crate verify_bench 'ports plane certificate certificate_checker' \
-    ports plane half_edges straight_predicates arc_predicates event_mesh tubes certificate \
-    certificate_checker
+    ports file_pages plane half_edges straight_predicates arc_predicates event_mesh tubes \
+    certificate certificate_checker
 cat > "$crate/src/main.rt" <<'END'
 // Reads straights and points as 32-bit numbers and a certificate, and checks it. With a word that
 // begins with r it only reads; with one that begins with w it opens the files `held` and `go`

@@ -3,8 +3,9 @@
 # `check` of 1,000 and of 20,000 such objects under models of 50,000 and of 200,000 attributes.
 # Prints for each the first line of the report, the status, the CPU time as a multiple of that of
 # `compile` of the same model, and the peak memory as a multiple of the model and the transfer. What
-# the objects alone cost should not depend on how many attributes there are. The last form is known
-# to be a product, of objects and IDENT lists, and is smaller.
+# the objects alone cost should not depend on how many attributes there are, nor on how many times
+# one IDENT list is said. The last form, of lists that differ, is known to be a product, of objects
+# and lists; the last two are smaller.
 #
 # usage: bench/wide_tables.sh [ITFCHECK]      (crates/itfcheck/out/itfcheck where none is given)
 . "$(dirname "${BASH_SOURCE[0]}")/begin.sh"
@@ -38,18 +39,32 @@ def bare(n):
     return f"OBJE {n}\n"
 
 
+def named(n):
+    return f"OBJE {n} x{n}\n"
+
+
+def nine_words(n):
+    return f"OBJE {n} x{n}" + " b" * 8 + "\n"
+
+
+def differing(count):
+    """So many IDENT lists, at most 256, that all begin with a0 and differ in which of a1 to a8 they name."""
+    lists = [["a0"] + [f"a{k + 1}" for k in range(8) if n >> k & 1] for n in range(count)]
+    return "IDENT " + "".join(", ".join(names) + ";" for names in lists)
+
+
 def one_stroke(n):
     return f"OBJE {n}\nSTPT 1.0 1.0\nLIPT 2.0 2.0\nELIN\n"
 
 
-# A name, the model by a number of attributes, an object, and the numbers of attributes.
+# A name, the model by a number of attributes or of lists, an object, and the numbers.
 FORMS = [
     ("columns, too few words", lambda n: model(["OPTIONAL D"] * n), bare, (50_000, 200_000)),
     ("optional lines left out", lambda n: model(["OPTIONAL L"] * n), bare, (50_000, 200_000)),
     ("lines, the first of them given", lambda n: model(["OPTIONAL L"] * n), one_stroke, (50_000, 200_000)),
     ("lines left out, the last of them mandatory", lambda n: model(["OPTIONAL L"] * (n - 1) + ["L"]), bare, (50_000, 200_000)),
-    ("IDENT lists of one attribute", lambda n: model(["TEXT*9"], "IDENT " + "a0;" * n),
-     lambda n: f"OBJE {n} x{n}\n", (50, 200)),
+    ("equal IDENT lists", lambda n: model(["TEXT*9"], "IDENT " + "a0;" * n), named, (50, 200)),
+    ("IDENT lists that differ, of nine columns", lambda n: model(["TEXT*9"] * 9, differing(n)), nine_words, (50, 200)),
 ]
 
 for name, text_of, object_of, numbers in FORMS:

@@ -1,9 +1,10 @@
 #!/usr/bin/env bash
 # Runs `check` and `verify` of the built program on drawings that are made to be hard: straights
-# that are all live at once, one vertex for all, upright straights alone, a comb. Each stands beside
-# parcels with about as many straights. One run each; prints CPU time and peak memory, and the time
-# beside that of the parcels. One run more has 8 bytes of address space for each byte that is read:
-# it has to give the same answer, or status 8 with nothing put or changed.
+# that are all live at once, a vertex where two of three straights end, columns of upright straights,
+# a comb. Each stands beside parcels with about as many straights. One run each, which has to accept;
+# prints CPU time and peak memory, and the time beside that of the parcels. One run more has 8 bytes
+# of address space for each byte that is read: it has to accept too, or to end with status 8 and
+# nothing put or changed.
 #
 # usage: bench/worst.sh [ITFCHECK]      (crates/itfcheck/out/itfcheck where none is given)
 . "$(dirname "${BASH_SOURCE[0]}")/begin.sh"
@@ -16,6 +17,10 @@ both() {
     python3 "$top/bench/drawings.py" "$1" "$2" "$work"
     read -r check check_peak check_status <<< "$(once "$itfcheck" check model transfer certificate)"
     read -r verify verify_peak verify_status <<< "$(once "$itfcheck" verify model transfer certificate)"
+    if [ "$check_status $verify_status" != '0 0' ]; then
+        echo "$1 $2 is not accepted: check ends with $check_status, verify with $verify_status" >&2
+        exit 1
+    fi
     size=$(stat -c %s transfer)
     read_size=$(( size + $(stat -c %s certificate) ))
     straights=$(( $(stat -c %s straights) / 16 ))
@@ -32,11 +37,11 @@ for count in 100000 200000 1000000; do
     for kind in strokes fan uprights comb; do
         both $kind $count
         awk -v k="$kind" -v n="$straights" -v s="$size" -v c="$check" -v v="$verify" -v cm="$check_peak" -v vm="$verify_peak" \
-            -v cs="$check_status" -v vs="$verify_status" -v pc="$plain_check" -v pv="$plain_verify" -v ps="$plain_size" \
+            -v pc="$plain_check" -v pv="$plain_verify" -v ps="$plain_size" \
             -v rs="$read_size" -v cw="$check_within" -v vw="$verify_within" 'BEGIN {
             scale = s / ps
-            printf "%s: %d straights, transfer %.0f MB: check %.1f s, %.1f times that of parcels of this size, peak %.1f times what it reads, status %d, %s; verify %.1f s, %.1f times, peak %.1f times what it reads, status %d, %s\n", \
-                k, n, s / 1e6, c / 1e3, c / (pc * scale), cm * 1024 / s, cs, cw, v / 1e3, v / (pv * scale), vm * 1024 / rs, vs, vw
+            printf "%s: %d straights, transfer %.0f MB: check %.1f s, %.1f times that of parcels of this size, peak %.1f times what it reads, %s; verify %.1f s, %.1f times, peak %.1f times what it reads, %s\n", \
+                k, n, s / 1e6, c / 1e3, c / (pc * scale), cm * 1024 / s, cw, v / 1e3, v / (pv * scale), vm * 1024 / rs, vw
         }'
     done
 done
