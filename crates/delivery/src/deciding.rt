@@ -161,7 +161,8 @@ fn by_task<'a, S: Shelf>(
     ensures outcome { IfOk result (λ o. Ends (S.held shelf.old)
         (ReadRose (S.read_faults shelf.old) (S.read_faults shelf.new)) (task_view task.now)
         (layout_view layout.now) (outcome_of o)) }
-    ensures reads { OnlyReads (AreReadable (S.readable shelf.old) (further_files (task_view task.now)))
+    ensures reads { OnlyReads
+        (AreReadable (S.readable shelf.old) (further_files (task_view task.now)))
         (S.held shelf.old) (S.read_faults shelf.old)
         (S.write_faults shelf.old) (S.readable shelf.old) (S.space shelf.old)
         (S.held shelf.new) (S.read_faults shelf.new) (S.write_faults shelf.new)
@@ -191,7 +192,8 @@ fn from_model_text<'a, S: Shelf>(
     ensures outcome { IfOk result (λ o. EndsModel (S.held shelf.old)
         (ReadRose (S.read_faults shelf.old) (S.read_faults shelf.new)) (task_view task.now)
         text.now (outcome_of o)) }
-    ensures reads { OnlyReads (AreReadable (S.readable shelf.old) (further_files (task_view task.now)))
+    ensures reads { OnlyReads
+        (AreReadable (S.readable shelf.old) (further_files (task_view task.now)))
         (S.held shelf.old) (S.read_faults shelf.old)
         (S.write_faults shelf.old) (S.readable shelf.old) (S.space shelf.old)
         (S.held shelf.new) (S.read_faults shelf.new) (S.write_faults shelf.new)

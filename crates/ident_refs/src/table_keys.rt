@@ -1,5 +1,6 @@
 // What is kept of the rows of a table.
-ghost use Rattle.std.specs.Prelude.{◌≡◌, ◌≤◌, ◌<◌, ◌∷◌, ℕ, List, [], length, map, OnOk, IfOk, IsTrue};
+ghost use Rattle.std.specs.Prelude.{◌≡◌, ◌≤◌, ◌<◌, ◌∷◌, ℕ, List, [], length, map};
+ghost use Rattle.std.specs.Prelude.{OnOk, IfOk, IsTrue};
 ghost use Rattle.std.specs.List.{All, flat_map};
 ghost use Rattle.ili_grammar.specs.Syntax.{Codes as GivenCodes};
 ghost use Rattle.ili_grammar.specs.Values.{codes_of};
