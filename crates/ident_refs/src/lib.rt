@@ -31,13 +31,13 @@
 //!   place give two findings. A list without places is the same for all rows. Where a transfer has
 //!   fewer tables than the layout, the others have no rows.
 //!
-//! Cost: the keys of each column are sorted, and found by binary search, in n log n comparisons for
-//! every input. A feed keeps 20 bytes for each row, 16 for each different IDENT list of its table
-//! and 32 for each reference, and the bytes of keys of more than 14 bytes; at the end 16 further
-//! ones for each row of all tables, and 16 for each row of the table whose list is looked at. Lists of
-//! the same places are kept and looked at once; different ones cost rows times lists. The words of
-//! IDENT lists are read once more, the vertices of their lines twice more. The order of the
-//! findings takes what a sort takes.
+//! Cost: the keys of each column are sorted, and found by binary search, in n log n comparisons
+//! for every input. A feed keeps 20 bytes for each row, 16 for each different IDENT list of its
+//! table and 32 for each reference, and the bytes of keys of more than 14 bytes; at the end 16
+//! further ones for each row of all tables, and 16 for each row of the table whose list is looked
+//! at. Lists of the same places are kept and looked at once; different ones cost rows times lists.
+//! The words of IDENT lists are read once more, the vertices of their lines twice more. The order
+//! of the findings takes what a sort takes.
 #![tactic(auto)]
 
 mod feed;
