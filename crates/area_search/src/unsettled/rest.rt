@@ -58,6 +58,7 @@ fn rest_with(
             window: drawing.window,
             curves,
             points,
+            tolerance: drawing.tolerance,
         },
         numbers,
     })
