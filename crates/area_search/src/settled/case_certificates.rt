@@ -56,7 +56,7 @@ pub(crate) fn certify_run(
     Ok(certificate)
 }
 
-/// The certificate of these parts at a level, with empty names.
+/// The certificate of these parts at a level, with empty names, of the drawing itself.
 fn nameless(
     alloc: Global,
     level: u8,
@@ -78,6 +78,7 @@ fn nameless(
         table: Name::new(alloc, b"".as_slice())?,
         attribute: Name::new(alloc, b"".as_slice())?,
         level,
+        bent: false,
         positions,
         notes,
         places,
