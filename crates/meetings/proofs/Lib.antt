@@ -1,6 +1,5 @@
 pub mod Choices
 pub mod Answering
-pub mod OnStraights
 pub mod OnCircles
 pub mod ArcPairs
 pub mod Reaches

@@ -1,5 +1,5 @@
 //! Tests of the crates of the plane, by their public items alone: predicates, circles, drawings,
-//! boxes, bad pairs of curves, pairs that break a level, meshes, the sweep, places of points and
+//! forks, boxes, bad pairs of curves, pairs that break a level, meshes, the sweep, places of points and
 //! the texts of certificates. Whole areas with their faces and links, and certificates that are
 //! changed in a line, are rows of `worked_rows`.
 //!
@@ -8,6 +8,8 @@
 
 #[cfg(test)]
 mod bad_pairs;
+#[cfg(test)]
+mod bent_drawings;
 #[cfg(test)]
 mod broken_levels;
 #[cfg(test)]
@@ -26,6 +28,8 @@ mod edge_lists;
 mod event_squares;
 #[cfg(test)]
 mod foreign_corners;
+#[cfg(test)]
+mod fork_zones;
 #[cfg(test)]
 mod half_arc_tubes;
 #[cfg(test)]

@@ -22,3 +22,4 @@ pub mod Joined
 pub mod ChunkSteps
 pub mod ChunkSearch
 pub mod NextEdges
+pub mod OnStraights

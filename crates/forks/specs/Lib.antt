@@ -1,0 +1,4 @@
+pub mod Zones
+pub mod Bent
+pub mod Ends
+pub mod ForkedStraights
