@@ -1,0 +1,13 @@
+pub mod PlaneLaws
+pub mod Rounds
+pub mod Passes
+pub mod Ways
+pub mod Leadings
+pub mod RingLists
+pub mod Outlining
+pub mod Sides
+pub mod Circling
+pub mod Bounding
+pub mod TakenPolygons
+pub mod Texts
+pub mod GivenRings
