@@ -1,6 +1,7 @@
 -- The drawing of an area: from the rows of a transfer to curves and points of the plane.
 use Rattle.std.specs.Prelude.{◌≡◌, ℕ, ◌+◌, if◌then◌else◌, List, [], ◌∷◌, ◌++◌, take, drop, map}
-use Rattle.std.specs.Prelude.{Option, Some, None, Result, Ok, pos, slice_get, slice_index_or}
+use Rattle.std.specs.Prelude.{Option, Some, None, Result, Ok, ℤ, pos, negsuc, min, ◌^◌, slice_get}
+use Rattle.std.specs.Prelude.{slice_index_or}
 use Rattle.std.specs.List.{AllZip, flat_map}
 use Rattle.ili_grammar.specs.Syntax.{Codes}
 use Rattle.resolver.specs.Resolved.{LineForm, Window}
@@ -136,6 +137,22 @@ pub record IsDrawing (l : Layout) (rows : List (List Row)) (a : AreaOf) (d : Pla
   pub window : HasWindow (lines_in (slice_get l.tables a.lines)) d.window
   pub curves : d.curves ≡ area_curves l rows a
   pub points : d.points ≡ area_points l rows a
+
+-- ---- permitted overlaps
+-- an overlap in units as a drawing has it: none is 0, and so is one below 0; at most 2 ^ 20
+abbrev pub permitted : Option ℤ → ℤ
+permitted None = pos 0
+permitted (Some (negsuc n)) = pos 0
+permitted (Some (pos n)) = pos (min n (2 ^ 20))
+
+-- the overlap that lines of these forms permit; a table of lines has one form of them
+abbrev pub tolerance_by : List LineForm → ℤ
+tolerance_by [] = pos 0
+tolerance_by (l ∷ ls) = permitted l.overlap
+
+-- the overlap that an AREA permits
+abbrev pub area_tolerance : Layout → AreaOf → ℤ
+area_tolerance l a = tolerance_by (lines_in (slice_get l.tables a.lines))
 
 -- the drawings of all areas, in order
 abbrev pub AreDrawings : Layout → List (List Row) → List Plan → Type 0

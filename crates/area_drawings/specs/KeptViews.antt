@@ -1,13 +1,16 @@
 -- What the code keeps of rows, without where it lies in memory.
-use Rattle.std.specs.Prelude.{List, map, Option}
+use Rattle.std.specs.Prelude.{◌≡◌, List, map, Option}
 use Rattle.std.specs.Borrow.{Bor}
 use Rattle.std.specs.Option.{option_map}
 use Rattle.itf_reader.specs.declared.rows.values.Cell.{Cell as CodeCell}
 use Rattle.itf_reader.specs.RowReadings.{Cell, cell_view, vertices_view}
+use Rattle.plane.specs.declared.drawing.Drawing.{Drawing}
 use Rattle.area_drawings.specs.declared.kept_lines.KeptLines.{KeptLines}
 use Rattle.area_drawings.specs.declared.kept_points.PointColumn.{PointColumn as CodeColumn}
 use Rattle.area_drawings.specs.declared.kept_points.KeptPoints.{KeptPoints}
 use Rattle.area_drawings.specs.declared.table_places.TablePlaces.{TablePlaces}
+use Rattle.table_layout.specs.Layouts.{AreaOf, Layout}
+use Rattle.area_drawings.specs.Drawings.{area_tolerance}
 use Rattle.area_drawings.specs.KeptLines.{Lines}
 use Rattle.area_drawings.specs.KeptPoints.{PointColumn}
 use Rattle.area_drawings.specs.KeptRows.{Kept}
@@ -39,3 +42,7 @@ kept_of k = record { lines = option_map lines_of k.lines; points = points_of k.p
 -- and of each of some tables
 abbrev pub kept_in : List TablePlaces → List Kept
 kept_in ks = map kept_of ks
+
+-- the drawing permits the overlap of that area
+abbrev pub HasTolerance : Layout → AreaOf → Drawing → Type 0
+HasTolerance l a d = d.tolerance ≡ area_tolerance l a

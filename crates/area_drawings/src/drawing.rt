@@ -9,15 +9,15 @@ ghost use Rattle.field_values.specs.Places.{place_view};
 ghost use Rattle.plane.specs.Rule.Plans.{plan};
 ghost use Rattle.table_layout.specs.Values.{area_view, areas_view, layout_view};
 ghost use Rattle.area_drawings.specs.Drawable.{IsIn};
-ghost use Rattle.area_drawings.specs.Drawings.{curves_after};
+ghost use Rattle.area_drawings.specs.Drawings.{curves_after, permitted};
 ghost use Rattle.area_drawings.specs.KeptDrawings.{AreIn, ArePointsIn, AreDrawable, AreDrawn};
 ghost use Rattle.area_drawings.specs.KeptDrawings.{CanBeDrawn, IsDrawnFrom};
 ghost use Rattle.area_drawings.specs.KeptDrawings.{kept_curves, seen_curves, total};
 ghost use Rattle.area_drawings.specs.KeptRows.{counts_in, vertices_in};
-ghost use Rattle.area_drawings.specs.KeptViews.{kept_in, kept_of};
+ghost use Rattle.area_drawings.specs.KeptViews.{HasTolerance, kept_in, kept_of};
 
 use crate::curves::{Pen, draw_to};
-use crate::forms::{line_form, plane_window};
+use crate::forms::{line_form, plane_window, tolerance};
 use crate::table_places::TablePlaces;
 use field_values::Place;
 use itf_reader::ReadVertex;
@@ -114,13 +114,15 @@ pub fn draw(
     requires narrow { IsNarrow (line_of form.now).window }
     requires drawable { AreDrawable (line_of form.now) (counts_in (kept_of lines.now).lines)
         (vertices_in (kept_of lines.now).lines) points.now }
-    ensures { IfOk result (λ d. AreDrawn (line_of form.now)
+    ensures drawn { IfOk result (λ d. AreDrawn (line_of form.now)
         (counts_in (kept_of lines.now).lines) (vertices_in (kept_of lines.now).lines)
         points.now (plan d)) }
+    ensures tolerance { IfOk result (λ d. d.tolerance ≡ permitted form.now.overlap) }
 {
     let mut drawing = Drawing::new(alloc, plane_window(&form.window));
     add_strokes(lines.counts(), lines.vertices(), &mut drawing)?;
     add_placed(points, &mut drawing)?;
+    drawing.set_tolerance(tolerance(form));
     Ok(drawing)
 }
 
@@ -132,8 +134,10 @@ fn drawing_from(
     area: &AreaOf,
 ) -> Result<Drawing, Memory>
     requires { CanBeDrawn (layout_view layout.now) (kept_in tables.now) (area_view area.now) }
-    ensures { IfOk result (λ d. IsDrawnFrom (layout_view layout.now) (kept_in tables.now)
+    ensures drawn { IfOk result (λ d. IsDrawnFrom (layout_view layout.now) (kept_in tables.now)
         (area_view area.now) (plan d)) }
+    ensures tolerance { IfOk result (HasTolerance (layout_view layout.now)
+        (area_view area.now)) }
 {
     let form = line_form(layout, area);
     let lines = &tables[area.lines.0 as usize];
@@ -149,9 +153,11 @@ pub fn drawings_from(
 ) -> Result<Vec<Drawing>, Memory>
     requires { All (CanBeDrawn (layout_view layout.now) (kept_in tables.now))
         (areas_view layout.now.areas.items) }
-    ensures { IfOk result (λ ds. AllZip
+    ensures drawn { IfOk result (λ ds. AllZip
         (IsDrawnFrom (layout_view layout.now) (kept_in tables.now))
         (areas_view layout.now.areas.items) (map plan ds.items)) }
+    ensures tolerances { IfOk result (λ ds. AllZip (HasTolerance (layout_view layout.now))
+        (areas_view layout.now.areas.items) ds.items) }
 {
     let mut drawings = Vec::with_capacity(alloc, layout.areas.len())?;
     for area in &layout.areas {

@@ -1,14 +1,18 @@
 // The forms of an area in the layout.
-ghost use Rattle.std.specs.Prelude.{◌≡◌, ◌∷◌, [], slice_get};
+ghost use Rattle.std.specs.Prelude.{◌≡◌, ◌∷◌, [], Some, slice_get};
+ghost use Rattle.plane.specs.Rule.Overlaps.{IsTolerance};
 ghost use Rattle.resolver.specs.Sound.{IsNarrow};
 ghost use Rattle.resolver.specs.Values.{line_of, window_of};
 ghost use Rattle.table_layout.specs.Values.{area_view, layout_view, lines_view, tables_view};
-ghost use Rattle.area_drawings.specs.Drawings.{lines_in, IsWindowOf};
+ghost use Rattle.area_drawings.specs.Drawings.{lines_in, permitted, IsWindowOf};
 ghost use Rattle.area_drawings.specs.Drawable.{HasForms};
 
 use plane::{Point, Window2};
 use resolver::{LineForm, Window};
 use table_layout::{AreaOf, Layout, TableId};
+
+// The greatest overlap that a drawing may permit, in units.
+const MOST_PERMITTED: i64 = 1_048_576;
 
 // The forms of the lines of a table, none where there is no such table.
 fn lines_of(layout: &Layout, id: TableId) -> &[LineForm]
@@ -31,6 +35,32 @@ pub fn line_form<'a>(layout: &'a Layout, area: &AreaOf) -> &'a LineForm
     match lines_of(layout, area.lines) {
         [form, ..] => form,
         [] => unreachable!(),
+    }
+}
+
+/// The overlap in units that lines of that form permit a drawing: 0 where none or one below 0 is
+/// given, and at most 1,048,576.
+pub fn tolerance(form: &LineForm) -> i64
+    ensures value { result ≡ permitted form.now.overlap }
+    ensures permitted { IsTolerance result }
+{
+    match form.overlap {
+        Some(overlap) => most_permitted(overlap),
+        None => 0,
+    }
+}
+
+// An overlap within the bounds that a drawing asks for.
+fn most_permitted(overlap: i64) -> i64
+    ensures value { result ≡ permitted (Some overlap) }
+    ensures permitted { IsTolerance result }
+{
+    if overlap < 0 {
+        0
+    } else if overlap > MOST_PERMITTED {
+        MOST_PERMITTED
+    } else {
+        overlap
     }
 }
 

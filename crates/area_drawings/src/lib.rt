@@ -9,7 +9,8 @@
 //!   where the three places lie on one straight it is the straights between them, without those of
 //!   no length. An object has the line of its row, and no point where its column is undefined. The
 //!   definition is `IsDrawing`, of a layout and rows; one line names one curve of an area, and one
-//!   object (`laws::lines_name_one`), and an area has one drawing.
+//!   object (`laws::lines_name_one`), and an area has one drawing. It permits the overlap that the
+//!   form of the area's lines gives, in units: 0 where there is none, and at most 1,048,576.
 //! - **What is kept.** Chosen once for each table: of lines of an area the vertices and how many
 //!   each row has (`KeptLines`), and the points of the columns that are asked for by number
 //!   (`KeptPoints`). Each is a function of the rows, one row more a step (`laws::one_more_row`).

@@ -23,12 +23,12 @@ flat_map_more {X} {Y} f (x ∷ xs) ys = ap (λ (l : List Y). f x ++ l) (flat_map
 abbrev pub ids_by : List (List Row) → List (List (Option (List ℕ)))
 ids_by transfer = map (map id_key) transfer
 
-ids_at : (transfer : List (List Row)) (k : ℕ) → slice_index_or (ids_by transfer) k [] ≡ map id_key (slice_index_or transfer k [])
+pub ids_at : (transfer : List (List Row)) (k : ℕ) → slice_index_or (ids_by transfer) k [] ≡ map id_key (slice_index_or transfer k [])
 ids_at [] k = refl
 ids_at (rows ∷ transfer) zero = refl
 ids_at (rows ∷ transfer) (suc k) = ids_at transfer k
 
-same_word : (word : List ℕ) (o : Option (List ℕ)) → is_key (word_code word) (option_map word_code o) ≡ is_key word o
+pub same_word : (word : List ℕ) (o : Option (List ℕ)) → is_key (word_code word) (option_map word_code o) ≡ is_key word o
 same_word word None = refl
 same_word word (Some other) = refl
 

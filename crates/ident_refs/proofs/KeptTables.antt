@@ -11,9 +11,9 @@ use Rattle.itf_reader.specs.Forms.{Row}
 use Rattle.itf_reader.specs.ClosedRows.{of_table, by_table, by_table_from}
 use Rattle.itf_reader.specs.Layouts.{form_of, wanted_of}
 use Rattle.ident_refs.specs.FedRows.{row_at, fed_rows, fed_tables, with_number, all_rows, fed_keys}
-use Rattle.ident_refs.specs.KeptRows.{id_key, list_key, row_line, row_refs, Ref, KeptList, Kept, kept_table, kept_list, kept_lists, kept_from, kept_rows, no_rows, with_key, with_row, list_findings, ref_findings, kept_findings, all_ids, all_lines, all_kept_findings}
+use Rattle.ident_refs.specs.KeptRows.{id_key, list_key, row_line, row_refs, Ref, KeptList, Kept, kept_table, kept_list, kept_lists, kept_from, kept_rows, no_rows, with_key, with_row, list_findings, ref_findings, kept_findings, all_ids, all_lines, all_kept_findings, refs_at}
 use Rattle.ident_refs.specs.declared.table_keys.TableKeys.{TableKeys}
-use Rattle.ident_refs.specs.KeptViews.{all_kept_view}
+use Rattle.ident_refs.specs.KeptViews.{all_kept_view, refs_view}
 use Rattle.ident_refs.specs.KeyFindings.{tid_findings, ident_findings, table_keys, tables_keys}
 use Rattle.ident_refs.proofs.KeptKeys.{tids_found, idents_found}
 use Rattle.ident_refs.proofs.KeptRefs.{flat_map_more, ids_by, refs_found}
@@ -115,7 +115,7 @@ kept_found codes transfer t rows =
     ∙ ap (λ (fs : List Finding). tid_findings [] rows ++ (fs ++ flat_map (ref_findings (ids_by transfer)) k.refs)) (lists_found codes t rows t.idents)
     ∙ ap (λ (fs : List Finding). tid_findings [] rows ++ (flat_map (λ list. ident_findings codes t list [] rows) t.idents ++ fs)) (refs_found codes transfer t rows)
 
-ids_kept : (codes : Codes) (n : ℕ) (ts : List Table) (rows : List (ℕ × Row)) → all_ids (kept_from codes n ts rows) ≡ ids_by (by_table_from n (map wanted_of ts) rows)
+pub ids_kept : (codes : Codes) (n : ℕ) (ts : List Table) (rows : List (ℕ × Row)) → all_ids (kept_from codes n ts rows) ≡ ids_by (by_table_from n (map wanted_of ts) rows)
 ids_kept codes n [] rows = refl
 ids_kept codes n (t ∷ ts) rows = ap (λ (l : List (List (Option (List ℕ)))). map id_key (of_table n rows) ∷ l) (ids_kept codes (n + 1) ts rows)
 
@@ -148,3 +148,9 @@ pub lines_there : (tables : List TableKeys) (place : ℕ) (t : TableKeys) → pl
 lines_there [] place t lt e = absurd (omega (arith, lt))
 lines_there (y ∷ tables) zero t lt e = ap (λ (k : TableKeys). k.lines.items) e
 lines_there (y ∷ tables) (suc place) t lt e = lines_there tables place t (omega (arith, lt)) e
+
+-- ---- the references of a table
+pub refs_there : (tables : List TableKeys) (place : ℕ) (t : TableKeys) → place < length tables → t ≡ get_or tables place t → refs_view t.refs.items ≡ refs_at place (all_kept_view tables)
+refs_there [] place t lt e = absurd (omega (arith, lt))
+refs_there (y ∷ tables) zero t lt e = ap (λ (k : TableKeys). refs_view k.refs.items) e
+refs_there (y ∷ tables) (suc place) t lt e = refs_there tables place t (omega (arith, lt)) e

@@ -90,7 +90,7 @@ early_first key j (suc i) p (x ∷ lines) (k ∷ keys) e l m = elim (is_key key 
 abbrev pub Place : List ℕ → List (Option (List ℕ)) → Option ℕ → Type 0
 Place key keys found = found ≡ position_from (is_key key) 0 (map cell_key keys)
 
-found_so : (key : List ℕ) (keys : List (Option (List ℕ))) (found : Option ℕ) → Place key keys found → position_from (is_key key) 0 keys ≡ found
+pub found_so : (key : List ℕ) (keys : List (Option (List ℕ))) (found : Option ℕ) → Place key keys found → position_from (is_key key) 0 keys ≡ found
 found_so key keys found e = sym (e ∙ ap (λ (ks : List (Option (List ℕ))). position_from (is_key key) 0 ks) (self_keys keys))
 
 pub has_key : (key : List ℕ) (keys : List (Option (List ℕ))) (found : Option ℕ) (b : Bool) → Place key keys found → b ≡ is_some found → b ≡ list_any (is_key key) keys

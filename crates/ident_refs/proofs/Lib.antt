@@ -21,3 +21,4 @@ pub mod Collecting
 pub mod NoRows
 pub mod NeighbouringKeys
 pub mod SharedSteps
+pub mod NamedRefs

@@ -1,7 +1,8 @@
 -- What is kept of the rows of a table: their lines, their keys, and the words that name other rows.
-use Rattle.std.specs.Prelude.{ℕ, ◌+◌, List, [], ◌∷◌, ◌++◌, map, take, drop, slice_index_or, Option}
+use Rattle.std.specs.Prelude.{ℕ, ◌+◌, List, [], ◌∷◌, ◌++◌, map, take, drop, slice_index_or}
+use Rattle.std.specs.Prelude.{Option, nat_eq}
 use Rattle.std.specs.Prelude.{Some, None, if◌then◌else◌}
-use Rattle.std.specs.List.{flat_map, list_any}
+use Rattle.std.specs.List.{flat_map, list_any, position_from}
 use Rattle.std.specs.Option.{option_map}
 use Rattle.ports.specs.SortedKeys.{is_key}
 use Rattle.ili_grammar.specs.Syntax.{Codes}
@@ -16,6 +17,7 @@ use Rattle.itf_reader.specs.RowFindings.{is_counted}
 use Rattle.ident_refs.specs.KeyBytes.{list_code, word_code}
 use Rattle.ident_refs.specs.KeyFindings.{column_of, referred_table}
 use Rattle.ident_refs.specs.ListValues.{ident_values}
+use Rattle.ident_refs.specs.NamedRows.{Named}
 use Rattle.ident_refs.specs.Rows.{identification}
 
 -- ---- the keys of a row
@@ -191,3 +193,28 @@ all_lines ks = map lines_of ks
 
 abbrev pub all_kept_findings : List Kept → List Finding
 all_kept_findings ks = flat_map (kept_findings (all_ids ks)) ks
+
+-- ---- the rows that are named
+-- the key in that column names the first row of its table with that identification
+abbrev pub key_names : List (List (Option (List ℕ))) → Ref → Option (List ℕ) → List Named
+key_names ids r None = []
+key_names ids r (Some key) =
+    record {
+      line = r.line;
+      row = position_from (is_key key) 0 (slice_index_or ids r.table []);
+    }
+    ∷ []
+
+abbrev pub ref_names : List (List (Option (List ℕ))) → ℕ → Ref → List Named
+ref_names ids column r = if nat_eq r.column column then key_names ids r r.word else []
+
+-- the references of each table
+abbrev pub refs_of : Kept → List Ref
+refs_of k = k.refs
+
+abbrev pub all_refs : List Kept → List (List Ref)
+all_refs ks = map refs_of ks
+
+-- those of the table at a place, none where there is no such table
+abbrev pub refs_at : ℕ → List Kept → List Ref
+refs_at place ks = slice_index_or (all_refs ks) place []

@@ -6,11 +6,13 @@ use Rattle.table_layout.specs.Layouts.{Layout}
 use Rattle.table_layout.specs.Values.{table_view}
 use Rattle.itf_reader.specs.Forms.{Row}
 use Rattle.ident_refs.specs.declared.references.KeptRef.{KeptRef}
+use Rattle.ident_refs.specs.declared.references.NamedRow.{NamedRow}
 use Rattle.ident_refs.specs.declared.repeats.KeyColumn.{KeyColumn}
 use Rattle.ident_refs.specs.declared.table_keys.KeptList.{KeptList as CodeList}
 use Rattle.ident_refs.specs.declared.table_keys.TableKeys.{TableKeys}
 use Rattle.ident_refs.specs.declared.feed.KeyFeed.{KeyFeed}
 use Rattle.ident_refs.specs.KeptRows.{Ref, KeptList, Kept, kept_rows}
+use Rattle.ident_refs.specs.NamedRows.{Named}
 
 abbrev pub ref_view : KeptRef → Ref
 ref_view r = record { line = r.line; column = r.column; table = r.table; word = r.word }
@@ -54,3 +56,10 @@ row_lines_view columns = map (λ (c : KeyColumn). c.lines.now) columns
 -- the feed has taken these rows of a layout's tables, each with the number of its table
 abbrev pub HasRows : Layout → KeyFeed → List (ℕ × Row) → Type 0
 HasRows l feed rows = all_kept_view feed.tables.items ≡ kept_rows l rows
+
+-- the rows that references name
+abbrev pub name_view : NamedRow → Named
+name_view n = record { line = n.line; row = n.row }
+
+abbrev pub named_view : List NamedRow → List Named
+named_view ns = map name_view ns

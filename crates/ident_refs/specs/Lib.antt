@@ -3,9 +3,11 @@ pub mod ListValues
 pub mod KeyFindings
 pub mod ValueViews
 pub mod KeyBytes
+pub mod NamedRows
 pub mod KeptRows
 pub mod KeptViews
 pub mod FedRows
+pub mod KeysOfRows
 pub mod Spans
 pub mod DistinctKeys
 pub mod SharedLists

@@ -8,18 +8,18 @@ ghost use Rattle.table_layout.specs.Valid.{IsValid};
 ghost use Rattle.table_layout.specs.Values.{layout_view, tables_view};
 ghost use Rattle.itf_reader.specs.ClosedRows.{by_table};
 ghost use Rattle.itf_reader.specs.Few.{HasFew};
-ghost use Rattle.itf_reader.specs.Findings.{AddsFindings};
 ghost use Rattle.itf_reader.specs.Forms.{Row as GivenRow};
 ghost use Rattle.itf_reader.specs.Layouts.{form_of};
 ghost use Rattle.itf_reader.specs.Views.{row_of, rows_of, tables_rows_of};
-ghost use Rattle.ident_refs.specs.FedRows.{HasPlaces, fed_keys, fed_rows, fed_tables, row_at};
-ghost use Rattle.ident_refs.specs.KeptRows.{all_ids, all_lines, all_kept_findings, no_rows};
-ghost use Rattle.ident_refs.specs.KeptViews.{HasRows, ids_view, all_kept_view, row_lines_view};
+ghost use Rattle.ident_refs.specs.FedRows.{HasPlaces, fed_rows, fed_tables, row_at};
+ghost use Rattle.ident_refs.specs.KeptRows.{all_lines, no_rows};
+ghost use Rattle.ident_refs.specs.KeptViews.{HasRows, all_kept_view};
+ghost use Rattle.ident_refs.specs.KeysOfRows.{HasKeys};
 
-use super::repeats::KeyColumn;
+use super::sorted::Keys;
 use super::table_keys::TableKeys;
 use ili_grammar::Codes;
-use itf_reader::{Finding, Row, TableRows};
+use itf_reader::{Row, TableRows};
 use ports::Memory;
 use std::alloc::Global;
 use table_layout::{Layout, Table, TableId};
@@ -82,37 +82,6 @@ fn lines_at<'a>(tables: &'a [TableKeys], place: usize) -> &'a [u32]
     }
 }
 
-// The identifications of each table in order.
-fn id_columns<'a>(alloc: Global, tables: &'a [TableKeys<'a>]) -> Result<Vec<KeyColumn<'a>>, Memory>
-    ensures keys { IfOk result (λ columns. ids_view columns.items
-        ≡ all_ids (all_kept_view tables.now)) }
-    ensures lines { IfOk result (λ columns. row_lines_view columns.items ≡ all_lines
-        (all_kept_view tables.now)) }
-{
-    let mut columns = Vec::with_capacity(alloc, tables.len())?;
-    for table in tables {
-        columns.push(KeyColumn::new(alloc, &table.lines, &table.ids)?)?;
-    }
-    Ok(columns)
-}
-
-// Adds what is wrong with the keys and references of each table.
-fn add_findings(
-    tables: &[TableKeys],
-    ids: &[KeyColumn],
-    findings: &mut Vec<Finding>,
-) -> Result<(), Memory>
-    requires keys { ids_view ids.now ≡ all_ids (all_kept_view tables.now) }
-    requires lines { row_lines_view ids.now ≡ all_lines (all_kept_view tables.now) }
-    ensures { OnOk result (AddsFindings findings.old.items findings.new.items
-        (all_kept_findings (all_kept_view tables.now))) }
-{
-    for (place, table) in tables.iter().enumerate() {
-        table.add_findings(&ids[place], ids, findings)?;
-    }
-    Ok(())
-}
-
 impl<'a> KeyFeed<'a> {
     /// No row. The only error is out of memory.
     pub fn new(alloc: Global, layout: &'a Layout) -> Result<KeyFeed<'a>, Memory>
@@ -154,17 +123,12 @@ impl<'a> KeyFeed<'a> {
         Ok(())
     }
 
-    /// Adds what is wrong with the keys and references of all rows that were added: the findings of
-    /// each table in the order of the layout, those of identifications and of each IDENT list in
-    /// the order of its rows, then those of references.
-    pub fn finish(self, findings: &mut Vec<Finding>) -> Result<(), Memory>
-        ensures { OnOk result ((l : GivenLayout) (rows : List (ℕ × GivenRow))
-            → HasRows l self.entry rows
-            → AddsFindings findings.old.items findings.new.items (fed_keys l rows)) }
+    /// The keys of all rows that were added, in order, by which they can be asked. 16 bytes for each
+    /// row; the only error is out of memory.
+    pub fn sorted<'b>(&'b self) -> Result<Keys<'b, 'a>, Memory>
+        ensures { IfOk result (λ keys. (l : GivenLayout) (rows : List (ℕ × GivenRow))
+            → HasRows l self.now rows → HasKeys l keys rows) }
     {
-        let tables = self.tables.as_slice();
-        let ids = id_columns(self.alloc, tables)?;
-        add_findings(tables, &ids, findings)?;
-        Ok(())
+        Keys::new(self.alloc, &self.tables)
     }
 }

@@ -28,7 +28,7 @@ pub fn check_keys(
     let mut feed = KeyFeed::new(alloc, layout)?;
     feed.add_tables(&transfer.tables)?;
     let mut findings = Vec::new(alloc);
-    feed.finish(&mut findings)?;
+    feed.sorted()?.add_findings(&mut findings)?;
     sort_findings(&mut findings)?;
     Ok(findings)
 }

@@ -16,8 +16,9 @@
 //! - **References.** A word that is not the undefined word must be the identification of a row of
 //!   the table that its column refers to, before or after it.
 //! - **Row by row.** A `KeyFeed` takes the rows of all tables one after another and keeps of each
-//!   its line, its identification, the key of each IDENT list, and its references. `finish` adds
-//!   what is wrong with all of them. `check_keys` is one feed over the rows of a transfer.
+//!   its line, its identification, the key of each IDENT list, and its references. Its `Keys`
+//!   (`sorted`) say what is wrong with all of them, and which rows the references of a column name
+//!   (`rows_named`). `check_keys` is one feed over the rows of a transfer.
 //! - **Keys** are bytes: a word with one byte before it, the numbers of a value in eight bytes
 //!   each, and of several values each with an end mark. Rows have one key exactly where they have
 //!   the same values.
@@ -40,6 +41,7 @@
 //! of the findings takes what a sort takes.
 #![tactic(auto)]
 
+mod asked;
 mod feed;
 mod key_bytes;
 mod key_cell;
@@ -50,9 +52,12 @@ mod laws;
 mod references;
 mod repeats;
 mod shared_lists;
+mod sorted;
 mod table_keys;
 mod values;
 
 pub use feed::KeyFeed;
 pub use keys::check_keys;
 pub use laws::fed_transfer;
+pub use references::NamedRow;
+pub use sorted::Keys;

@@ -1,6 +1,6 @@
 // Words that name rows of other tables.
 ghost use Rattle.std.specs.Prelude.{◌≡◌, ◌≤◌, ◌++◌, [], drop, length, slice_index_or, OnOk};
-ghost use Rattle.std.specs.List.{list_any};
+ghost use Rattle.std.specs.List.{list_any, position_from};
 ghost use Rattle.ports.specs.SortedKeys.{is_key};
 ghost use Rattle.ili_grammar.specs.Values.{codes_of};
 ghost use Rattle.resolver.specs.Values.{form_of};
@@ -10,7 +10,8 @@ ghost use Rattle.itf_reader.specs.Findings.{AddsFindings};
 ghost use Rattle.itf_reader.specs.RowFindings.{widths};
 ghost use Rattle.itf_reader.specs.Views.{row_of};
 ghost use Rattle.ident_refs.specs.KeptRows.{column_refs, columns_refs, ref_findings, row_refs};
-ghost use Rattle.ident_refs.specs.KeptViews.{ref_view, refs_view, ids_view};
+ghost use Rattle.ident_refs.specs.KeptRows.{ref_names};
+ghost use Rattle.ident_refs.specs.KeptViews.{ref_view, refs_view, ids_view, named_view};
 ghost use Rattle.ident_refs.specs.KeyFindings.{referred_table};
 
 use super::key_bytes::word_key;
@@ -33,6 +34,14 @@ pub struct KeptRef {
     pub column: u32,
     pub table: u32,
     pub word: KeyCell,
+}
+
+/// A row that a reference names: the line of the row that has the reference, and the place of the
+/// named row among those of its table, none where no row has that identification.
+#[derive(Clone, Copy)]
+pub struct NamedRow {
+    pub line: u32,
+    pub row: Option<usize>,
 }
 
 // Adds the reference of a column, if it refers to a table and its word is defined.
@@ -119,6 +128,17 @@ pub fn add_refs(
     Ok(())
 }
 
+// The place of the first row of the table of that number which has the key.
+fn place_in(ids: &[KeyColumn], table: u32, key: &[u8]) -> Option<usize>
+    ensures { result ≡ position_from (is_key key.now) 0
+        (slice_index_or (ids_view ids.now) table []) }
+{
+    match ids.get(table as usize) {
+        Some(column) => column.first(key),
+        None => None,
+    }
+}
+
 // Whether a row of the table of that number has the key.
 fn is_named(ids: &[KeyColumn], table: u32, key: &[u8]) -> bool
     ensures { result ≡ list_any (is_key key.now) (slice_index_or (ids_view ids.now) table []) }
@@ -157,6 +177,29 @@ pub fn add_dangling(
                 fault: Fault::Reference(Code::Reference, Field::new(alloc, word_of(key))?),
             })?;
         }
+    }
+    Ok(())
+}
+
+/// Adds the row that a reference names, if it stands in that column, by the identifications of all
+/// tables.
+pub fn add_named(
+    ids: &[KeyColumn],
+    column: u32,
+    reference: &KeptRef,
+    named: &mut Vec<NamedRow>,
+) -> Result<(), Memory>
+    ensures { OnOk result (named_view named.new.items ≡ named_view named.old.items
+        ++ ref_names (ids_view ids.now) column (ref_view reference.now)) }
+{
+    if reference.column != column {
+        return Ok(());
+    }
+    if let Some(key) = reference.word.key() {
+        named.push(NamedRow {
+            line: reference.line,
+            row: place_in(ids, reference.table, key),
+        })?;
     }
     Ok(())
 }

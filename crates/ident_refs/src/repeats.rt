@@ -1,7 +1,7 @@
 // Rows that repeat a key of their table.
 ghost use Rattle.std.specs.Prelude.{◌≡◌, ◌≤◌, [], None, IfOk, IsTrue, OnOk, false, get_or};
 ghost use Rattle.std.specs.Prelude.{length, map, take};
-ghost use Rattle.std.specs.List.{list_any};
+ghost use Rattle.std.specs.List.{list_any, position_from};
 ghost use Rattle.ports.specs.SortedKeys.{IsSortedKeys, is_key, key_at};
 ghost use Rattle.itf_reader.specs.Findings.{AddsFindings};
 ghost use Rattle.ident_refs.specs.DistinctKeys.{AreDistinct, HaveOneKey};
@@ -90,11 +90,18 @@ impl<'a> KeyColumn<'a> {
         })
     }
 
+    /// The place of the first row that has that key, by binary search.
+    pub fn first(&self, key: &[u8]) -> Option<usize>
+        ensures { result ≡ position_from (is_key key.now) 0 self.now.keys.now }
+    {
+        self.sorted.first(self.keys, key)
+    }
+
     /// Whether some row has that key, by binary search.
     pub fn has(&self, key: &[u8]) -> bool
         ensures { result ≡ list_any (is_key key.now) self.now.keys.now }
     {
-        self.sorted.first(self.keys, key).is_some()
+        self.first(key).is_some()
     }
 
     // The line of the first row before that place which has the key of the row there.

@@ -208,7 +208,7 @@ fn key_findings(alloc: Global, keys: KeyFeed) -> Result<Vec<Finding>, Memory>
         → IfOk result (λ found. findings_of found.items ≡ in_order (fed_keys l rows)) }
 {
     let mut found = Vec::new(alloc);
-    keys.finish(&mut found)?;
+    keys.sorted()?.add_findings(&mut found)?;
     sort_findings(&mut found)?;
     Ok(found)
 }

@@ -18,7 +18,7 @@ pub add_strokes-requires-clause-inside : goal.add_strokes-requires-clause-inside
 add_strokes-requires-clause-inside c =
     let in_form = IsWindowOf (line_of c.args.form.now).window in
     let w : in_form c.new-drawing.result.window =
-    subst in_form (sym (ap (λ (p : Plan). p.window) c.new-drawing.ensures)) c.plane_window.ensures in
+    subst in_form (sym (ap (λ (p : Plan). p.window) c.new-drawing.ensures.blank)) c.plane_window.ensures in
     inside_here c.counts.result.now _ c.counts.ensures c.vertices.result.now _ c.vertices.ensures
     c.new-drawing.result.window (c.requires.drawable.inside c.new-drawing.result.window w)
 
@@ -29,7 +29,7 @@ add_strokes-requires-clause-room c =
     16000000 c.requires.drawable.few in
     let none : vec_len c.new-drawing.result.curves ≡ 0 =
     c.new-drawing.result.curves.ok.0
-    ∙ ap (λ (cs : List Curve). length cs) (ap (λ (p : Plan). p.curves) c.new-drawing.ensures) in
+    ∙ ap (λ (cs : List Curve). length cs) (ap (λ (p : Plan). p.curves) c.new-drawing.ensures.blank) in
     omega (arith, few, none)
 
 pub add_placed-requires-clause-inside : goal.add_placed-requires-clause-inside
@@ -37,7 +37,7 @@ add_placed-requires-clause-inside c =
     let in_form = IsWindowOf (line_of c.args.form.now).window in
     let w : in_form c.add_strokes.new.drawing.window =
     subst in_form (sym (c.in_ok-add_strokes.ensures.window
-    ∙ ap (λ (p : Plan). p.window) c.new-drawing.ensures)) c.plane_window.ensures in
+    ∙ ap (λ (p : Plan). p.window) c.new-drawing.ensures.blank)) c.plane_window.ensures in
     c.requires.drawable.points_inside c.add_strokes.new.drawing.window w
 
 pub add_placed-requires-clause-room : goal.add_placed-requires-clause-room
@@ -46,21 +46,23 @@ add_placed-requires-clause-room c =
     let none : vec_len c.add_strokes.new.drawing.points ≡ 0 =
     c.add_strokes.new.drawing.points.ok.0
     ∙ ap (λ (ps : List Placed). length ps)
-    (c.in_ok-add_strokes.ensures.points ∙ ap (λ (p : Plan). p.points) c.new-drawing.ensures) in
+    (c.in_ok-add_strokes.ensures.points ∙ ap (λ (p : Plan). p.points) c.new-drawing.ensures.blank) in
     omega (arith, most, none)
 
-pub returns : goal.returns
-returns c =
-    let fresh = c.new-drawing.ensures in
+pub returns-clause-drawn : goal.returns-clause-drawn
+returns-clause-drawn c =
+    let fresh = c.new-drawing.ensures.blank in
     let strokes = c.in_ok-add_strokes.ensures in
     let placed = c.in_ok-add_placed.ensures in
+    let same = c.set_tolerance.ensures.unchanged in
     let in_form = IsWindowOf (line_of c.args.form.now).window in
     record {
       window =
-          subst in_form (sym (placed.window ∙ (strokes.window
+          subst in_form (sym (ap (λ (p : Plan). p.window) same ∙ placed.window ∙ (strokes.window
           ∙ ap (λ (p : Plan). p.window) fresh))) c.plane_window.ensures;
       curves =
-          placed.curves
+          ap (λ (p : Plan). p.curves) same
+          ∙ placed.curves
           ∙ strokes.curves
           ∙ ap (λ (cs : List Curve). cs
           ++ kept_curves c.counts.result.now (vertices_view c.vertices.result.now))
@@ -68,7 +70,8 @@ returns c =
           ∙ curves_here c.counts.result.now _ c.counts.ensures c.vertices.result.now _
           c.vertices.ensures;
       placed =
-          placed.points
+          ap (λ (p : Plan). p.points) same
+          ∙ placed.points
           ∙ ap (λ (ps : List Placed). ps ++ c.args.points.now)
           (strokes.points ∙ ap (λ (p : Plan). p.points) fresh);
     }

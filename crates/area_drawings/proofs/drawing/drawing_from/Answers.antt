@@ -26,8 +26,8 @@ draw-requires-clause-drawable c =
     (points_here q.objects (kept_of u) f a.column c.points.result.now c.points.ensures)
     q.drawable
 
-pub returns : goal.returns
-returns c =
+pub returns-clause-drawn : goal.returns-clause-drawn
+returns-clause-drawn c =
     let q = c.requires in
     let t = c.index-tables-area.result in
     let u = c.index-tables-area-2.result in
@@ -42,4 +42,4 @@ returns c =
     e q.lines q.main c.points.result.now
     (points_here q.objects (kept_of u) f a.column c.points.result.now c.points.ensures)
     (plan d) h)
-    c.draw.ensures
+    c.draw.ensures.drawn

@@ -4,8 +4,8 @@ use Rattle.table_layout.specs.Values.{area_view, areas_view, layout_view}
 use Rattle.table_layout.specs.declared.layouts.AreaOf.{AreaOf}
 use Rattle.plane.specs.Rule.Plans.{plan}
 use Rattle.area_drawings.specs.KeptDrawings.{CanBeDrawn, IsDrawnFrom}
-use Rattle.area_drawings.specs.KeptViews.{kept_in}
-use Rattle.area_drawings.proofs.Zips.{drawn_more}
+use Rattle.area_drawings.specs.KeptViews.{HasTolerance, kept_in}
+use Rattle.area_drawings.proofs.Zips.{drawn_more, seen_more}
 use Rattle.area_drawings.proofs.CurveLemmas.{mapped_at}
 use Rattle.area_drawings.proofs.drawing.drawings_from.Goals as goal
 
@@ -19,9 +19,20 @@ drawing_from-requires c =
 pub loop-area-preserved : goal.loop-area-preserved
 loop-area-preserved c =
     let v = c.deref-area-items.ensures.value in
-    let drawn = IsDrawnFrom (layout_view c.args.layout.now) (kept_in c.args.tables.now) in
-    subst (λ (as_ : List AreaOf). AllZip drawn (take (c.loop-area.area-index + 1) (areas_view as_)) (map plan c.push.new.self.items)) v
-    (drawn_more drawn c.deref-area-items.result.now c.loop-area.area-index c.area-item.result c.loop-area.drawings.items c.push.new.self.items c.in_ok-drawing_from.field-0
-    c.loop-area-test.true c.area-item.is c.in_ok-push.ensures.items
-    (subst (λ (as_ : List AreaOf). AllZip drawn (take c.loop-area.area-index (areas_view as_)) (map plan c.loop-area.drawings.items)) (sym v) c.loop-area.invariant)
-    c.in_ok-drawing_from.ensures)
+    let l = layout_view c.args.layout.now in
+    let i = c.loop-area.area-index in
+    let drawn = IsDrawnFrom l (kept_in c.args.tables.now) in
+    record {
+      drawn =
+          subst (λ (as_ : List AreaOf). AllZip drawn (take (i + 1) (areas_view as_)) (map plan c.push.new.self.items)) v
+          (drawn_more drawn c.deref-area-items.result.now i c.area-item.result c.loop-area.drawings.items c.push.new.self.items c.in_ok-drawing_from.field-0
+          c.loop-area-test.true c.area-item.is c.in_ok-push.ensures.items
+          (subst (λ (as_ : List AreaOf). AllZip drawn (take i (areas_view as_)) (map plan c.loop-area.drawings.items)) (sym v) c.loop-area.invariant.drawn)
+          c.in_ok-drawing_from.ensures.drawn);
+      tolerances =
+          subst (λ (as_ : List AreaOf). AllZip (HasTolerance l) (take (i + 1) (areas_view as_)) c.push.new.self.items) v
+          (seen_more area_view (HasTolerance l) c.deref-area-items.result.now i c.area-item.result c.loop-area-test.true c.area-item.is
+          c.loop-area.drawings.items c.push.new.self.items c.in_ok-drawing_from.field-0 c.in_ok-push.ensures.items
+          (subst (λ (as_ : List AreaOf). AllZip (HasTolerance l) (take i (areas_view as_)) c.loop-area.drawings.items) (sym v) c.loop-area.invariant.tolerances)
+          c.in_ok-drawing_from.ensures.tolerance);
+    }

@@ -19,6 +19,6 @@ returns c =
     (c.in_ok-add_tables.ensures ∙ ap (λ (ts : List CodeTableRows). fed_tables 0 (tables_rows_of ts) old) c.deref.ensures.value) in
     c.in_ok-sort_findings.ensures
     ∙ ap in_order
-    (c.in_ok-finish.ensures l (all_rows 0 transfer) has
+    (c.in_ok-add_findings.ensures l (all_rows 0 transfer) (c.in_ok-sorted.ensures l (all_rows 0 transfer) has)
     ∙ ap (λ (fs : List CodeFinding). findings_of fs ++ fed_keys l (all_rows 0 transfer)) c.new-findings.ensures.items
     ∙ transfer_keys l transfer c.requires)

@@ -102,7 +102,7 @@ returns c text k =
     let limits = sym (large_are l text c.args.kept k c.requires.valid clean n) ∙ sym large in
     let drawn =
     subst (λ (ks : List TablePlaces). AllZip (IsDrawnFrom l (kept_in ks)) l.areas
-    (plans c.in_ok-drawings.drawings.items)) c.deref-3.ensures.value c.in_ok-drawings.ensures in (
+    (plans c.in_ok-drawings.drawings.items)) c.deref-3.ensures.value c.in_ok-drawings.ensures.drawn in (
       t,
       k.has_rows,
       clean,

@@ -1,5 +1,8 @@
-use Rattle.ident_refs.proofs.KeyPlaces.{has_key}
+use Rattle.std.proofs.Common.{◌∙◌, ap}
+use Rattle.std.specs.Option.{is_some}
+use Rattle.ports.specs.SortedKeys.{is_key}
+use Rattle.ident_refs.proofs.KeyPlaces.{any_place}
 use Rattle.ident_refs.proofs.repeats.KeyColumn.has.Goals as goal
 
 pub returns : goal.returns
-returns c = has_key c.args.key.now c.args.self.now.keys.now c.first.result c.is_some.result c.first.ensures c.is_some.ensures
+returns c = c.is_some.ensures ∙ ap is_some c.first.ensures ∙ any_place (is_key c.args.key.now) 0 c.args.self.now.keys.now

@@ -4,7 +4,7 @@ use Rattle.ident_refs.specs.KeptRows.{ids_of, lines_of, kept_findings}
 use Rattle.ident_refs.specs.KeptViews.{kept_view, ids_view}
 use Rattle.ident_refs.proofs.FeedSteps.{same_at}
 use Rattle.ident_refs.proofs.FlatSteps.{flat_step}
-use Rattle.ident_refs.proofs.feed.add_findings.Goals as goal
+use Rattle.ident_refs.proofs.asked.add_findings.Goals as goal
 
 pub add_findings-requires-clause-lines : goal.add_findings-requires-clause-lines
 add_findings-requires-clause-lines c =

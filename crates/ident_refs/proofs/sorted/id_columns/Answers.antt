@@ -3,7 +3,7 @@ use Rattle.ident_refs.specs.declared.repeats.KeyColumn.{KeyColumn}
 use Rattle.ident_refs.specs.KeptRows.{ids_of, lines_of}
 use Rattle.ident_refs.specs.KeptViews.{kept_view}
 use Rattle.ident_refs.proofs.Collecting.{collected}
-use Rattle.ident_refs.proofs.feed.id_columns.Goals as goal
+use Rattle.ident_refs.proofs.sorted.id_columns.Goals as goal
 
 pub loop-table-preserved : goal.loop-table-preserved
 loop-table-preserved c = record {
