@@ -102,8 +102,8 @@ assert polygons(text(area("Soil"))) == [] and polygons(text()) == []
 assert one[2] == [[[-0.05, -1.05], [0.07, -1.05], [-0.05, 0.0], [-0.05, -1.05]]], one
 
 good = text(area("Parcel", point(16, SQUARE)))
-for bad in (good[:-1], good + "\n", good.replace("POLY 1", "POLY 2"), good.replace("RING 4", "RING 3"),
-            good.replace("RING 4", "RING 5"), good.replace("Parcel", "House"),
+for bad in (good[:-1], good + "\n", good.replace("POLY 1", "POLY 2"),
+            good.replace("RING 4", "RING 3"), good.replace("RING 4", "RING 5"), good.replace("Parcel", "House"),
             good.replace("AREAS 1", "AREAS 2"), good.replace("1200 0", "1200.0 0"), ""):
     status, out, why = run(bad)
     assert (status, out) == (1, "") and why.startswith("polygons.py: "), (bad, status, out, why)

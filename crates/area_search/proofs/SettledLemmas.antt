@@ -23,3 +23,4 @@ pub mod CaseCertified
 pub mod CaseCalls
 pub mod NamedNotes
 pub mod TubedLaws
+pub mod FacedRuns

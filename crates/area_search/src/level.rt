@@ -39,6 +39,10 @@
 //         first_on_curve          on_curves
 //         alone_curves            alone
 //         first_break_among       level_breaks
+//
+// `faces_of_straights` (`straights`) goes the same way with level 0 alone, which settles each
+// drawing of straights of which no two are bad: `edge_list`, `sweep`, `settled_facings`, and of the
+// run the mesh with its faces (`settled::faced`).
 mod at_fault;
 mod bad_edges;
 mod by_sweep;
@@ -48,8 +52,10 @@ mod finding;
 mod missing_tubes;
 mod own_corners;
 mod settled_runs;
+mod straights;
 
 pub(crate) use at_fault::meeting;
 pub(crate) use cell_sides::mark_unpaired;
 pub use finding::find_area;
 pub(crate) use settled_runs::settled_facings;
+pub use straights::faces_of_straights;

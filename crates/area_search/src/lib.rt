@@ -18,6 +18,8 @@
 //!   level settles, pairs of curves and points on curves are looked for (`unsettled`). What the
 //!   certificate says is what the run, the places, the faces and the links are;
 //!   `certificate_checker` judges it without any of them.
+//! - **Faces.** `faces_of_straights` gives the mesh of a drawing of straights that is a partition,
+//!   with its faces and the face of each object's point, for whoever asks what bounds a region.
 //! - **Degenerate cases.** No line, no point, several rings, holes, lines that end inside a region,
 //!   rings that touch in a vertex, equal points and points at vertices are all taken.
 //! - **Not here:** names of areas, lines of the transfer, and the text of a certificate.
@@ -41,5 +43,5 @@ mod points;
 mod settled;
 mod unsettled;
 
-pub use kinds::{AreaAnswer, AreaFinding};
-pub use level::find_area;
+pub use kinds::{AreaAnswer, AreaFinding, FacedDrawing};
+pub use level::{faces_of_straights, find_area};

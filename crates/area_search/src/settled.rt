@@ -9,7 +9,8 @@
 // read off it: the first fault of its faces (`case_judging`), by the faces beside each curve
 // (`case_sides`, `sides`) and the points in each face (`owners`); or the certificate
 // (`case_certificates`), by links from each half-edge to the border, a tube or a point
-// (`case_roots`) and by labels (`case_notes`).
+// (`case_roots`) and by labels (`case_notes`). Of a drawing of straights the mesh with its faces is
+// an answer too (`faced`).
 //
 // Not here: whether the level settles the drawing, which the run has shown before (`level`).
 mod case;
@@ -18,6 +19,7 @@ mod case_judging;
 mod case_notes;
 mod case_roots;
 mod case_sides;
+mod faced;
 mod finishing;
 mod meshing;
 mod owners;
@@ -26,5 +28,6 @@ mod spots;
 mod writing;
 
 pub(crate) use case::SettledDrawing;
+pub(crate) use faced::faces_of_run;
 pub(crate) use finishing::{answer_settled, object_spots};
 pub(crate) use spots::first_spot_on;

@@ -33,12 +33,14 @@ corner_line p = line (signed_decimal p.x ∷ signed_decimal p.y ∷ [])
 
 -- a ring: how many corners it has, and the corners
 abbrev pub ring_text : List Point → List ℕ
-ring_text corners = line (codes "RING" ∷ decimal (length corners) ∷ []) ++ flat_map corner_line corners
+ring_text corners =
+    line (codes "RING" ∷ decimal (length corners) ∷ []) ++ flat_map corner_line corners
 
 -- an object: its line of the transfer, how many rings it has, and the rings
 abbrev pub object_text : Object → List ℕ
 object_text o =
-    line (codes "POINT" ∷ decimal o.line ∷ decimal (length o.rings) ∷ []) ++ flat_map ring_text o.rings
+    line (codes "POINT" ∷ decimal o.line ∷ decimal (length o.rings) ∷ [])
+    ++ flat_map ring_text o.rings
 
 -- how many objects an area has, or that it is skipped
 abbrev pub count_word : Option (List Object) → List ℕ

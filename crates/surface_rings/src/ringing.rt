@@ -21,9 +21,9 @@ use std::alloc::Global;
 
 /// Whether the edges are rings around one connected region: no two meet but in common ends, each
 /// end is that of an even number of edges, and the places over which an odd number of edges stands
-/// are connected; then each edge has the region on exactly one side. Else the first of these that fails is told, by a pair that meets, by the least
-/// edge with an odd end, or by nothing more. The only error is out of memory. For the cost see the
-/// head of the crate.
+/// are connected; then each edge has the region on exactly one side. Else the first of these that
+/// fails is told, by a pair that meets, by the least edge with an odd end, or by nothing more. The
+/// only error is out of memory. For the cost see the head of the crate.
 pub fn rings(alloc: Global, edges: &[Edge]) -> Result<RingAnswer, Memory>
     requires some { 0 < length edges.now }
     requires few { length edges.now < 2 ^ 31 }

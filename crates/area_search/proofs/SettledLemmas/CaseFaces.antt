@@ -38,7 +38,7 @@ nth_spot_face f [] j l = absurd (omega (arith, l))
 nth_spot_face f (s ∷ ss) zero l = refl
 nth_spot_face f (s ∷ ss) (suc j) l = nth_spot_face f ss j (omega (arith, l))
 
-face_over_is : (faces : List ℕ) (o : Option ℕ) → over_or (numbers (face_in faces)) 0 o ≡ face_over faces o
+pub face_over_is : (faces : List ℕ) (o : Option ℕ) → over_or (numbers (face_in faces)) 0 o ≡ face_over faces o
 face_over_is faces None = refl
 face_over_is faces (Some e) = refl
 

@@ -131,7 +131,7 @@ fn answer_placed(
 }
 
 /// The cells of a run, whose events are freed.
-fn cells_alone(swept: Swept) -> Vec<Cell>
+pub(super) fn cells_alone(swept: Swept) -> Vec<Cell>
     ensures { result.items ≡ swept.cells.items }
 {
     swept.cells

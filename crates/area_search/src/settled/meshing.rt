@@ -44,6 +44,7 @@ pub(crate) fn mesh_of_run(
     ensures turned { IfOk result (λ mesh. IsTurned (length (edges_of settled.now))
         (edge_of (edges_of settled.now)) (steps_from [] swept.now.events) mesh
         (length (steps_from [] swept.now.events))) }
+    ensures vertices { IfOk result (λ mesh. mesh.vertices ≡ length swept.now.events) }
 {
     event_mesh::laws::turned_events();
     let noted = note_events(alloc, settled, &swept.events)?;

@@ -21,6 +21,7 @@ loop-number-init c =
       room = subst (λ (k : ℕ). IsWidest c.args.swept.now.events (length c.args.swept.now.events) k) (sym room) c.widest.ensures;
       turned = listed_mesh (length (edges_of c.args.settled.now)) (edge_of (edges_of c.args.settled.now)) c.args.swept.now.events c.requires.run c.in_ok-noted.noted c.in_ok-noted.ensures
           c.turned_events.ensures.begin c.len.result c.deref.result.now c.deref-2.result.now c.in_ok-mesh.mesh c.len.ensures c.deref.ensures.value c.deref-2.ensures.value c.in_ok-mesh.ensures;
+      vertices = c.in_ok-mesh.ensures.vertices ∙ c.len.ensures;
     }
 
 pub slice_bounds-turn_event-end : goal.slice_bounds-turn_event-end
@@ -67,6 +68,7 @@ loop-number-preserved c =
           c.loop-number.from c.loop-number.invariant.within c.loop-number.invariant.rest
           c.get-event.result.starting.now c.deref-in-loop-number.result.now refl c.deref-in-loop-number.ensures.value
           c.loop-number.mesh c.turn_event.new.mesh c.loop-number.invariant.turned c.turn_event.ensures.turned;
+      vertices = c.turn_event.ensures.linked.vertices ∙ c.loop-number.invariant.vertices;
     }
 
 pub returns : goal.returns
@@ -75,4 +77,5 @@ returns c =
     record {
       turned = all_turned (length (edges_of c.args.settled.now)) (edge_of (edges_of c.args.settled.now)) c.args.swept.now.events c.requires.run c.loop-number.mesh c.loop-number.number
           (omega (arith, n, c.loop-number-test.false, c.loop-number.auto)) c.loop-number.invariant.turned;
+      vertices = c.loop-number.invariant.vertices;
     }

@@ -12,4 +12,5 @@ invariant-loop-number l = record {
   rest : drop l.from l.noted.ended.items ≡ ended_at (drop l.number (steps_from [] l.swept.events));
   room : IsWidest l.swept.events (length l.swept.events) (length l.fan.items);
   turned : IsTurned (length (edges_of l.settled)) (edge_of (edges_of l.settled)) (steps_from [] l.swept.events) l.mesh l.number;
+  vertices : l.mesh.vertices ≡ length l.swept.events;
 }
