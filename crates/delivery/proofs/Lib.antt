@@ -20,3 +20,4 @@ pub mod StraightAreas
 pub mod ValidInput
 pub mod Verifications
 pub mod VerifyingLemmas
+pub mod PolygonLemmas

@@ -41,6 +41,7 @@ const NARROW: Window2 = Window2 {
 
 // The upper half of a circle, and the lower half of one 40000 units above it.
 const UPPER: Line = Arc([510_000, 500_000, 500_000, 510_000, 490_000, 500_000]);
+
 const LOWER: Line = Arc([510_000, 540_000, 500_000, 530_000, 490_000, 540_000]);
 
 // From the right end of UPPER: a flat arc whose centre is on the right.
@@ -48,7 +49,9 @@ const FLAT: Line = Arc([510_000, 500_000, 509_600, 510_000, 509_800, 520_000]);
 
 // From the right end of UPPER: along the tangent, a little inside of it, and inside of FLAT too.
 const ALONG: Line = Straight([510_000, 500_000, 510_000, 520_000]);
+
 const INSIDE: Line = Straight([510_000, 500_000, 509_900, 520_000]);
+
 const FAR_INSIDE: Line = Straight([510_000, 500_000, 509_000, 520_000]);
 
 // From LOWER to UPPER, along the tangents of both.
@@ -250,7 +253,12 @@ fn judge(rt: &impl Abort, alloc: Global, cases: &[Case]) -> Result<(), Fail> {
         match bent_case(alloc, case)? {
             Some(found) => {
                 let straights = straights_of(alloc, &found)?;
-                assert!(rt; straights.as_slice() == case.5, "{}: {:?}", case.0, straights);
+                assert!(rt;
+                    straights.as_slice() == case.5,
+                    "{}: {:?}",
+                    case.0,
+                    straights
+                );
             }
             None => assert!(rt; false, "{}: cannot be drawn", case.0),
         }

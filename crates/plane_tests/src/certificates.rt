@@ -131,7 +131,11 @@ fn version_1_is_read_and_version_2_is_written(rt: HostRuntime) -> Result<(), Fai
         (bent.as_slice(), bent.as_slice()),
     ] {
         let found = rewritten(rt.alloc(), text)?;
-        assert!(rt; found.is_some_and(|bytes| bytes.as_slice() == *again), "a text of {} bytes", text.len());
+        assert!(rt;
+            found.is_some_and(|bytes| bytes.as_slice() == *again),
+            "a text of {} bytes",
+            text.len()
+        );
     }
     Ok(())
 }
