@@ -30,7 +30,7 @@ use Rattle.reports.specs.declared.lines.AreaAnswer.{AreaAnswer}
 -- the certificate that a search gives proves the drawing itself, at the least level
 proof_of : (d : Plan) (c : Certificate) → search.IsAnswer d (found.Proved c)
     → Proves d (claims c) × search.IsLeastLevel d c.level × (c.bent ≡ false)
-proof_of d _ (search.proved c p l n) = (p, (l, n.own))
+proof_of d _ (search.proved c p l n) = (p, l, n.own)
 
 module _ (l : Layout) (a : AreaOf) (d : Plan) (b : Found) (h : search.IsAnswer d b) where
   pub answer_proved : (c e : Certificate) (topic table attribute : List ℕ) → b ≡ found.Proved c → view e ≡ named topic table attribute (view c)

@@ -1,5 +1,6 @@
 -- An accepted check or trial leaves certificates that prove its areas.
 use Rattle.std.proofs.Common.{◌≡◌, ℕ, Bool, true, false, List, [], ◌∷◌, ◌++◌, Option, Some, refl, sym, ap, ◌∙◌, subst}
+use Rattle.std.specs.List.{AllByRecursion}
 use Rattle.ports.specs.Files.{Files}
 use Rattle.certificate.specs.Spelling.{CanSay, Plain, Spells, spelling}
 use Rattle.certificate.specs.declared.forms.Version.TheVariants.{Two}

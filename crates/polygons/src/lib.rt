@@ -3,9 +3,9 @@
 //! - **What it answers.** `polygon` gives the rings of one face, `all_polygons` those of every face
 //!   of a mesh, `polygons_of` those of some: exactly the circles of `next` over the face's
 //!   half-edges, each once. A ring lists where its half-edges begin, from its least half-edge on,
-//!   so that its face is on the left of the way. The ring with the least corner, by x, then y, is first, and of several such rings the
-//!   one with the least half-edge; the others follow by their least half-edges. So a face has one
-//!   spelling.
+//!   so that its face is on the left of the way. The ring with the least corner, by x,
+//!   then y, is first, and of several such rings the one with the least half-edge; the others
+//!   follow by their least half-edges. So a face has one spelling.
 //! - **How.** One walk over all half-edges finds the circles by their least half-edges. Each is
 //!   walked again for its corners, and the first ring is moved to the front.
 //! - **What it asks for.** A place for each vertex; for `all_polygons` that each face is below the

@@ -62,4 +62,4 @@ returns c =
           (c.in_ok-lines.ensures h.helper h.lines) (c.in_ok-objects.ensures a.owner a.main) c.points.result.now c.points.ensures
           (plan d) w,
     ))
-    c.draw.ensures
+    c.draw.ensures.drawn
