@@ -8,6 +8,7 @@ pub mod Outside
 pub mod OneBent
 pub mod BentParts
 pub mod BentCurves
+pub mod StayingArcs
 pub mod NothingBent
 pub mod RisingOrigins
 pub mod EndBlocks

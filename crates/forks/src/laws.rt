@@ -6,7 +6,7 @@ ghost use Rattle.plane.specs.declared.kinds.Point.{Point};
 ghost use Rattle.plane.specs.Forms.Bends.{square};
 ghost use Rattle.plane.specs.Rule.HalfArcs.{HalfArc, HasCircle, power};
 ghost use Rattle.plane.specs.Rule.Places.{point};
-ghost use Rattle.plane.specs.declared.kinds.CurveKind.TheVariants.{Straight};
+ghost use Rattle.plane.specs.declared.kinds.CurveKind.TheVariants.{HalfArc as OfArc, Straight};
 ghost use Rattle.plane.specs.Forms.Bends.{IsClose};
 ghost use Rattle.plane.specs.Rule.Curves.{IsOn};
 ghost use Rattle.plane.specs.Rule.Places.{Place, Vector};
@@ -86,4 +86,11 @@ pub fn bent_curves()
         → (k : ℕ) → k < length g.curves → (j : ℕ) → j < length d.points
         → IsOn (curve g k) (point (object d j))
         → IsOn (curve d (get_or os k 0)) (point (object d j)) }
+{}
+
+/// A half arc of a bent drawing is its origin.
+pub fn half_arcs_stay()
+    ensures { (t : ℤ) (d g : Plan) (os : List ℕ) → IsBentOf t d g os
+        → (k : ℕ) → k < length g.curves → (curve g k).kind ≡ OfArc
+        → curve g k ≡ curve d (get_or os k 0) }
 {}
