@@ -1,5 +1,6 @@
 pub mod Faults
 pub mod Answers
+pub mod Grounds
 pub mod Level
 pub mod Settled
 pub mod Unsettled
