@@ -11,6 +11,7 @@ use Rattle.plane.specs.Rule.Plans.{Plan}
 use Rattle.plane.specs.Runs.Sweeps.{IsEventList}
 use Rattle.plane.specs.Runs.Timetables.{Timed, IsTimetable}
 use Rattle.plane.proofs.ListLemmas.SortedLists.{room, sorted_once}
+use Rattle.tubes.specs.FewEdges.{HasFewEdges}
 use Rattle.tubes.specs.Settled.{HaveTubes, edges_at}
 use Rattle.certificate_checker.specs.Subjects.{Claims}
 use Rattle.certificate_checker.specs.Verdicts.{Proves}
@@ -81,3 +82,14 @@ module _ (d : Plan) (c : Claims) (h : Proves d c)
 
   pub few_notes : length d.curves ≤ 16000000 → length c.notes < 2 ^ 32
   few_notes l = let e = few_edges in let n = h.rules.counts.notes in omega (arith, e, n, l)
+
+-- of a drawing of few edges
+module _ (d : Plan) (c : Claims) (h : Proves d c) (few : HasFewEdges d) where
+  edges_fit : length (edges_at d c.level) < 2 ^ 31
+  edges_fit = few c.level h.rules.counts.edges.low h.rules.counts.edges.tubes
+
+  pub positions_fit : length c.positions < 2 ^ 32
+  positions_fit = let t = two_an_edge _ _ h.table h.is_table in let e = edges_fit in let p = h.rules.counts.positions in omega (arith, t, e, p)
+
+  pub notes_fit : length c.notes < 2 ^ 32
+  notes_fit = let e = edges_fit in let n = h.rules.counts.notes in omega (arith, e, n)

@@ -17,3 +17,4 @@ pub mod ForkedLists
 pub mod HeldParts
 pub mod BentDrawings
 pub mod BentWeights
+pub mod Grounds

@@ -13,6 +13,7 @@ ghost use Rattle.plane.specs.Rule.Places.{Place, Vector};
 ghost use Rattle.plane.specs.Rule.Plans.{Plan, curve, object};
 ghost use Rattle.plane.specs.Rule.Windows.{IsDrawn};
 ghost use Rattle.forks.specs.Bent.{IsBentOf, weight};
+ghost use Rattle.forks.specs.Grounds.{IsGround};
 ghost use Rattle.forks.specs.Zones.{IsZone, LeadsOut};
 
 /// A straight forks from a half arc at one of its ends at most, and has one bend there.
@@ -35,6 +36,12 @@ pub fn one_bent()
         → IsBentOf t d g os → IsBentOf t d h ps → g ≡ h }
     ensures origin { (t : ℤ) (d g h : Plan) (os ps : List ℕ)
         → IsBentOf t d g os → IsBentOf t d h ps → os ≡ ps }
+{}
+
+/// A drawing has one ground that is bent, and one that is not.
+pub fn one_ground()
+    ensures { (t : ℤ) (d g h : Plan) (bent : Bool)
+        → IsGround t d bent g → IsGround t d bent h → g ≡ h }
 {}
 
 /// Where nothing is bent, which the number of curves shows, the drawing stays what it was.

@@ -19,3 +19,4 @@ pub mod LevelEdges
 pub mod SettledLevels
 pub mod FacingSides
 pub mod ForeignCorners
+pub mod FewEdges

@@ -7,3 +7,4 @@ pub mod Holding
 pub mod Making
 pub mod Settled
 pub mod TubedEdges
+pub mod FewEdges

@@ -1,6 +1,8 @@
 // Laws of the edges of drawings, of the tubes of half arcs, and of levels that settle a drawing.
 ghost use Rattle.std.specs.Prelude.{◌≡◌, ◌↔◌, ℕ, suc, ◌+◌, ◌*◌, ◌^◌, ◌<◌, ◌≤◌, None, List, length};
-ghost use Rattle.std.specs.Prelude.{Some, get_or};
+ghost use Rattle.std.specs.Prelude.{Some, get_or, sum_by};
+ghost use Rattle.plane.specs.declared.kinds.Curve.{Curve};
+ghost use Rattle.plane.specs.declared.kinds.CurveKind.TheVariants as kind;
 ghost use Rattle.plane.specs.declared.kinds.Edge.{Edge};
 ghost use Rattle.plane.specs.declared.kinds.Point.{Point};
 ghost use Rattle.plane.specs.Forms.Segments.{AreEdgesOf};
@@ -18,6 +20,7 @@ ghost use Rattle.plane.specs.Runs.Timetables.{IsTimetable, Timed};
 ghost use Rattle.straight_predicates.specs.EdgeLists.{HasEnds, edge_of};
 ghost use Rattle.plane.specs.Tubes.Bays.{IsTube, bays};
 ghost use Rattle.tubes.specs.DrawnEdges.{AreStraights, edge_from, edges_of};
+ghost use Rattle.tubes.specs.FewEdges.{HasFewEdges};
 ghost use Rattle.tubes.specs.HalfArcTubes.{IsTubeOf, root};
 ghost use Rattle.tubes.specs.Settled.{HaveTubes, IsFirstForeign, IsOwnCorner, IsSettledAt};
 ghost use Rattle.tubes.specs.Settled.{edge_at, edges_at, owned_at};
@@ -140,4 +143,18 @@ pub fn chains_have_edges()
 pub fn few_edges()
     ensures { (d : Plan) (level : ℕ)
         → level ≤ 5 → HaveTubes d level → length (edges_at d level) ≤ (129 * length d.curves) }
+{}
+
+/// So a drawing of at most 16,000,000 curves has fewer edges than 2^31.
+pub fn few_curves_have_few_edges()
+    ensures { (d : Plan) → length d.curves ≤ 16000000 → HasFewEdges d }
+{}
+
+/// A straight has one edge and a half arc at most 129: where each curve has a number that is at
+/// least so great, there are at most as many edges as these numbers come to.
+pub fn edges_by_kind()
+    ensures { (d : Plan) (level : ℕ) (w : Curve → ℕ) → level ≤ 5 → HaveTubes d level
+        → ((c : Curve) → c.kind ≡ kind.Straight → 1 ≤ w c)
+        → ((c : Curve) → c.kind ≡ kind.HalfArc → 129 ≤ w c)
+        → length (edges_at d level) ≤ sum_by w d.curves }
 {}
