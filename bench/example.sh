@@ -88,7 +88,7 @@ def the_example():
 
 def certificates(data):
     """Those of the page prove the parcel of the data, and half a disc."""
-    texts = [text for _, text in blocks("docs/certificate-format.md") if text.startswith("ITFCERT 2\nAREAS 1\n")]
+    texts = [text for _, text in blocks("docs/certificate-format.md") if text.startswith("ITFCERT 1\nAREAS 1\n")]
     put("M", ARC_MODEL)
     put("T", ARC_TRANSFER)
     for text, model, transfer in zip(texts, (f"{data}/parcels.ili", "M"), (f"{data}/parcels.itf", "T")):

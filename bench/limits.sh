@@ -77,19 +77,19 @@ filed = os.path.getsize("certificate")
 ORDINARY = (whole[2] - nothing[2]) / filed
 tell("certificate", "of a grid, proved", filed, whole, nothing, ORDINARY)
 EMPTY = run("verify", "M", "T", "none")
-HEAD = b"ITFCERT 2\nAREAS 1\nAREA a b c\n"
+HEAD = b"ITFCERT 1\nAREAS 1\nAREA a b c\n"
 MOST = b"4294967295"
 CERTIFICATES = [
-    ("the greatest counts and no line", [(HEAD + b"SIZES 255 0 %b %b %b\n" % (MOST, MOST, MOST), 1)]),
+    ("the greatest counts and no line", [(HEAD + b"SIZES 255 %b %b %b\n" % (MOST, MOST, MOST), 1)]),
     ("one number", [(HEAD + b"SIZES 0 ", 1), (b"1", SIZE)]),
-    ("one name", [(b"ITFCERT 2\nAREAS 1\nAREA ", 1), (b"a", SIZE)]),
-    ("events", [(HEAD + b"SIZES 0 0 0 %b 0\n" % MOST, 1), (b"V 0\n", SIZE // 4)]),
-    ("edges", [(HEAD + b"SIZES 0 0 %b 0 0\n" % MOST, 1), (b"E 0 R 0 0 R 0\n", SIZE // 14)]),
-    ("points", [(HEAD + b"SIZES 0 0 0 0 %b\n" % MOST, 1), (b"P 0\n", SIZE // 4)]),
-    ("points in tubes", [(HEAD + b"SIZES 0 0 0 0 %b\n" % MOST, 1), (b"P T 0 I\n", SIZE // 8)]),
-    ("empty certificates", [(b"ITFCERT 2\nAREAS %b\n" % MOST, 1), (b"AREA a b c\nSIZES 0 0 0 0 0\nEND\n", SIZE // 31)]),
-    ("empty certificates, a list", [(b"ITFCERT 2\nAREAS %d\n" % (SIZE // 31), 1),
-                                    (b"AREA a b c\nSIZES 0 0 0 0 0\nEND\n", SIZE // 31)]),
+    ("one name", [(b"ITFCERT 1\nAREAS 1\nAREA ", 1), (b"a", SIZE)]),
+    ("events", [(HEAD + b"SIZES 0 0 %b 0\n" % MOST, 1), (b"V 0\n", SIZE // 4)]),
+    ("edges", [(HEAD + b"SIZES 0 %b 0 0\n" % MOST, 1), (b"E 0 R 0 0 R 0\n", SIZE // 14)]),
+    ("points", [(HEAD + b"SIZES 0 0 0 %b\n" % MOST, 1), (b"P 0\n", SIZE // 4)]),
+    ("points in tubes", [(HEAD + b"SIZES 0 0 0 %b\n" % MOST, 1), (b"P T 0 I\n", SIZE // 8)]),
+    ("empty certificates", [(b"ITFCERT 1\nAREAS %b\n" % MOST, 1), (b"AREA a b c\nSIZES 0 0 0 0\nEND\n", SIZE // 29)]),
+    ("empty certificates, a list", [(b"ITFCERT 1\nAREAS %d\n" % (SIZE // 29), 1),
+                                    (b"AREA a b c\nSIZES 0 0 0 0\nEND\n", SIZE // 29)]),
     ("lines without an end", [(HEAD, 1), (b"SIZES", SIZE // 5)]),
 ]
 for name, parts in CERTIFICATES:
@@ -306,7 +306,7 @@ for what, level, inside in (("level 0", 0, False), ("level 5, points elsewhere",
     got = run("verify", "M", "T", "C")
     print("%d half arcs, %s: %s; %d points in tubes; check %.2f s, verify %.2f s, peak %d MB, certificate %.1f MB" % (
         2 * LEAVES, what, got[0], text.count(b"\nP T "), checked[2], got[2], got[3] // 1000000, len(text) / 1e6), flush=True)
-put("C", (b"ITFCERT 2\nAREAS 1\nAREA T A F\nSIZES 5 0 0 0 0\nEND\n", 1))
+put("C", (b"ITFCERT 1\nAREAS 1\nAREA T A F\nSIZES 5 0 0 0\nEND\n", 1))
 got = run("verify", "M", "T", "C")
 print("the same, a certificate of %d bytes that names level 5: %s; verify %.2f s" % (os.path.getsize("C"), got[0], got[2]))
 PY

@@ -523,8 +523,8 @@ def blank(curves, placed, level):
 
 
 def text_of(level, positions, notes, places):
-    lines = ["ITFCERT 2", "AREAS 1", "AREA Land Parcel Form"]
-    lines.append("SIZES %d 0 %d %d %d" % (level, len(notes) // 2, len(positions), len(places)))
+    lines = ["ITFCERT 1", "AREAS 1", "AREA Land Parcel Form"]
+    lines.append("SIZES %d %d %d %d" % (level, len(notes) // 2, len(positions), len(places)))
     lines += ["V %d" % position for position in positions]
     lines += ["E %d %s %d %d %s %d" % (*b, *a) for b, a in zip(notes[::2], notes[1::2])]
     lines += ["P " + place for place in places] + ["END", ""]

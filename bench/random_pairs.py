@@ -268,18 +268,18 @@ fn rows_{number}(rt: HostRuntime) -> Result<(), Fail> {{
     return "\n".join(lines) + "\n"
 
 
-def scratch(top, work, below, name, text):
-    """A repository with the crates below, and one of that name whose tests are the text."""
+def scratch(top, work, rows):
     listed = (top / "crates.txt").read_text().splitlines()
-    kept = [line for line in listed if line.split(":")[0] in below]
-    (work / "crates.txt").write_text("\n".join(kept + [f"{name}: " + " ".join(below)]) + "\n")
-    for crate in below:
+    kept = [line for line in listed if line.split(":")[0] in BELOW]
+    (work / "crates.txt").write_text("\n".join(kept + ["random_pairs: " + " ".join(BELOW)]) + "\n")
+    for name in BELOW:
         for part in ("src", "specs", "proofs"):
-            if (top / "crates" / crate / part).exists():
-                shutil.copytree(top / "crates" / crate / part, work / "crates" / crate / part)
-    tests = work / "crates" / name
+            if (top / "crates" / name / part).exists():
+                shutil.copytree(top / "crates" / name / part, work / "crates" / name / part)
+    tests = work / "crates" / "random_pairs"
     (tests / "src").mkdir(parents=True)
     (tests / "src" / "lib.rt").write_text(HEAD)
+    text = TEST + "".join(table(i // ROWS, rows[i:i + ROWS]) for i in range(0, len(rows), ROWS))
     (tests / "src" / "rows.rt").write_text(text)
     return tests
 
@@ -292,9 +292,8 @@ def main():
         lines = moved(chance, wide(chance) if chance.random() < 0.33 else crowded(chance))
         rows.append((lines, bad_pairs(lines)))
     top = pathlib.Path(__file__).resolve().parent.parent
-    text = TEST + "".join(table(i // ROWS, rows[i:i + ROWS]) for i in range(0, len(rows), ROWS))
     with tempfile.TemporaryDirectory() as work:
-        tests = scratch(top, pathlib.Path(work), BELOW, "random_pairs", text)
+        tests = scratch(top, pathlib.Path(work), rows)
         ran = subprocess.run(["rt", "try", "--test"], cwd=tests, capture_output=True, text=True)
     told = [line for line in (ran.stdout + ran.stderr).splitlines()
             if "test result" in line or "row " in line or "error" in line]

@@ -144,7 +144,7 @@ put("status", "0")
 put("delivery.itf", "SCNT\n////\n")
 put("empty", "")
 put("zeros", "\0\0")
-put("filed.cert", "ITFCERT 2\nAREAS 0\n")
+put("filed.cert", "ITFCERT 1\nAREAS 0\n")
 os.mkdir("folder")
 for name, words in (("a second delivery", ["check", "M", "T", "delivery.itf"]),
                     ("a file of zeros", ["check", "M", "T", "zeros"]),

@@ -1,5 +1,5 @@
 -- The lines: what is found is written there, and what is written there is found.
-use Rattle.std.proofs.Common.{◌≡◌, ℕ, ◌^◌, ◌<◌, zero, suc, Bool, true, false, cond, nat_eq, nat_lt, List, [], ◌∷◌, ◌++◌, length, Option, Some, None, refl, sym, ap, subst, ◌∙◌, append_assoc, arith}
+use Rattle.std.proofs.Common.{◌≡◌, ℕ, ◌^◌, ◌<◌, Bool, true, false, nat_eq, nat_lt, List, [], ◌∷◌, ◌++◌, length, Option, Some, None, refl, sym, ap, subst, ◌∙◌, append_assoc, arith}
 use Rattle.std.specs.Prelude.{codes}
 use Rattle.std.specs.Fmt.{decimal}
 use Rattle.std.proofs.lemmas.Bool.{eqb-true, ltb-true}
@@ -8,11 +8,8 @@ use Rattle.certificate.specs.declared.notes.HalfNote.{HalfNote}
 use Rattle.certificate.specs.declared.notes.PointPlace.{PointPlace}
 use Rattle.certificate.specs.declared.notes.PointPlace.TheVariants.{Cell, Tube}
 use Rattle.certificate.specs.declared.forms.Counts.{Counts}
-use Rattle.certificate.specs.declared.forms.Sizes.{Sizes}
-use Rattle.certificate.specs.declared.forms.Version.{Version}
-use Rattle.certificate.specs.declared.forms.Version.TheVariants.{One, Two}
-use Rattle.certificate.specs.Spelling.{line, IsName, FitsEdge, FitsPlace, CanSay, event_line, edge_line, place_line, side_word, link_word, bent_word, version_word}
-use Rattle.certificate.specs.Parts.{◌>>=◌, Line, after_word, name_at, number_at, half_at, both_notes, edge_at, numbered_at, event_at, side_at, tube, tube_at, cell, cell_at, place_after, place_at, Title, title_at, counts_of, bent_at, are_sizes, if_sizes, sizes_at, if_known, version_at, areas_at, end_at}
+use Rattle.certificate.specs.Spelling.{line, IsName, FitsEdge, FitsPlace, event_line, edge_line, place_line, side_word, link_word}
+use Rattle.certificate.specs.Parts.{◌>>=◌, Line, after_word, name_at, number_at, half_at, both_notes, edge_at, numbered_at, event_at, side_at, tube, tube_at, cell, cell_at, place_after, place_at, Title, title_at, counts_of, if_level, sizes_at, if_first, version_at, areas_at, end_at}
 use Rattle.std.specs.Char.{is_ascii_digit}
 use Rattle.std.specs.Str.{all_ascii_digits}
 use Rattle.std.proofs.lemmas.Fmt.{decimal_digit, decimal_nonempty}
@@ -212,20 +209,14 @@ title_is t rest f g h =
 
 -- ---- the level and the counts
 
-abbrev pub size_words : Version → Sizes → List (List ℕ)
-size_words One s =
-    codes "SIZES" ∷ decimal s.level ∷ decimal s.counts.edges ∷ decimal s.counts.events
-    ∷ decimal s.counts.points ∷ []
-size_words Two s =
-    codes "SIZES" ∷ decimal s.level ∷ bent_word s.bent ∷ decimal s.counts.edges
-    ∷ decimal s.counts.events ∷ decimal s.counts.points ∷ []
+abbrev pub size_words : ℕ → Counts → List (List ℕ)
+size_words level counts = codes "SIZES" ∷ decimal level ∷ decimal counts.edges ∷ decimal counts.events ∷ decimal counts.points ∷ []
 
-pub record FitsSizes (v : Version) (s : Sizes) : Type 0 where
-  pub level : s.level < 256
-  pub bent : CanSay v s.bent
-  pub edges : s.counts.edges < 2 ^ 32
-  pub events : s.counts.events < 2 ^ 32
-  pub points : s.counts.points < 2 ^ 32
+pub record FitsSizes (l : ℕ) (c : Counts) : Type 0 where
+  pub level : l < 256
+  pub edges : c.edges < 2 ^ 32
+  pub events : c.events < 2 ^ 32
+  pub points : c.points < 2 ^ 32
 
 counts_made : (edges events points : Option ℕ) (c : Counts) → counts_of edges events points ≡ Some c → (edges ≡ Some c.edges) × (events ≡ Some c.events) × (points ≡ Some c.points)
 counts_made edges events points c h =
@@ -235,121 +226,47 @@ counts_made edges events points c h =
     let q : (let x : Counts = record { edges = e; events = v; points = p } in x) ≡ c = some_is _ c n in
     (i ∙ ap (λ (x : Counts). Some x.edges) q, j ∙ ap (λ (x : Counts). Some x.events) q, m ∙ ap (λ (x : Counts). Some x.points) q))))
 
--- what if_sizes took: the numbers, and that they are sizes
-pub record Took (level bent : Option ℕ) (counts : Option Counts) (bytes : List ℕ) (s : Sizes) (rest : List ℕ)
-    : Type 0 where
-  pub flag : ℕ
-  pub level_is : level ≡ Some s.level
-  pub bent_is : bent ≡ Some flag
-  pub said : nat_eq flag 1 ≡ s.bent
-  pub few : flag < 2
-  pub counts_are : counts ≡ Some s.counts
-  pub ends : bytes ≡ rest
-  pub low : s.level < 256
+level_made : (level : Option ℕ) (counts : Option Counts) (bytes : List ℕ) (s : ℕ × Counts) (rest : List ℕ) → if_level level counts bytes ≡ Some (Some s, rest)
+    → (level ≡ Some s.0) × (counts ≡ Some s.1) × (bytes ≡ rest) × (s.0 < 256)
+level_made None counts bytes s rest e = absurd (no_value bytes rest s e)
+level_made (Some l) None bytes s rest e = absurd (no_value bytes rest s e)
+level_made (Some l) (Some c) bytes s rest e =
+    let k = chose (nat_lt l 256) (Some (l, c), bytes) (Some s, rest) e in
+    let p : (l, c) ≡ s = some_is (l, c) s (ap (λ (x : Option (ℕ × Counts) × List ℕ). x.0) k.1) in
+    let lt : l < 256 = ltb-true _ _ k.0 in
+    (ap (λ (x : ℕ × Counts). Some x.0) p, ap (λ (x : ℕ × Counts). Some x.1) p, ap (λ (x : Option (ℕ × Counts) × List ℕ). x.1) k.1, subst (λ (x : ℕ × Counts). x.0 < 256) p lt)
 
-took : (level bent : Option ℕ) (counts : Option Counts) (bytes : List ℕ) (s : Sizes) (rest : List ℕ)
-    → if_sizes level bent counts bytes ≡ Some (Some s, rest) → Took level bent counts bytes s rest
-took None bent counts bytes s rest e = absurd (no_value bytes rest s e)
-took (Some l) None counts bytes s rest e = absurd (no_value bytes rest s e)
-took (Some l) (Some b) None bytes s rest e = absurd (no_value bytes rest s e)
-took (Some l) (Some b) (Some c) bytes s rest e =
-    let made : Sizes = record { level = l; bent = nat_eq b 1; counts = c } in
-    let k = chose (are_sizes l b) (Some made, bytes) (Some s, rest) e in
-    let p : made ≡ s = some_is made s (ap (λ (x : Option Sizes × List ℕ). x.0) k.1) in
-    let both = both_true (nat_lt l 256) (nat_lt b 2) k.0 in
-    let low : l < 256 = ltb-true _ _ both.0 in
-    record {
-      flag = b;
-      level_is = ap (λ (x : Sizes). Some x.level) p;
-      bent_is = refl;
-      said = ap (λ (x : Sizes). x.bent) p;
-      few = ltb-true _ _ both.1;
-      counts_are = ap (λ (x : Sizes). Some x.counts) p;
-      ends = ap (λ (x : Option Sizes × List ℕ). x.1) k.1;
-      low = subst (λ (x : Sizes). x.level < 256) p low;
-    }
-
--- the word of the flag, and what follows it
-abbrev bent_onto : Version → ℕ → List ℕ → List ℕ
-bent_onto One flag rest = rest
-bent_onto Two flag rest = 32 ∷ (decimal flag ++ rest)
-
-abbrev IsFlag : Version → ℕ → Type 0
-IsFlag One flag = flag ≡ 0
-IsFlag Two flag = flag < 2 ^ 32
-
-bent_gave : (v : Version) (bytes : List ℕ) (n : ℕ) (rest : List ℕ) → bent_at v bytes ≡ Some (Some n, rest)
-    → (bytes ≡ bent_onto v n rest) × IsFlag v n
-bent_gave One bytes n rest e =
-    let p = some_is (Some 0, bytes) (Some n, rest) e in
-    (ap (λ (x : Option ℕ × List ℕ). x.1) p, sym (some_is 0 n (ap (λ (x : Option ℕ × List ℕ). x.0) p)))
-bent_gave Two bytes n rest e =
-    then (after_word (codes " ") bytes) _ (Some n, rest) _ e (λ a i1 e1.
-    let g1 = after_word_gave (codes " ") bytes a i1 in
-    let g2 = number_gave a n rest e1 in
-    (g1 ∙ ap (λ (x : List ℕ). 32 ∷ x) g2.0, g2.1))
-
-flag_word : (n : ℕ) → n < 2 → decimal n ≡ bent_word (nat_eq n 1)
-flag_word zero h = decimal_digit 0 (omega arith)
-flag_word (suc zero) h = decimal_digit 1 (omega arith)
-flag_word (suc (suc n)) h = absurd (omega (arith, h))
-
--- the words of the sizes, where the flag says what is said there
-onto_is : (v : Version) (s : Sizes) (n : ℕ) (rest : List ℕ) → n < 2 → nat_eq n 1 ≡ s.bent
-    → codes "SIZES " ++ (decimal s.level ++ bent_onto v n (32 ∷ (decimal s.counts.edges ++ (32 ∷ (decimal s.counts.events
-    ++ (32 ∷ (decimal s.counts.points ++ (10 ∷ rest))))))))
-    ≡ line_onto (size_words v s) rest
-onto_is One s n rest l e = refl
-onto_is Two s n rest l e =
-    let word : decimal n ≡ bent_word s.bent = flag_word n l ∙ ap bent_word e in
-    rw word refl
-
-says : (v : Version) (n : ℕ) (b : Bool) → IsFlag v n → nat_eq n 1 ≡ b → CanSay v b
-says One n b h e = sym e ∙ ap (λ (i : ℕ). nat_eq i 1) h
-says Two n b h e = tt
-
-pub sizes_gave : (v : Version) (bytes : List ℕ) (s : Sizes) (rest : List ℕ) → sizes_at v bytes ≡ Some (Some s, rest)
-    → (bytes ≡ line (size_words v s) ++ rest) × FitsSizes v s
+pub sizes_gave : (bytes : List ℕ) (s : ℕ × Counts) (rest : List ℕ) → sizes_at bytes ≡ Some (Some s, rest) → (bytes ≡ line (size_words s.0 s.1) ++ rest) × FitsSizes s.0 s.1
 unfolding sizes_at
-sizes_gave v bytes s rest h =
+sizes_gave bytes s rest h =
     then (after_word (codes "SIZES ") bytes) _ (Some s, rest) _ h (λ a i1 e1.
     then (number_at a) _ (Some s, rest) _ e1 (λ level i2 e2.
-    then (bent_at v level.1) _ (Some s, rest) _ e2 (λ bent i3 e3.
-    then (after_word (codes " ") bent.1) _ (Some s, rest) _ e3 (λ b i4 e4.
-    then (number_at b) _ (Some s, rest) _ e4 (λ edges i5 e5.
-    then (after_word (codes " ") edges.1) _ (Some s, rest) _ e5 (λ c i6 e6.
-    then (number_at c) _ (Some s, rest) _ e6 (λ events i7 e7.
-    then (after_word (codes " ") events.1) _ (Some s, rest) _ e7 (λ d i8 e8.
-    then (number_at d) _ (Some s, rest) _ e8 (λ points i9 e9.
-    then (after_word (codes "\n") points.1) _ (Some s, rest) _ e9 (λ z i10 e10.
-    let m = took level.0 bent.0 (counts_of edges.0 events.0 points.0) z s rest e10 in
-    let n = counts_made edges.0 events.0 points.0 s.counts m.counts_are in
+    then (after_word (codes " ") level.1) _ (Some s, rest) _ e2 (λ b i3 e3.
+    then (number_at b) _ (Some s, rest) _ e3 (λ edges i4 e4.
+    then (after_word (codes " ") edges.1) _ (Some s, rest) _ e4 (λ c i5 e5.
+    then (number_at c) _ (Some s, rest) _ e5 (λ events i6 e6.
+    then (after_word (codes " ") events.1) _ (Some s, rest) _ e6 (λ d i7 e7.
+    then (number_at d) _ (Some s, rest) _ e7 (λ points i8 e8.
+    then (after_word (codes "\n") points.1) _ (Some s, rest) _ e8 (λ z i9 e9.
+    let m = level_made level.0 (counts_of edges.0 events.0 points.0) z s rest e9 in
+    let n = counts_made edges.0 events.0 points.0 s.1 m.1 in
     let g1 = after_word_gave (codes "SIZES ") bytes a i1 in
-    let g2 = number_gave a s.level level.1 (i2 ∙ ap (λ (x : Option ℕ). Some (x, level.1)) m.level_is) in
-    let g3 = bent_gave v level.1 m.flag bent.1 (i3 ∙ ap (λ (x : Option ℕ). Some (x, bent.1)) m.bent_is) in
-    let g4 = after_word_gave (codes " ") bent.1 b i4 in
-    let g5 = number_gave b s.counts.edges edges.1 (i5 ∙ ap (λ (x : Option ℕ). Some (x, edges.1)) n.0) in
-    let g6 = after_word_gave (codes " ") edges.1 c i6 in
-    let g7 = number_gave c s.counts.events events.1 (i7 ∙ ap (λ (x : Option ℕ). Some (x, events.1)) n.1) in
-    let g8 = after_word_gave (codes " ") events.1 d i8 in
-    let g9 = number_gave d s.counts.points points.1 (i9 ∙ ap (λ (x : Option ℕ). Some (x, points.1)) n.2) in
-    let g10 = after_word_gave (codes "\n") points.1 z i10 in
-    let ends : z ≡ rest = m.ends in
-    let counts : bent.1 ≡ 32 ∷ (decimal s.counts.edges ++ (32 ∷ (decimal s.counts.events
-    ++ (32 ∷ (decimal s.counts.points ++ (10 ∷ rest)))))) = cc (g4, g5.0, g6, g7.0, g8, g9.0, g10, ends) in
-    let whole = g1 ∙ ap (λ (x : List ℕ). codes "SIZES " ++ x) (g2.0 ∙ ap (λ (x : List ℕ). decimal s.level ++ x)
-    (g3.0 ∙ ap (bent_onto v m.flag) counts)) in (
-      with_line bytes (size_words v s) rest (whole ∙ onto_is v s m.flag rest m.few m.said),
-      record { level = m.low; bent = says v m.flag s.bent g3.1 m.said; edges = g5.1; events = g7.1; points = g9.1 },
-    )))))))))))
+    let g2 = number_gave a s.0 level.1 (i2 ∙ ap (λ (x : Option ℕ). Some (x, level.1)) m.0) in
+    let g3 = after_word_gave (codes " ") level.1 b i3 in
+    let g4 = number_gave b s.1.edges edges.1 (i4 ∙ ap (λ (x : Option ℕ). Some (x, edges.1)) n.0) in
+    let g5 = after_word_gave (codes " ") edges.1 c i5 in
+    let g6 = number_gave c s.1.events events.1 (i6 ∙ ap (λ (x : Option ℕ). Some (x, events.1)) n.1) in
+    let g7 = after_word_gave (codes " ") events.1 d i7 in
+    let g8 = number_gave d s.1.points points.1 (i8 ∙ ap (λ (x : Option ℕ). Some (x, points.1)) n.2) in
+    let g9 = after_word_gave (codes "\n") points.1 z i9 in
+    let ends : z ≡ rest = m.2 in
+    (with_line bytes (size_words s.0 s.1) rest (cc (g1, g2.0, g3, g4.0, g5, g6.0, g7, g8.0, g9, ends)), record { level = m.3; edges = g4.1; events = g6.1; points = g8.1 }))))))))))
 
-sizes_one : (level : ℕ) (c : Counts) (rest : List ℕ)
-    → (let s : Sizes = record { level = level; bent = false; counts = c } in FitsSizes One s
-    → sizes_at One (line (size_words One s) ++ rest) ≡ Some (Some s, rest))
+pub sizes_is : (level : ℕ) (c : Counts) (rest : List ℕ) → FitsSizes level c → sizes_at (line (size_words level c) ++ rest) ≡ Some (Some (level, c), rest)
 unfolding sizes_at
-sizes_one level c rest f =
+sizes_is level c rest f =
     let t : nat_lt level 256 ≡ true = let l : level < 256 = f.level in grind (arith, nat_tests) in
-    ap (sizes_at One) (line_then (size_words One (record { level = level; bent = false; counts = c })) rest)
+    ap sizes_at (line_then (size_words level c) rest)
     ∙ rw (
       number_is level 32 (decimal c.edges ++ (32 ∷ (decimal c.events ++ (32 ∷ (decimal c.points ++ (10 ∷ rest)))))) (omega (arith, f.level)) refl,
       number_is c.edges 32 (decimal c.events ++ (32 ∷ (decimal c.points ++ (10 ∷ rest)))) f.edges refl,
@@ -358,91 +275,28 @@ sizes_one level c rest f =
       t,
     ) refl
 
-sizes_two : (level : ℕ) (bent : Bool) (c : Counts) (rest : List ℕ)
-    → (let s : Sizes = record { level = level; bent = bent; counts = c } in FitsSizes Two s
-    → sizes_at Two (line (size_words Two s) ++ rest) ≡ Some (Some s, rest))
-unfolding sizes_at
-sizes_two level true c rest f =
-    let t : nat_lt level 256 ≡ true = let l : level < 256 = f.level in grind (arith, nat_tests) in
-    let s : Sizes = record { level = level; bent = true; counts = c } in
-    let counts : List ℕ = decimal c.edges ++ (32 ∷ (decimal c.events ++ (32 ∷ (decimal c.points ++ (10 ∷ rest))))) in
-    ap (sizes_at Two) (line_then (size_words Two s) rest ∙ sym (onto_is Two s 1 rest (omega arith) refl))
-    ∙ rw (
-      number_is level 32 (decimal 1 ++ (32 ∷ counts)) (omega (arith, f.level)) refl,
-      number_is 1 32 counts (omega arith) refl,
-      number_is c.edges 32 (decimal c.events ++ (32 ∷ (decimal c.points ++ (10 ∷ rest)))) f.edges refl,
-      number_is c.events 32 (decimal c.points ++ (10 ∷ rest)) f.events refl,
-      number_is c.points 10 rest f.points refl,
-      t,
-    ) refl
-sizes_two level false c rest f =
-    let t : nat_lt level 256 ≡ true = let l : level < 256 = f.level in grind (arith, nat_tests) in
-    let s : Sizes = record { level = level; bent = false; counts = c } in
-    let counts : List ℕ = decimal c.edges ++ (32 ∷ (decimal c.events ++ (32 ∷ (decimal c.points ++ (10 ∷ rest))))) in
-    ap (sizes_at Two) (line_then (size_words Two s) rest ∙ sym (onto_is Two s 0 rest (omega arith) refl))
-    ∙ rw (
-      number_is level 32 (decimal 0 ++ (32 ∷ counts)) (omega (arith, f.level)) refl,
-      number_is 0 32 counts (omega arith) refl,
-      number_is c.edges 32 (decimal c.events ++ (32 ∷ (decimal c.points ++ (10 ∷ rest)))) f.edges refl,
-      number_is c.events 32 (decimal c.points ++ (10 ∷ rest)) f.events refl,
-      number_is c.points 10 rest f.points refl,
-      t,
-    ) refl
-
-pub sizes_is : (v : Version) (s : Sizes) (rest : List ℕ) → FitsSizes v s → sizes_at v (line (size_words v s) ++ rest) ≡ Some (Some s, rest)
-sizes_is One s rest f =
-    sizes_one s.level s.counts rest (record { level = f.level; bent = refl; edges = f.edges; events = f.events; points = f.points })
-    ∙ ap (λ (b : Bool). Some (Some (record { level = s.level; bent = b; counts = s.counts }), rest)) (sym f.bent)
-sizes_is Two s rest f = sizes_two s.level s.bent s.counts rest f
-
 -- ---- the version
 
-abbrev pub version_words : Version → List (List ℕ)
-version_words v = codes "ITFCERT" ∷ version_word v ∷ []
+first_made : (o : Option ℕ) (bytes : List ℕ) (n : ℕ) (rest : List ℕ) → if_first o bytes ≡ Some (Some n, rest) → (o ≡ Some 1) × (bytes ≡ rest)
+first_made None bytes n rest e = absurd (no_value bytes rest n e)
+first_made (Some m) bytes n rest e =
+    let k = chose (nat_eq m 1) (Some m, bytes) (Some n, rest) e in
+    (ap (λ (x : ℕ). Some x) (eqb-true m 1 k.0), ap (λ (x : Option ℕ × List ℕ). x.1) k.1)
 
-abbrev number_of : Version → ℕ
-number_of One = 1
-number_of Two = 2
+first_version : (rest : List ℕ) → line (codes "ITFCERT" ∷ codes "1" ∷ []) ++ rest ≡ codes "ITFCERT " ++ (decimal 1 ++ (10 ∷ rest))
+first_version rest = ap (λ (d : List ℕ). codes "ITFCERT " ++ (d ++ (10 ∷ rest))) (sym (decimal_digit 1 (omega arith)))
 
-known_made : (o : Option ℕ) (bytes : List ℕ) (v : Version) (rest : List ℕ) → if_known o bytes ≡ Some (Some v, rest) → (o ≡ Some (number_of v)) × (bytes ≡ rest)
-known_made None bytes v rest e = absurd (no_value bytes rest v e)
-known_made (Some m) bytes v rest e = by_first (nat_eq m 1) refl e
-  where
-    was : (w : Version) → (let found : Line Version = Some (Some w, bytes) in found) ≡ Some (Some v, rest) → m ≡ number_of w → (Some m ≡ Some (number_of v)) × (bytes ≡ rest)
-    was w k i =
-        let p = some_is (Some w, bytes) (Some v, rest) k in
-        let same : w ≡ v = some_is w v (ap (λ (x : Option Version × List ℕ). x.0) p) in
-        (ap (λ (x : ℕ). Some x) (i ∙ ap number_of same), ap (λ (x : Option Version × List ℕ). x.1) p)
-
-    by_first : (b : Bool) → nat_eq m 1 ≡ b → cond {A = Line Version} b (Some (Some One, bytes)) (cond (nat_eq m 2) (Some (Some Two, bytes)) None) ≡ Some (Some v, rest) → (Some m ≡ Some (number_of v)) × (bytes ≡ rest)
-    by_first true h k = was One k (eqb-true m 1 h)
-    by_first false h k =
-        let c = chose (nat_eq m 2) (Some Two, bytes) (Some v, rest) k in
-        was Two (ap (λ (x : Option Version × List ℕ). Some x) c.1) (eqb-true m 2 c.0)
-
-version_onto : (v : Version) (rest : List ℕ) → line (version_words v) ++ rest ≡ codes "ITFCERT " ++ (decimal (number_of v) ++ (10 ∷ rest))
-version_onto One rest = ap (λ (d : List ℕ). codes "ITFCERT " ++ (d ++ (10 ∷ rest))) (sym (decimal_digit 1 (omega arith)))
-version_onto Two rest = ap (λ (d : List ℕ). codes "ITFCERT " ++ (d ++ (10 ∷ rest))) (sym (decimal_digit 2 (omega arith)))
-
-pub version_gave : (bytes : List ℕ) (v : Version) (rest : List ℕ) → version_at bytes ≡ Some (Some v, rest) → bytes ≡ line (version_words v) ++ rest
+pub version_gave : (bytes : List ℕ) (n : ℕ) (rest : List ℕ) → version_at bytes ≡ Some (Some n, rest) → bytes ≡ line (codes "ITFCERT" ∷ codes "1" ∷ []) ++ rest
 unfolding version_at
-version_gave bytes v rest e =
-    then (numbered_at (codes "ITFCERT ") bytes) _ (Some v, rest) _ e (λ m i1 e1.
-    let k = known_made m.0 m.1 v rest e1 in
-    let o = pair_is m (Some (number_of v)) rest k.0 k.1 in
-    (numbered_gave (codes "ITFCERT ") bytes (number_of v) rest (i1 ∙ ap (λ (x : Option ℕ × List ℕ). Some x) o)).0 ∙ sym (version_onto v rest))
+version_gave bytes n rest e =
+    then (numbered_at (codes "ITFCERT ") bytes) _ (Some n, rest) _ e (λ m i1 e1.
+    let k = first_made m.0 m.1 n rest e1 in
+    let o = pair_is m (Some 1) rest k.0 k.1 in
+    (numbered_gave (codes "ITFCERT ") bytes 1 rest (i1 ∙ ap (λ (x : Option ℕ × List ℕ). Some x) o)).0 ∙ sym (first_version rest))
 
-number_fits : (v : Version) → number_of v < 2 ^ 32
-number_fits One = omega arith
-number_fits Two = omega arith
-
-known : (v : Version) (rest : List ℕ) → if_known (Some (number_of v)) rest ≡ Some (Some v, rest)
-known One rest = refl
-known Two rest = refl
-
-pub version_is : (v : Version) (rest : List ℕ) → version_at (line (version_words v) ++ rest) ≡ Some (Some v, rest)
+pub version_is : (rest : List ℕ) → version_at (line (codes "ITFCERT" ∷ codes "1" ∷ []) ++ rest) ≡ Some (Some 1, rest)
 unfolding version_at
-version_is v rest = ap version_at (version_onto v rest) ∙ ap (λ (o : Line ℕ). (o >>= λ m. if_known m.0 m.1)) (numbered_is (codes "ITFCERT ") (number_of v) rest (number_fits v)) ∙ known v rest
+version_is rest = ap version_at (first_version rest) ∙ ap (λ (o : Line ℕ). (o >>= λ m. if_first m.0 m.1)) (numbered_is (codes "ITFCERT ") 1 rest (omega arith))
 
 -- ---- the end
 

@@ -122,14 +122,13 @@ line_went form text P gave are t x u h =
 
 -- ---- one part, and then another one
 
--- the second text may depend on the first part
-abbrev pub both_texts : {A B : Type 0} → (A → List ℕ) → (A → B → List ℕ) → A × B → List ℕ
-both_texts a b x = a x.0 ++ b x.0 x.1
+abbrev pub both_texts : {A B : Type 0} → (A → List ℕ) → (B → List ℕ) → A × B → List ℕ
+both_texts a b x = a x.0 ++ b x.1
 
 abbrev pub Both : {A B : Type 0} → (A → Type 0) → (A → B → Type 0) → A × B → Type 0
 Both P Q x = P x.0 × Q x.0 x.1
 
-pub first_stops : {A B : Type 0} (a : A → List ℕ) (b : A → B → List ℕ) (P : A → Type 0) (Q : A → B → Type 0) → ((x : A) → P x → (y : B) × Q x y) → (t : Text) (e : CertFault)
+pub first_stops : {A B : Type 0} (a : A → List ℕ) (b : B → List ℕ) (P : A → Type 0) (Q : A → B → Type 0) → ((x : A) → P x → (y : B) × Q x y) → (t : Text) (e : CertFault)
     → Stopped a P t e → Stopped (both_texts a b) (Both P Q) t e
 first_stops {A = A} {B = B} a b P Q others t e s =
     let k = s.0 in
@@ -138,10 +137,10 @@ first_stops {A = A} {B = B} a b P Q others t e s =
       record {
         some = (s.1.some, o.0);
         good = (s.1.good, o.1);
-        rest = s.1.rest ++ b s.1.some o.0;
-        begins = ap (λ (w : List ℕ). w ++ b s.1.some o.0) s.1.begins ∙ append_assoc (first_lines k t.rest) s.1.rest (b s.1.some o.0);
+        rest = s.1.rest ++ b o.0;
+        begins = ap (λ (w : List ℕ). w ++ b o.0) s.1.begins ∙ append_assoc (first_lines k t.rest) s.1.rest (b o.0);
         whole = s.1.whole;
-        none = λ l y p more z g. s.1.none l y.0 p.0 (b y.0 y.1 ++ more) z (sym (append_assoc (a y.0) (b y.0 y.1) more) ∙ g);
+        none = λ l y p more z g. s.1.none l y.0 p.0 (b y.1 ++ more) z (sym (append_assoc (a y.0) (b y.1) more) ∙ g);
       },
       s.2,
     )
@@ -154,8 +153,8 @@ reported_later rest text lines a k n m e l h i (reported_number j f g) =
 reported_later rest text lines a k n m e l h i (reported_short j f g) =
     reported_short j (omega (arith, f, i)) (ap (first_lines (a + k)) h ∙ l.front k (a + k) rest refl ∙ ap (λ (x : List ℕ). lines ++ x) g ∙ sym h)
 
-pub second_stops : {A B : Type 0} (a : A → List ℕ) (b : A → B → List ℕ) (P : A → Type 0) (Q : A → B → Type 0) → Det a P → (t : Text) (x : A) (u : Text) (e : CertFault)
-    → Went a P t x u → Stopped (b x) (Q x) u e → Stopped (both_texts a b) (Both P Q) t e
+pub second_stops : {A B : Type 0} (a : A → List ℕ) (b : B → List ℕ) (P : A → Type 0) (Q : A → B → Type 0) → Det a P → (t : Text) (x : A) (u : Text) (e : CertFault)
+    → Went a P t x u → Stopped b (Q x) u e → Stopped (both_texts a b) (Both P Q) t e
 second_stops {A = A} {B = B} a b P Q det t x u e w s =
     let n = w.lines in
     let k = s.0 in
@@ -171,9 +170,9 @@ second_stops {A = A} {B = B} a b P Q det t x u e w s =
         none = λ l y p more z g.
             let step : suc (n + k) ≡ n + suc k = omega arith in
             let first : first_lines (suc (n + k)) t.rest ≡ a x ++ first_lines (suc k) u.rest = ap (λ (i : ℕ). first_lines i t.rest) step ∙ front (suc k) in
-            let d = det y.0 x (b y.0 y.1 ++ more) (first_lines (suc k) u.rest ++ z) p.0 w.good
-            (sym (append_assoc (a y.0) (b y.0 y.1) more) ∙ g ∙ ap (λ (v : List ℕ). v ++ z) first ∙ append_assoc (a x) (first_lines (suc k) u.rest) z) in
-            s.1.none (omega (arith, l, count)) y.1 (subst (λ (v : A). Q v y.1) d.0 p.1) more z (ap (λ (v : A). b v y.1 ++ more) (sym d.0) ∙ d.1);
+            let d = det y.0 x (b y.1 ++ more) (first_lines (suc k) u.rest ++ z) p.0 w.good
+            (sym (append_assoc (a y.0) (b y.1) more) ∙ g ∙ ap (λ (v : List ℕ). v ++ z) first ∙ append_assoc (a x) (first_lines (suc k) u.rest) z) in
+            s.1.none (omega (arith, l, count)) y.1 (subst (λ (v : A). Q v y.1) d.0 p.1) more z d.1;
       },
       reported_later u.rest t.rest (a x) n k t.line u.line e w.are w.parts w.next s.2,
     )
@@ -195,13 +194,13 @@ map_stops a b P Q there back t e s =
       s.2,
     )
 
-pub both_went : {A B : Type 0} (a : A → List ℕ) (b : A → B → List ℕ) (P : A → Type 0) (Q : A → B → Type 0) (t : Text) (x : A) (u : Text) (y : B) (v : Text)
-    → Went a P t x u → Went (b x) (Q x) u y v → Went (both_texts a b) (Both P Q) t (x, y) v
+pub both_went : {A B : Type 0} (a : A → List ℕ) (b : B → List ℕ) (P : A → Type 0) (Q : A → B → Type 0) (t : Text) (x : A) (u : Text) (y : B) (v : Text)
+    → Went a P t x u → Went b (Q x) u y v → Went (both_texts a b) (Both P Q) t (x, y) v
 both_went a b P Q t x u y v f g = record {
-  parts = f.parts ∙ ap (λ (z : List ℕ). a x ++ z) g.parts ∙ sym (append_assoc (a x) (b x y) v.rest);
+  parts = f.parts ∙ ap (λ (z : List ℕ). a x ++ z) g.parts ∙ sym (append_assoc (a x) (b y) v.rest);
   good = (f.good, g.good);
   lines = f.lines + g.lines;
-  are = more_lines f.lines g.lines (a x) (b x y) f.are g.are;
+  are = more_lines f.lines g.lines (a x) (b y) f.are g.are;
   next = omega (arith, f.next, g.next);
 }
 
@@ -214,10 +213,10 @@ map_went a b P Q t x y u q e w = record {
   next = w.next;
 }
 
-pub both_det : {A B : Type 0} (a : A → List ℕ) (b : A → B → List ℕ) (P : A → Type 0) (Q : A → B → Type 0) → Det a P → ((x : A) → Det (b x) (Q x)) → Det (both_texts a b) (Both P Q)
+pub both_det : {A B : Type 0} (a : A → List ℕ) (b : B → List ℕ) (P : A → Type 0) (Q : A → B → Type 0) → Det a P → ((x : A) → Det b (Q x)) → Det (both_texts a b) (Both P Q)
 both_det {A = A} a b P Q first second (x, y) (v, w) m n p q e =
-    let d = first x v (b x y ++ m) (b v w ++ n) p.0 q.0 (sym (append_assoc (a x) (b x y) m) ∙ e ∙ append_assoc (a v) (b v w) n) in
-    let f = second v y w m n (subst (λ (z : A). Q z y) d.0 p.1) q.1 (ap (λ (z : A). b z y ++ m) (sym d.0) ∙ d.1) in
+    let d = first x v (b y ++ m) (b w ++ n) p.0 q.0 (sym (append_assoc (a x) (b y) m) ∙ e ∙ append_assoc (a v) (b w) n) in
+    let f = second v y w m n (subst (λ (z : A). Q z y) d.0 p.1) q.1 d.1 in
     (pair_is (x, y) v w d.0 f.0, f.1)
 
 -- ---- so many, one after the other
@@ -233,11 +232,11 @@ all_same P n x p = (length-replicate n x, each n)
     each (suc m) = (p, each m)
 
 to_list : {A : Type 0} (text : A → List ℕ) (P : A → Type 0) (n : ℕ) (t : Text) (e : CertFault)
-    → Stopped (both_texts text (λ x. flat_map text)) (Both P (λ x xs. AreSo P n xs)) t e → Stopped (flat_map text) (AreSo P (suc n)) t e
-to_list {A = A} text P n t e s = map_stops (both_texts text (λ x. flat_map text)) (flat_map text) (Both P (λ x xs. AreSo P n xs)) (AreSo P (suc n))
+    → Stopped (both_texts text (flat_map text)) (Both P (λ x xs. AreSo P n xs)) t e → Stopped (flat_map text) (AreSo P (suc n)) t e
+to_list {A = A} text P n t e s = map_stops (both_texts text (flat_map text)) (flat_map text) (Both P (λ x xs. AreSo P n xs)) (AreSo P (suc n))
     (λ x p. (x.0 ∷ x.1, (ap suc p.1.0, (p.0, p.1.1)), flat_map-cons text x.0 x.1)) back t e s
   where
-    back : (ys : List A) → AreSo P (suc n) ys → (x : A × List A) × Both P (λ x xs. AreSo P n xs) x × (both_texts text (λ z. flat_map text) x ≡ flat_map text ys)
+    back : (ys : List A) → AreSo P (suc n) ys → (x : A × List A) × Both P (λ x xs. AreSo P n xs) x × (both_texts text (flat_map text) x ≡ flat_map text ys)
     back [] q = absurd (omega (arith, q.0))
     back (y ∷ ys) q = ((y, ys), (q.1.0, (omega (arith, q.0), q.1.1)), sym (flat_map-cons text y ys))
 
@@ -247,10 +246,10 @@ pub many_stops : {A : Type 0} (one : Text → Lines A) (text : A → List ℕ) (
 unfolding many_at
 many_stops one text P x p det stops went zero t e h = ok_no_err ([], t) e _ h
 many_stops {A = A} one text P x p det stops went (suc n) t e h =
-    then_err (one t) _ e _ h (λ i. to_list text P n t e (first_stops text (λ y. flat_map text) P (λ y ys. AreSo P n ys) (λ y q. (replicate n x, all_same P n x p)) t e (stops t e i)))
+    then_err (one t) _ e _ h (λ i. to_list text P n t e (first_stops text (flat_map text) P (λ y ys. AreSo P n ys) (λ y q. (replicate n x, all_same P n x p)) t e (stops t e i)))
     (λ first i k.
     then_err (many_at one n first.1) _ e _ k
-    (λ j. to_list text P n t e (second_stops text (λ y. flat_map text) P (λ y ys. AreSo P n ys) det t first.0 first.1 e (went t first.0 first.1 i) (many_stops one text P x p det stops went n first.1 e j)))
+    (λ j. to_list text P n t e (second_stops text (flat_map text) P (λ y ys. AreSo P n ys) det t first.0 first.1 e (went t first.0 first.1 i) (many_stops one text P x p det stops went n first.1 e j)))
     (λ others j m. ok_no_err (first.0 ∷ others.0, others.1) e _ m))
 
 pub many_went : {A : Type 0} (one : Text → Lines A) (text : A → List ℕ) (P : A → Type 0)

@@ -11,15 +11,12 @@ use Rattle.certificate.specs.declared.notes.HalfNote.{HalfNote}
 use Rattle.certificate.specs.declared.notes.PointPlace.{PointPlace}
 use Rattle.certificate.specs.declared.notes.PointPlace.TheVariants.{Cell, Tube}
 use Rattle.certificate.specs.declared.forms.Counts.{Counts}
-use Rattle.certificate.specs.declared.forms.Sizes.{Sizes}
-use Rattle.certificate.specs.declared.forms.Version.{Version}
-use Rattle.certificate.specs.declared.forms.Version.TheVariants.{One, Two}
 use Rattle.certificate.specs.declared.fault.CertFault.{CertFault}
 use Rattle.certificate.specs.declared.fault.CertFault.TheVariants as faults
-use Rattle.certificate.specs.Spelling.{Plain, line, event_line, edge_line, place_line, title_line, side_word, sizes_line, certificate_text, text_in, CanSay, Spells, Fits, FitsEdge, FitsPlace, AreSpelt}
+use Rattle.certificate.specs.Spelling.{Plain, line, event_line, edge_line, place_line, title_line, side_word, sizes_line, certificate_text, spelling, Fits, FitsEdge, FitsPlace, AreSpelt}
 use Rattle.certificate.specs.Parts.{Line, Title, version_at, areas_at, title_at, sizes_at, event_at, edge_at, place_at, end_at}
 use Rattle.certificate.specs.Reading.{Text, ◌>>=◌, Lines, if_spelt, if_formed, line_at, many_at, plain, certificate_at, if_ended, list_of, Gives}
-use Rattle.certificate.proofs.FormLaws.{size_words, FitsSizes, version_words, version_gave, version_is, areas_gave, areas_is, title_gave, title_is, sizes_gave, sizes_is, event_gave, event_is, edge_gave, edge_is, place_gave, place_is, end_gave, end_is}
+use Rattle.certificate.proofs.FormLaws.{size_words, FitsSizes, version_gave, version_is, areas_gave, areas_is, title_gave, title_is, sizes_gave, sizes_is, event_gave, event_is, edge_gave, edge_is, place_gave, place_is, end_gave, end_is}
 
 abbrev done : {A : Type 0} → A → Result A CertFault
 done x = Ok x
@@ -138,38 +135,32 @@ place_read x n rest f = (n + 1, line_is place_at (place_line x ++ rest) n x rest
 
 -- ---- a certificate
 
-pub same_sizes : (v : Version) (c : Plain) (s : Sizes) → c.level ≡ s.level → c.bent ≡ s.bent → length c.edges ≡ s.counts.edges → length c.positions ≡ s.counts.events
-    → length c.places ≡ s.counts.points → line (size_words v s) ≡ sizes_line v c
-same_sizes One c s l b i j k = rw (l, i, j, k) refl
-same_sizes Two c s l b i j k = rw (l, b, i, j, k) refl
+pub same_sizes : (level : ℕ) (c : Counts) (e v p : ℕ) → e ≡ c.edges → v ≡ c.events → p ≡ c.points → line (size_words level c) ≡ line (codes "SIZES" ∷ decimal level ∷ decimal e ∷ decimal v ∷ decimal p ∷ [])
+same_sizes level c e v p i j k = rw (i, j, k) refl
 
--- a certificate that fits a version
-abbrev pub FitsIn : Version → Plain → Type 0
-FitsIn v c = Fits c × CanSay v c.bent
-
-pub certificate_gave : (v : Version) (t : Text) (c : Plain) (u : Text) → certificate_at v t ≡ Ok (c, u) → (t.rest ≡ certificate_text v c ++ u.rest) × FitsIn v c
+pub certificate_gave : (t : Text) (c : Plain) (u : Text) → certificate_at t ≡ Ok (c, u) → (t.rest ≡ certificate_text c ++ u.rest) × Fits c
 unfolding certificate_at
-certificate_gave v t c u e =
+certificate_gave t c u e =
     then_ok (line_at title_at t) _ (c, u) _ e (λ title i1 e1.
-    then_ok (line_at (sizes_at v) title.1) _ (c, u) _ e1 (λ sizes i2 e2.
-    then_ok (many_at (line_at event_at) sizes.0.counts.events sizes.1) _ (c, u) _ e2 (λ positions i3 e3.
-    then_ok (many_at (line_at edge_at) sizes.0.counts.edges positions.1) _ (c, u) _ e3 (λ edges i4 e4.
-    then_ok (many_at (line_at place_at) sizes.0.counts.points edges.1) _ (c, u) _ e4 (λ places i5 e5.
+    then_ok (line_at sizes_at title.1) _ (c, u) _ e1 (λ sizes i2 e2.
+    then_ok (many_at (line_at event_at) sizes.0.1.events sizes.1) _ (c, u) _ e2 (λ positions i3 e3.
+    then_ok (many_at (line_at edge_at) sizes.0.1.edges positions.1) _ (c, u) _ e3 (λ edges i4 e4.
+    then_ok (many_at (line_at place_at) sizes.0.1.points edges.1) _ (c, u) _ e4 (λ places i5 e5.
     then_ok (line_at end_at places.1) _ (c, u) _ e5 (λ end i6 e6.
-    let made = plain title.0 sizes.0 positions.0 edges.0 places.0 in
+    let made = plain title.0 sizes.0.0 positions.0 edges.0 places.0 in
     let p = ok_is (made, end.1) (c, u) e6 in
     let g1 = title_gave t.rest title.0 title.1.rest (line_gave title_at t title.0 title.1 i1) in
-    let g2 = sizes_gave v title.1.rest sizes.0 sizes.1.rest (line_gave (sizes_at v) title.1 sizes.0 sizes.1 i2) in
-    let g3 = events_gave sizes.0.counts.events sizes.1 positions.0 positions.1 i3 in
-    let g4 = edges_gave sizes.0.counts.edges positions.1 edges.0 edges.1 i4 in
-    let g5 = places_gave sizes.0.counts.points edges.1 places.0 places.1 i5 in
+    let g2 = sizes_gave title.1.rest sizes.0 sizes.1.rest (line_gave sizes_at title.1 sizes.0 sizes.1 i2) in
+    let g3 = events_gave sizes.0.1.events sizes.1 positions.0 positions.1 i3 in
+    let g4 = edges_gave sizes.0.1.edges positions.1 edges.0 edges.1 i4 in
+    let g5 = places_gave sizes.0.1.points edges.1 places.0 places.1 i5 in
     let g6 = end_gave places.1.rest end.0 end.1.rest (line_gave end_at places.1 end.0 end.1 i6) in
-    let s2 : title.1.rest ≡ sizes_line v made ++ sizes.1.rest = g2.0 ∙ ap (λ (x : List ℕ). x ++ sizes.1.rest) (same_sizes v made sizes.0 refl refl g4.1 g3.1 g5.1) in
+    let s2 : title.1.rest ≡ sizes_line made ++ sizes.1.rest = g2.0 ∙ ap (λ (x : List ℕ). x ++ sizes.1.rest) (same_sizes sizes.0.0 sizes.0.1 (length edges.0) (length positions.0) (length places.0) g4.1 g3.1 g5.1) in
     let r5 = joined edges.1.rest places.1.rest (flat_map place_line places.0) (line (codes "END" ∷ [])) end.1.rest g5.0 g6 in
     let r4 = joined positions.1.rest edges.1.rest (flat_map edge_line edges.0) (flat_map place_line places.0 ++ line (codes "END" ∷ [])) end.1.rest g4.0 r5 in
     let r3 = joined sizes.1.rest positions.1.rest (flat_map event_line positions.0) (flat_map edge_line edges.0 ++ (flat_map place_line places.0 ++ line (codes "END" ∷ []))) end.1.rest g3.0 r4 in
-    let r2 = joined title.1.rest sizes.1.rest (sizes_line v made) (flat_map event_line positions.0 ++ (flat_map edge_line edges.0 ++ (flat_map place_line places.0 ++ line (codes "END" ∷ [])))) end.1.rest s2 r3 in
-    let r1 = joined t.rest title.1.rest (title_line made) (sizes_line v made ++ (flat_map event_line positions.0 ++ (flat_map edge_line edges.0 ++ (flat_map place_line places.0 ++ line (codes "END" ∷ []))))) end.1.rest g1.0 r2 in
+    let r2 = joined title.1.rest sizes.1.rest (sizes_line made) (flat_map event_line positions.0 ++ (flat_map edge_line edges.0 ++ (flat_map place_line places.0 ++ line (codes "END" ∷ [])))) end.1.rest s2 r3 in
+    let r1 = joined t.rest title.1.rest (title_line made) (sizes_line made ++ (flat_map event_line positions.0 ++ (flat_map edge_line edges.0 ++ (flat_map place_line places.0 ++ line (codes "END" ∷ []))))) end.1.rest g1.0 r2 in
     let fits : Fits made = record {
       topic = g1.1;
       table = g1.2;
@@ -182,35 +173,32 @@ certificate_gave v t c u e =
       edge_count = subst (λ (n : ℕ). n < 2 ^ 32) (sym g4.1) g2.1.edges;
       place_count = subst (λ (n : ℕ). n < 2 ^ 32) (sym g5.1) g2.1.points;
     } in
-    subst (λ (y : Plain × Text). (t.rest ≡ certificate_text v y.0 ++ y.1.rest) × FitsIn v y.0) p (r1, (fits, g2.1.bent))))))))
+    subst (λ (y : Plain × Text). (t.rest ≡ certificate_text y.0 ++ y.1.rest) × Fits y.0) p (r1, fits)))))))
 
 pub regroup : (a b c d e f rest : List ℕ) → (a ++ (b ++ (c ++ (d ++ (e ++ f))))) ++ rest ≡ a ++ (b ++ (c ++ (d ++ (e ++ (f ++ rest)))))
 regroup a b c d e f rest = simp append_assoc
 
-pub certificate_read : (v : Version) (c : Plain) (n : ℕ) (rest : List ℕ) → FitsIn v c → IsRead (certificate_at v) (certificate_text v c ++ rest) n c rest
+pub certificate_read : (c : Plain) (n : ℕ) (rest : List ℕ) → Fits c → IsRead certificate_at (certificate_text c ++ rest) n c rest
 unfolding certificate_at
-certificate_read v c n rest (f, said) =
+certificate_read c n rest f =
     let title : Title = record { topic = c.topic; table = c.table; attribute = c.attribute } in
     let counts : Counts = record { edges = length c.edges; events = length c.positions; points = length c.places } in
     let last = line (codes "END" ∷ []) ++ rest in
     let r5 = flat_map place_line c.places ++ last in
     let r4 = flat_map edge_line c.edges ++ r5 in
     let r3 = flat_map event_line c.positions ++ r4 in
-    let r2 = sizes_line v c ++ r3 in
-    let sizes : Sizes = record { level = c.level; bent = c.bent; counts = counts } in
-    let same : line (size_words v sizes) ≡ sizes_line v c = same_sizes v c sizes refl refl refl refl refl in
-    let sizes_fit : FitsSizes v sizes = record { level = f.level; bent = said; edges = f.edge_count; events = f.position_count; points = f.place_count } in
+    let r2 = sizes_line c ++ r3 in
+    let sizes_fit : FitsSizes c.level counts = record { level = f.level; edges = f.edge_count; events = f.position_count; points = f.place_count } in
     let h1 = line_is title_at (title_line c ++ r2) n title r2 (line_some (codes "AREA" ∷ c.topic ∷ c.table ∷ c.attribute ∷ []) r2) (title_is title r2 f.topic f.table f.attribute) in
-    let h2 = subst (λ (w : List ℕ). line_at (sizes_at v) (from (w ++ r3) (n + 1)) ≡ Ok (sizes, from r3 (n + 1 + 1))) same
-    (line_is (sizes_at v) (line (size_words v sizes) ++ r3) (n + 1) sizes r3 (line_some (size_words v sizes) r3) (sizes_is v sizes r3 sizes_fit)) in
+    let h2 = line_is sizes_at r2 (n + 1) (c.level, counts) r3 (line_some (size_words c.level counts) r3) (sizes_is c.level counts r3 sizes_fit) in
     let h3 = many_is (line_at event_at) event_line (λ n. n < 2 ^ 32) event_read c.positions (n + 1 + 1) r4 f.positions in
     let h4 = many_is (line_at edge_at) edge_line FitsEdge edge_read c.edges h3.0 r5 f.edges in
     let h5 = many_is (line_at place_at) place_line FitsPlace place_read c.places h4.0 last f.places in
     let h6 = line_is end_at last h5.0 tt rest (line_some (codes "END" ∷ []) rest) (end_is rest) in (
       h5.0 + 1,
-      ap (λ (y : List ℕ). certificate_at v (from y n)) (regroup (title_line c) (sizes_line v c) (flat_map event_line c.positions) (flat_map edge_line c.edges) (flat_map place_line c.places) (line (codes "END" ∷ [])) rest)
+      ap (λ (y : List ℕ). certificate_at (from y n)) (regroup (title_line c) (sizes_line c) (flat_map event_line c.positions) (flat_map edge_line c.edges) (flat_map place_line c.places) (line (codes "END" ∷ [])) rest)
           ∙ step_is (line_at title_at (from (title_line c ++ r2) n)) (title, from r2 (n + 1)) _ _ h1
-          (step_is (line_at (sizes_at v) (from r2 (n + 1))) (sizes, from r3 (n + 1 + 1)) _ _ h2
+          (step_is (line_at sizes_at (from r2 (n + 1))) ((c.level, counts), from r3 (n + 1 + 1)) _ _ h2
           (step_is (many_at (line_at event_at) (length c.positions) (from r3 (n + 1 + 1))) (c.positions, from r4 h3.0) _ _ h3.1
           (step_is (many_at (line_at edge_at) (length c.edges) (from r4 h3.0)) (c.edges, from r5 h4.0) _ _ h4.1
           (step_is (many_at (line_at place_at) (length c.places) (from r5 h4.0)) (c.places, from last h5.0) _ _ h5.1
@@ -226,67 +214,39 @@ ended_gave cs t ds e = by_end (nat_eq (length t.rest) 0) refl e
     by_end true h e = (ok_is cs ds e, nil_from_length t.rest (eqb-true (length t.rest) 0 h))
     by_end false h e = absurd (cc)
 
-all_first : {A : Type 0} (P Q : A → Type 0) (xs : List A) → AllByRecursion (λ x. P x × Q x) xs → AllByRecursion P xs
-all_first P Q [] h = tt
-all_first P Q (x ∷ xs) h = (h.0.0, all_first P Q xs h.1)
-
-all_second : {A : Type 0} (P Q : A → Type 0) (xs : List A) → AllByRecursion (λ x. P x × Q x) xs → AllByRecursion Q xs
-all_second P Q [] h = tt
-all_second P Q (x ∷ xs) h = (h.0.1, all_second P Q xs h.1)
-
-all_both : {A : Type 0} (P Q : A → Type 0) (xs : List A) → AllByRecursion P xs → AllByRecursion Q xs → AllByRecursion (λ x. P x × Q x) xs
-all_both P Q [] h k = tt
-all_both P Q (x ∷ xs) h k = ((h.0, k.0), all_both P Q xs h.1 k.1)
-
--- certificates that fit, and that a version can say
-pub all_fit : (v : Version) (cs : List Plain) → AllByRecursion (FitsIn v) cs → AllByRecursion Fits cs
-all_fit v cs h = all_first Fits (λ c. CanSay v c.bent) cs h
-
-pub all_said : (v : Version) (cs : List Plain) → AllByRecursion (FitsIn v) cs → AllByRecursion (λ c. CanSay v c.bent) cs
-all_said v cs h = all_second Fits (λ c. CanSay v c.bent) cs h
-
-pub all_fit_in : (v : Version) (cs : List Plain) → AllByRecursion Fits cs → AllByRecursion (λ c. CanSay v c.bent) cs → AllByRecursion (FitsIn v) cs
-all_fit_in v cs h k = all_both Fits (λ c. CanSay v c.bent) cs h k
-
-pub list_gave : (bytes : List ℕ) (cs : List Plain) → list_of bytes ≡ Ok cs → AreSpelt cs × Spells bytes cs
+pub list_gave : (bytes : List ℕ) (cs : List Plain) → list_of bytes ≡ Ok cs → AreSpelt cs × (bytes ≡ spelling cs)
 unfolding list_of
 list_gave bytes cs e =
     then_ok (line_at version_at (from bytes 1)) _ cs _ e (λ version i1 e1.
     then_ok (line_at areas_at version.1) _ cs _ e1 (λ areas i2 e2.
-    then_ok (many_at (certificate_at version.0) areas.0 areas.1) _ cs _ e2 (λ list i3 e3.
-    let v = version.0 in
-    let text = certificate_text v in
+    then_ok (many_at certificate_at areas.0 areas.1) _ cs _ e2 (λ list i3 e3.
     let p = ended_gave list.0 list.1 cs e3 in
-    let g1 = version_gave bytes v version.1.rest (line_gave version_at (from bytes 1) v version.1 i1) in
+    let g1 = version_gave bytes version.0 version.1.rest (line_gave version_at (from bytes 1) version.0 version.1 i1) in
     let g2 = areas_gave version.1.rest areas.0 areas.1.rest (line_gave areas_at version.1 areas.0 areas.1 i2) in
-    let g3 = many_gave (certificate_at v) text (FitsIn v) (certificate_gave v) areas.0 areas.1 list.0 list.1 i3 in
-    let last : areas.1.rest ≡ flat_map text list.0 = g3.0 ∙ ap (λ (r : List ℕ). flat_map text list.0 ++ r) p.1 ∙ append-nil (flat_map text list.0) in
-    let middle : version.1.rest ≡ line (codes "AREAS" ∷ decimal (length list.0) ∷ []) ++ flat_map text list.0 =
+    let g3 = many_gave certificate_at certificate_text Fits certificate_gave areas.0 areas.1 list.0 list.1 i3 in
+    let last : areas.1.rest ≡ flat_map certificate_text list.0 = g3.0 ∙ ap (λ (r : List ℕ). flat_map certificate_text list.0 ++ r) p.1 ∙ append-nil (flat_map certificate_text list.0) in
+    let middle : version.1.rest ≡ line (codes "AREAS" ∷ decimal (length list.0) ∷ []) ++ flat_map certificate_text list.0 =
     g2.0 ∙ ap (λ (n : ℕ). line (codes "AREAS" ∷ decimal n ∷ []) ++ areas.1.rest) (sym g3.1) ∙ ap (λ (r : List ℕ). line (codes "AREAS" ∷ decimal (length list.0) ∷ []) ++ r) last in
-    let whole : bytes ≡ text_in v list.0 = g1 ∙ ap (λ (r : List ℕ). line (version_words v) ++ r) middle in
-    let spells : Spells bytes list.0 = record { version = v; said = all_said v list.0 g3.2; is = whole } in
-    subst (λ (y : List Plain). AreSpelt y × Spells bytes y) p.0 ((subst (λ (n : ℕ). n < 2 ^ 32) (sym g3.1) g2.1, all_fit v list.0 g3.2), spells))))
+    let whole : bytes ≡ spelling list.0 = g1 ∙ ap (λ (r : List ℕ). line (codes "ITFCERT" ∷ codes "1" ∷ []) ++ r) middle in
+    subst (λ (y : List Plain). AreSpelt y × (bytes ≡ spelling y)) p.0 ((subst (λ (n : ℕ). n < 2 ^ 32) (sym g3.1) g2.1, g3.2), whole))))
 
-text_is : (v : Version) (cs : List Plain) → length cs < 2 ^ 32 → AllByRecursion (FitsIn v) cs → list_of (text_in v cs) ≡ Ok cs
+pub list_is : (cs : List Plain) → AreSpelt cs → list_of (spelling cs) ≡ Ok cs
 unfolding list_of
-text_is v cs few fits =
-    let r2 = flat_map (certificate_text v) cs in
+list_is cs f =
+    let r2 = flat_map certificate_text cs in
     let r1 = line (codes "AREAS" ∷ decimal (length cs) ∷ []) ++ r2 in
-    let h1 = line_is version_at (text_in v cs) 1 v r1 (line_some (version_words v) r1) (version_is v r1) in
-    let h2 = line_is areas_at r1 (1 + 1) (length cs) r2 (line_some (codes "AREAS" ∷ decimal (length cs) ∷ []) r2) (areas_is (length cs) r2 few) in
-    let h3 = many_is (certificate_at v) (certificate_text v) (FitsIn v) (certificate_read v) cs (1 + 1 + 1) [] fits in
-    let h4 : many_at (certificate_at v) (length cs) (from r2 (1 + 1 + 1)) ≡ Ok (cs, from [] h3.0) = ap (λ (r : List ℕ). many_at (certificate_at v) (length cs) (from r (1 + 1 + 1))) (sym (append-nil r2)) ∙ h3.1 in
-    step_is (line_at version_at (from (text_in v cs) 1)) (v, from r1 (1 + 1)) _ _ h1
+    let h1 = line_is version_at (spelling cs) 1 1 r1 (line_some (codes "ITFCERT" ∷ codes "1" ∷ []) r1) (version_is r1) in
+    let h2 = line_is areas_at r1 (1 + 1) (length cs) r2 (line_some (codes "AREAS" ∷ decimal (length cs) ∷ []) r2) (areas_is (length cs) r2 f.0) in
+    let h3 = many_is certificate_at certificate_text Fits certificate_read cs (1 + 1 + 1) [] f.1 in
+    let h4 : many_at certificate_at (length cs) (from r2 (1 + 1 + 1)) ≡ Ok (cs, from [] h3.0) = ap (λ (r : List ℕ). many_at certificate_at (length cs) (from r (1 + 1 + 1))) (sym (append-nil r2)) ∙ h3.1 in
+    step_is (line_at version_at (from (spelling cs) 1)) (1, from r1 (1 + 1)) _ _ h1
     (step_is (line_at areas_at (from r1 (1 + 1))) (length cs, from r2 (1 + 1 + 1)) _ _ h2
-    (step_is (many_at (certificate_at v) (length cs) (from r2 (1 + 1 + 1))) (cs, from [] h3.0) _ _ h4 refl))
-
-pub list_is : (bytes : List ℕ) (cs : List Plain) → AreSpelt cs → Spells bytes cs → list_of bytes ≡ Ok cs
-list_is bytes cs f s = ap list_of s.is ∙ text_is s.version cs f.0 (all_fit_in s.version cs f.1 s.said)
+    (step_is (many_at certificate_at (length cs) (from r2 (1 + 1 + 1))) (cs, from [] h3.0) _ _ h4 refl))
 
 -- one text spells one list
-pub one_list : (bytes : List ℕ) (a b : List Plain) → AreSpelt a → AreSpelt b → Spells bytes a → Spells bytes b → a ≡ b
-one_list bytes a b f g s t = ok_is a b (sym (list_is bytes a f s) ∙ list_is bytes b g t)
+pub one_list : (a b : List Plain) → AreSpelt a → AreSpelt b → spelling a ≡ spelling b → a ≡ b
+one_list a b f g e = ok_is a b (sym (list_is a f) ∙ ap list_of e ∙ list_is b g)
 
-pub is_found : {V : Type 0} (views : V → List Plain) (bytes : List ℕ) (r : Result V CertFault) → Gives views r (list_of bytes) → IfOk r (λ v. AreSpelt (views v) × Spells bytes (views v))
+pub is_found : {V : Type 0} (views : V → List Plain) (bytes : List ℕ) (r : Result V CertFault) → Gives views r (list_of bytes) → IfOk r (λ v. AreSpelt (views v) × (bytes ≡ spelling (views v)))
 is_found views bytes (Ok v) given = list_gave bytes (views v) given
 is_found views bytes (Err e) given = tt

@@ -8,8 +8,7 @@ use Rattle.std.proofs.lemmas.List.Concat.{flat_map-cons}
 use Rattle.certificate.specs.declared.notes.HalfNote.{HalfNote}
 use Rattle.certificate.specs.declared.notes.PointPlace.{PointPlace}
 use Rattle.certificate.specs.declared.notes.Certificate.{Certificate}
-use Rattle.certificate.specs.declared.forms.Version.TheVariants.{Two}
-use Rattle.certificate.specs.Spelling.{line, link_word, bent_word, edge_line, title_line, sizes_line}
+use Rattle.certificate.specs.Spelling.{line, link_word, edge_line, title_line, sizes_line}
 use Rattle.certificate.specs.Spelling.{event_line, place_line}
 use Rattle.certificate.specs.Spelling.{certificate_text, spelling, pairs}
 use Rattle.certificate.specs.Spelling.{view, views}
@@ -44,10 +43,9 @@ pub sizes_words : (c : Certificate) {level edges events points : ℕ}
     → edges ≡ length (pairs c.notes.items)
     → events ≡ length c.positions.items
     → points ≡ length c.places.items
-    → codes "SIZES" ++ (next_word (decimal level) ++ (next_word (bent_word c.bent)
-    ++ (next_word (decimal edges) ++ (next_word (decimal events) ++ (next_word (decimal points)
-    ++ codes "\n")))))
-    ≡ sizes_line Two (view c)
+    → codes "SIZES" ++ (next_word (decimal level) ++ (next_word (decimal edges)
+    ++ (next_word (decimal events) ++ (next_word (decimal points) ++ codes "\n"))))
+    ≡ sizes_line (view c)
 sizes_words c l e v p = rw (l, e, v, p) refl
 
 -- the lists, as the code has them
@@ -56,9 +54,9 @@ pub certificate_words : (c : Certificate)
     → positions ≡ c.positions.items
     → notes ≡ c.notes.items
     → places ≡ c.places.items
-    → title_line (view c) ++ (sizes_line Two (view c) ++ (flat_map event_line positions
+    → title_line (view c) ++ (sizes_line (view c) ++ (flat_map event_line positions
     ++ (flat_map edge_line (pairs notes) ++ (flat_map place_line places ++ codes "END\n"))))
-    ≡ certificate_text Two (view c)
+    ≡ certificate_text (view c)
 certificate_words c p n q = rw (p, n, q) refl
 
 pub length_views : (cs : List Certificate) → length (views cs) ≡ length cs
@@ -66,26 +64,26 @@ length_views [] = refl
 length_views (c ∷ cs) = ap suc (length_views cs)
 
 pub flat_views : (cs : List Certificate)
-    → flat_map (certificate_text Two) (views cs) ≡ flat_map (λ c. certificate_text Two (view c)) cs
+    → flat_map certificate_text (views cs) ≡ flat_map (λ c. certificate_text (view c)) cs
 flat_views [] = refl
 flat_views (c ∷ cs) =
-    flat_map-cons (certificate_text Two) (view c) (views cs)
-    ∙ (ap (λ (t : List ℕ). certificate_text Two (view c) ++ t) (flat_views cs)
-    ∙ sym (flat_map-cons (λ c. certificate_text Two (view c)) c cs))
+    flat_map-cons certificate_text (view c) (views cs)
+    ∙ (ap (λ (t : List ℕ). certificate_text (view c) ++ t) (flat_views cs)
+    ∙ sym (flat_map-cons (λ c. certificate_text (view c)) c cs))
 
 -- the lines before the first certificate, and a text behind them
 head_then : (n : ℕ) (t : List ℕ)
-    → codes "ITFCERT 2\n" ++ (codes "AREAS" ++ (next_word (decimal n) ++ (codes "\n" ++ t)))
-    ≡ line (codes "ITFCERT" ∷ codes "2" ∷ []) ++ (line (codes "AREAS" ∷ decimal n ∷ []) ++ t)
+    → codes "ITFCERT 1\n" ++ (codes "AREAS" ++ (next_word (decimal n) ++ (codes "\n" ++ t)))
+    ≡ line (codes "ITFCERT" ∷ codes "1" ∷ []) ++ (line (codes "AREAS" ∷ decimal n ∷ []) ++ t)
 head_then n t =
     let ends = sym (append_assoc (decimal n) (codes "\n") t) in
-    ap (λ (s : List ℕ). codes "ITFCERT 2\nAREAS " ++ s) ends
+    ap (λ (s : List ℕ). codes "ITFCERT 1\nAREAS " ++ s) ends
 
 pub text_words : (cs : List Certificate) (n : ℕ) → n ≡ length cs
-    → codes "ITFCERT 2\n" ++ (codes "AREAS" ++ (next_word (decimal n) ++ (codes "\n"
-    ++ flat_map (certificate_text Two) (views cs)))) ≡ spelling (views cs)
+    → codes "ITFCERT 1\n" ++ (codes "AREAS" ++ (next_word (decimal n) ++ (codes "\n"
+    ++ flat_map certificate_text (views cs)))) ≡ spelling (views cs)
 text_words cs n e =
-    let text = flat_map (certificate_text Two) (views cs) in
+    let text = flat_map certificate_text (views cs) in
     head_then n text
-    ∙ ap (λ (k : ℕ). line (codes "ITFCERT" ∷ codes "2" ∷ [])
+    ∙ ap (λ (k : ℕ). line (codes "ITFCERT" ∷ codes "1" ∷ [])
     ++ (line (codes "AREAS" ∷ decimal k ∷ []) ++ text)) (e ∙ sym (length_views cs))

@@ -11,9 +11,6 @@ use Rattle.certificate.specs.declared.notes.HalfNote.{HalfNote}
 use Rattle.certificate.specs.declared.notes.PointPlace.{PointPlace}
 use Rattle.certificate.specs.declared.notes.PointPlace.TheVariants.{Cell, Tube}
 use Rattle.certificate.specs.declared.forms.Counts.{Counts}
-use Rattle.certificate.specs.declared.forms.Sizes.{Sizes}
-use Rattle.certificate.specs.declared.forms.Version.{Version}
-use Rattle.certificate.specs.declared.forms.Version.TheVariants.{One, Two}
 use Rattle.certificate.specs.Spelling.{is_name_byte}
 
 infixl 10 ◌>>=◌
@@ -178,50 +175,35 @@ counts_of edges events points = do
   p ← points
   Some (record { edges = e; events = v; points = p })
 
--- 1 for the bent drawing, 0 for the drawing itself. Version 1 has no word for it, and is of the
--- drawing itself
-abbrev pub bent_at : Version → List ℕ → Line ℕ
-bent_at One bytes = Some (Some 0, bytes)
-bent_at Two bytes = after_word (codes " ") bytes >>= number_at
+-- the level and the counts; no line has a level above 255
+abbrev pub if_level : Option ℕ → Option Counts → List ℕ → Line (ℕ × Counts)
+if_level None counts bytes = Some (None, bytes)
+if_level (Some level) None bytes = Some (None, bytes)
+if_level (Some level) (Some counts) bytes =
+    cond (nat_lt level 256) (Some (Some (level, counts), bytes)) None
 
--- no line has a level above 255, or anything but 0 and 1 for whether it is of the bent drawing
-abbrev pub are_sizes : ℕ → ℕ → Bool
-are_sizes level bent = nat_lt level 256 && nat_lt bent 2
-
--- the sizes, where each of them is spelt right
-abbrev pub if_sizes : Option ℕ → Option ℕ → Option Counts → List ℕ → Line Sizes
-if_sizes None bent counts bytes = Some (None, bytes)
-if_sizes (Some level) None counts bytes = Some (None, bytes)
-if_sizes (Some level) (Some bent) None bytes = Some (None, bytes)
-if_sizes (Some level) (Some bent) (Some counts) bytes =
-    cond (are_sizes level bent)
-    (Some (Some (record { level = level; bent = nat_eq bent 1; counts = counts }), bytes)) None
-
--- the line of the level, of whether it is of the bent drawing, and of the counts
-unfoldable pub sizes_at : Version → List ℕ → Line Sizes
-sizes_at version bytes = do
+-- the line of the level and the counts
+unfoldable pub sizes_at : List ℕ → Line (ℕ × Counts)
+sizes_at bytes = do
   a ← after_word (codes "SIZES ") bytes
   level ← number_at a
-  bent ← bent_at version level.1
-  b ← after_word (codes " ") bent.1
+  b ← after_word (codes " ") level.1
   edges ← number_at b
   c ← after_word (codes " ") edges.1
   events ← number_at c
   d ← after_word (codes " ") events.1
   points ← number_at d
   e ← after_word (codes "\n") points.1
-  if_sizes level.0 bent.0 (counts_of edges.0 events.0 points.0) e
+  if_level level.0 (counts_of edges.0 events.0 points.0) e
 
--- no line has a version but 1 and 2
-abbrev pub if_known : Option ℕ → List ℕ → Line Version
-if_known None bytes = Some (None, bytes)
-if_known (Some version) bytes =
-    cond (nat_eq version 1) (Some (Some One, bytes))
-    (cond (nat_eq version 2) (Some (Some Two, bytes)) None)
+-- no line has a version but 1
+abbrev pub if_first : Option ℕ → List ℕ → Line ℕ
+if_first None bytes = Some (None, bytes)
+if_first (Some version) bytes = cond (nat_eq version 1) (Some (Some version, bytes)) None
 
 -- the line of the version
-unfoldable pub version_at : List ℕ → Line Version
-version_at bytes = numbered_at (codes "ITFCERT ") bytes >>= λ n. if_known n.0 n.1
+unfoldable pub version_at : List ℕ → Line ℕ
+version_at bytes = numbered_at (codes "ITFCERT ") bytes >>= λ n. if_first n.0 n.1
 
 -- the line of the number of certificates
 abbrev pub areas_at : List ℕ → Line ℕ

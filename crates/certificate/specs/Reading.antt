@@ -3,8 +3,6 @@ use Rattle.std.specs.Prelude.{◌≡◌, ℕ, zero, suc, ◌+◌, cond, nat_eq, 
 use Rattle.std.specs.Prelude.{Some, None, Result, Ok, Err, ⊤}
 use Rattle.certificate.specs.declared.notes.HalfNote.{HalfNote}
 use Rattle.certificate.specs.declared.notes.PointPlace.{PointPlace}
-use Rattle.certificate.specs.declared.forms.Sizes.{Sizes}
-use Rattle.certificate.specs.declared.forms.Version.{Version}
 use Rattle.certificate.specs.declared.fault.CertFault.{CertFault}
 use Rattle.certificate.specs.declared.fault.CertFault.TheVariants as faults
 use Rattle.certificate.specs.Spelling.{Plain}
@@ -51,29 +49,28 @@ many_at one (suc n) text = do
   others ← many_at one n first.1
   Ok (first.0 ∷ others.0, others.1)
 
-abbrev pub plain : Title → Sizes → List ℕ → List (HalfNote × HalfNote) → List PointPlace → Plain
-plain title sizes positions edges places =
+abbrev pub plain : Title → ℕ → List ℕ → List (HalfNote × HalfNote) → List PointPlace → Plain
+plain title level positions edges places =
     record {
       topic = title.topic;
       table = title.table;
       attribute = title.attribute;
-      level = sizes.level;
-      bent = sizes.bent;
+      level = level;
       positions = positions;
       edges = edges;
       places = places;
     }
 
 -- the lines of a certificate
-unfoldable pub certificate_at : Version → Text → Lines Plain
-certificate_at version text = do
+unfoldable pub certificate_at : Text → Lines Plain
+certificate_at text = do
   title ← line_at title_at text
-  sizes ← line_at (sizes_at version) title.1
-  positions ← many_at (line_at event_at) sizes.0.counts.events sizes.1
-  edges ← many_at (line_at edge_at) sizes.0.counts.edges positions.1
-  places ← many_at (line_at place_at) sizes.0.counts.points edges.1
+  sizes ← line_at sizes_at title.1
+  positions ← many_at (line_at event_at) sizes.0.1.events sizes.1
+  edges ← many_at (line_at edge_at) sizes.0.1.edges positions.1
+  places ← many_at (line_at place_at) sizes.0.1.points edges.1
   end ← line_at end_at places.1
-  Ok (plain title.0 sizes.0 positions.0 edges.0 places.0, end.1)
+  Ok (plain title.0 sizes.0.0 positions.0 edges.0 places.0, end.1)
 
 -- nothing follows the list
 abbrev pub if_ended : List Plain → Text → Result (List Plain) CertFault
@@ -84,7 +81,7 @@ unfoldable pub list_of : List ℕ → Result (List Plain) CertFault
 list_of bytes = do
   version ← line_at version_at (record { rest = bytes; line = 1 })
   areas ← line_at areas_at version.1
-  list ← many_at (certificate_at version.0) areas.0 areas.1
+  list ← many_at certificate_at areas.0 areas.1
   if_ended list.0 list.1
 
 -- what a function returned, seen by view, is what is there, unless memory ran out

@@ -9,18 +9,14 @@ use Rattle.certificate.specs.declared.notes.HalfNote.{HalfNote}
 use Rattle.certificate.specs.declared.notes.PointPlace.{PointPlace}
 use Rattle.certificate.specs.declared.notes.PointPlace.TheVariants.{Cell, Tube}
 use Rattle.certificate.specs.declared.notes.Certificate.{Certificate}
-use Rattle.certificate.specs.declared.forms.Version.{Version}
-use Rattle.certificate.specs.declared.forms.Version.TheVariants.{One, Two}
 
--- a certificate without where it lies in memory: its names, its level, whether it is of the bent
--- drawing, the position of each event, the notes below and above each edge, and the place of each
--- point
+-- a certificate without where it lies in memory: its names, its level, the position of each event,
+-- the notes below and above each edge, and the place of each point
 pub record Plain : Type 0 where
   pub topic : List ℕ
   pub table : List ℕ
   pub attribute : List ℕ
   pub level : ℕ
-  pub bent : Bool
   pub positions : List ℕ
   pub edges : List (HalfNote × HalfNote)
   pub places : List PointPlace
@@ -63,55 +59,26 @@ place_line (Tube curve inside) =
 abbrev pub title_line : Plain → List ℕ
 title_line c = line (codes "AREA" ∷ c.topic ∷ c.table ∷ c.attribute ∷ [])
 
--- 1 for the bent drawing, 0 for the drawing itself
-abbrev pub bent_word : Bool → List ℕ
-bent_word true = codes "1"
-bent_word false = codes "0"
-
--- the line of the level, in version 2 of whether it is of the bent drawing, and of how many edges,
--- events and points there are
-abbrev pub sizes_line : Version → Plain → List ℕ
-sizes_line One c =
+-- the line of the level and of how many edges, events and points there are
+abbrev pub sizes_line : Plain → List ℕ
+sizes_line c =
     line (codes "SIZES" ∷ decimal c.level ∷ decimal (length c.edges) ∷ decimal (length c.positions)
     ∷ decimal (length c.places) ∷ [])
-sizes_line Two c =
-    line (codes "SIZES" ∷ decimal c.level ∷ bent_word c.bent ∷ decimal (length c.edges)
-    ∷ decimal (length c.positions) ∷ decimal (length c.places) ∷ [])
 
 -- the text of a certificate
-abbrev pub certificate_text : Version → Plain → List ℕ
-certificate_text v c =
+abbrev pub certificate_text : Plain → List ℕ
+certificate_text c =
     title_line c
-    ++ (sizes_line v c
+    ++ (sizes_line c
     ++ (flat_map event_line c.positions
     ++ (flat_map edge_line c.edges
     ++ (flat_map place_line c.places ++ line (codes "END" ∷ [])))))
 
--- the word of a version
-abbrev pub version_word : Version → List ℕ
-version_word One = codes "1"
-version_word Two = codes "2"
-
--- the text of the list in a version
-abbrev pub text_in : Version → List Plain → List ℕ
-text_in v cs =
-    line (codes "ITFCERT" ∷ version_word v ∷ [])
-    ++ (line (codes "AREAS" ∷ decimal (length cs) ∷ []) ++ flat_map (certificate_text v) cs)
-
--- the text of the list as it is written: version 2
+-- the text of the list
 abbrev pub spelling : List Plain → List ℕ
-spelling cs = text_in Two cs
-
--- what a version can say: version 1 has no word for the bent drawing
-abbrev pub CanSay : Version → Bool → Type 0
-CanSay One bent = bent ≡ false
-CanSay Two bent = ⊤
-
--- the bytes are the text of the list in a version that can say it
-pub record Spells (bytes : List ℕ) (cs : List Plain) : Type 0 where
-  pub version : Version
-  pub said : AllByRecursion (λ c. CanSay version c.bent) cs
-  pub is : bytes ≡ text_in version cs
+spelling cs =
+    line (codes "ITFCERT" ∷ codes "1" ∷ [])
+    ++ (line (codes "AREAS" ∷ decimal (length cs) ∷ []) ++ flat_map certificate_text cs)
 
 -- what a name may hold: neither blank nor LF
 abbrev pub is_name_byte : ℕ → Bool
@@ -190,7 +157,6 @@ view c =
       table = c.table;
       attribute = c.attribute;
       level = c.level;
-      bent = c.bent;
       positions = c.positions.items;
       edges = pairs c.notes.items;
       places = c.places.items;

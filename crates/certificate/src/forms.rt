@@ -4,22 +4,12 @@ ghost use Rattle.std.specs.Prelude.{◌≡◌, ◌<◌, ◌≤◌, length, IfSom
 ghost use Rattle.certificate.specs.Reading.{Finds};
 ghost use Rattle.certificate.specs.Views.{found_view};
 ghost use Rattle.certificate.specs.Views.{title_line_view};
-ghost use Rattle.certificate.specs.Parts.{version_at, areas_at, title_at, counts_of, bent_at};
-ghost use Rattle.certificate.specs.Parts.{are_sizes, if_sizes, sizes_at, numbered_at, event_at};
-ghost use Rattle.certificate.specs.Parts.{both_notes, edge_at, tube_at, cell_at, place_at, end_at};
-ghost use Rattle.certificate.specs.Parts.{if_known};
+ghost use Rattle.certificate.specs.Parts.{version_at, areas_at, title_at, counts_of, if_level};
+ghost use Rattle.certificate.specs.Parts.{sizes_at, numbered_at, event_at, both_notes, edge_at};
+ghost use Rattle.certificate.specs.Parts.{tube_at, cell_at, place_at, end_at, if_first};
 
 use crate::notes::{HalfNote, PointPlace};
 use crate::parts::{Spelt, after_word, half_at, name_at, number_at, side_at};
-
-/// A version of the text.
-#[derive(Clone, Copy)]
-pub enum Version {
-    /// It has no word for the bent drawing.
-    One,
-    /// It has one. This is the version that is written.
-    Two,
-}
 
 /// How many lines of each kind a certificate has.
 #[derive(Clone, Copy)]
@@ -27,14 +17,6 @@ pub struct Counts {
     pub edges: u32,
     pub events: u32,
     pub points: u32,
-}
-
-/// What stands before the lines of a certificate, besides its names.
-#[derive(Clone, Copy)]
-pub struct Sizes {
-    pub level: u8,
-    pub bent: bool,
-    pub counts: Counts,
 }
 
 /// The names of a certificate.
@@ -57,27 +39,26 @@ fn numbered_at<'a>(bytes: &'a [u8], word: &[u8]) -> Spelt<'a, u32>
     Some((number, rest))
 }
 
-// Any version other than 1 and 2 is a malformed line.
-fn if_known(version: Option<u32>, rest: &[u8]) -> Spelt<'_, Version>
-    ensures value { Finds found_view result (if_known version rest.now) }
+// Any version other than 1 is a malformed line.
+fn if_first(version: Option<u32>, rest: &[u8]) -> Spelt<'_, u32>
+    ensures value { Finds found_view result (if_first version rest.now) }
     ensures shorter { IfSome result (λ line. length line.1.now ≤ length rest.now) }
 {
     match version {
         None => Some((None, rest)),
-        Some(1) => Some((Some(Version::One), rest)),
-        Some(2) => Some((Some(Version::Two), rest)),
+        Some(1) => Some((Some(1), rest)),
         Some(_) => None,
     }
 }
 
 /// The line of the version.
 #[tactic(auto, unfolding(crate::specs::Parts::version_at))]
-pub fn version_at(bytes: &[u8]) -> Spelt<'_, Version>
+pub fn version_at(bytes: &[u8]) -> Spelt<'_, u32>
     ensures value { Finds found_view result (version_at bytes.now) }
     ensures shorter { IfSome result (λ line. length line.1.now < length bytes.now) }
 {
     let (version, rest) = numbered_at(bytes, b"ITFCERT ")?;
-    if_known(version, rest)
+    if_first(version, rest)
 }
 
 /// The line of the number of certificates.
@@ -117,38 +98,15 @@ fn counts_of(edges: Option<u32>, events: Option<u32>, points: Option<u32>) -> Op
     })
 }
 
-// The number that says whether a certificate is of the bent drawing: in version 1 there is none,
-// and it is not.
-fn bent_at(bytes: &[u8], version: Version) -> Spelt<'_, u32>
-    ensures value { Finds found_view result (bent_at version bytes.now) }
-    ensures shorter { IfSome result (λ line. length line.1.now ≤ length bytes.now) }
-{
-    match version {
-        Version::One => Some((Some(0), bytes)),
-        Version::Two => number_at(after_word(bytes, b" ")?),
-    }
-}
-
-// A level above 255 makes a malformed line, and so does any number but 0 and 1 that says whether
-// the certificate is of the bent drawing.
-fn if_sizes(
-    level: Option<u32>,
-    bent: Option<u32>,
-    counts: Option<Counts>,
-    rest: &[u8],
-) -> Spelt<'_, Sizes>
-    ensures value { Finds found_view result (if_sizes level bent counts rest.now) }
+// A level above 255 is a malformed line.
+fn if_level(level: Option<u32>, counts: Option<Counts>, rest: &[u8]) -> Spelt<'_, (u8, Counts)>
+    ensures value { Finds found_view result (if_level level counts rest.now) }
     ensures shorter { IfSome result (λ line. length line.1.now ≤ length rest.now) }
 {
-    match (level, bent, counts) {
-        (Some(level), Some(bent), Some(counts)) => {
-            if level < 256 && bent < 2 {
-                let sizes = Sizes {
-                    level: level as u8,
-                    bent: bent == 1,
-                    counts,
-                };
-                Some((Some(sizes), rest))
+    match (level, counts) {
+        (Some(level), Some(counts)) => {
+            if level < 256 {
+                Some((Some((level as u8, counts)), rest))
             } else {
                 None
             }
@@ -157,19 +115,18 @@ fn if_sizes(
     }
 }
 
-/// The line of the level, of whether the certificate is of the bent drawing, and of the counts.
+/// The line of the level and the counts.
 #[tactic(auto, unfolding(crate::specs::Parts::sizes_at))]
-pub fn sizes_at(bytes: &[u8], version: Version) -> Spelt<'_, Sizes>
-    ensures value { Finds found_view result (sizes_at version bytes.now) }
+pub fn sizes_at(bytes: &[u8]) -> Spelt<'_, (u8, Counts)>
+    ensures value { Finds found_view result (sizes_at bytes.now) }
     ensures shorter { IfSome result (λ line. length line.1.now < length bytes.now) }
 {
     let (level, rest) = number_at(after_word(bytes, b"SIZES ")?)?;
-    let (bent, rest) = bent_at(rest, version)?;
     let (edges, rest) = number_at(after_word(rest, b" ")?)?;
     let (events, rest) = number_at(after_word(rest, b" ")?)?;
     let (points, rest) = number_at(after_word(rest, b" ")?)?;
     let rest = after_word(rest, b"\n")?;
-    if_sizes(level, bent, counts_of(edges, events, points), rest)
+    if_level(level, counts_of(edges, events, points), rest)
 }
 
 /// The line of an event.

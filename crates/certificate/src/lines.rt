@@ -2,7 +2,7 @@
 ghost use Rattle.std.specs.Prelude.{◌++◌, codes};
 ghost use Rattle.std.specs.Fmt.{decimal};
 ghost use Rattle.file_pages.specs.Writing.{sight, Wrote};
-ghost use Rattle.certificate.specs.Spelling.{bent_word, link_word, side_word};
+ghost use Rattle.certificate.specs.Spelling.{link_word, side_word};
 ghost use Rattle.certificate.specs.Words.{next_word, note_words};
 
 use crate::notes::{HalfNote, Link};
@@ -99,21 +99,6 @@ pub fn put_side<S: Shelf>(shelf: &mut S, name: &str, page: &mut Page, inside: bo
         put(shelf, name, page, b" I");
     } else {
         put(shelf, name, page, b" O");
-    }
-}
-
-/// Puts a blank and the word that says whether a certificate is of the bent drawing.
-pub fn put_bent<S: Shelf>(shelf: &mut S, name: &str, page: &mut Page, bent: bool)
-    ensures { Wrote name.now (next_word (bent_word bent))
-        (sight (S.held shelf.old) (S.space shelf.old name.now) (S.read_faults shelf.old)
-        (S.write_faults shelf.old)) page.old
-        (sight (S.held shelf.new) (S.space shelf.new name.now) (S.read_faults shelf.new)
-        (S.write_faults shelf.new)) page.new }
-{
-    if bent {
-        put(shelf, name, page, b" 1");
-    } else {
-        put(shelf, name, page, b" 0");
     }
 }
 

@@ -40,8 +40,6 @@ pub struct Certificate {
     pub table: Name,
     pub attribute: Name,
     pub level: u8,
-    /// Whether the notes are of what becomes of the drawing when its forks are bent.
-    pub bent: bool,
     /// For each event how many edges of the live list are below those that end there.
     pub positions: Vec<u32>,
     /// Two notes for each edge: of its half-edge below, then of that above. A last note without a

@@ -4,7 +4,7 @@ ghost use Rattle.std.specs.Prelude.{ℕ};
 ghost use Rattle.std.specs.Option.{option_map};
 ghost use Rattle.std.specs.List.{AllByRecursion};
 ghost use Rattle.certificate.specs.Spelling.{Plain, AreSpelt, ArePaired, pairs, view, views};
-ghost use Rattle.certificate.specs.Spelling.{Spells};
+ghost use Rattle.certificate.specs.Spelling.{spelling};
 ghost use Rattle.certificate.specs.Reading.{Gives, Text, line_of, line_at, many_at, certificate_at};
 ghost use Rattle.certificate.specs.Reading.{list_of};
 ghost use Rattle.certificate.specs.Views.{found_view, text_view};
@@ -13,7 +13,7 @@ ghost use Rattle.certificate.specs.Parts.{title_at, sizes_at, event_at, edge_at,
 
 use crate::fault::CertFault;
 use crate::forms::{
-    Title, Version, areas_at, edge_at, end_at, event_at, place_at, sizes_at, title_at, version_at,
+    Title, areas_at, edge_at, end_at, event_at, place_at, sizes_at, title_at, version_at,
 };
 use crate::notes::{Certificate, HalfNote, PointPlace};
 use crate::parts::Spelt;
@@ -112,28 +112,23 @@ fn names_of(alloc: Global, title: Title<'_>) -> Result<(Name, Name, Name), Memor
 }
 
 #[tactic(auto, unfolding(crate::specs::Reading::certificate_at))]
-fn certificate_at<'a>(
-    alloc: Global,
-    version: Version,
-    text: Text<'a>,
-) -> Result<(Certificate, Text<'a>), CertFault>
+fn certificate_at<'a>(alloc: Global, text: Text<'a>) -> Result<(Certificate, Text<'a>), CertFault>
     ensures value { Gives (λ x. (view x.0, text_view x.1)) result
-        (certificate_at version (text_view text.entry)) }
+        (certificate_at (text_view text.entry)) }
     ensures paired { IfOk result (λ x. ArePaired x.0.notes.items) }
 {
     let (title, text) = line_of(text, title_at(text.rest))?;
-    let (sizes, text) = line_of(text, sizes_at(text.rest, version))?;
-    let (positions, text) = positions_at(alloc, sizes.counts.events, text)?;
-    let (notes, text) = notes_at(alloc, sizes.counts.edges, text)?;
-    let (places, text) = places_at(alloc, sizes.counts.points, text)?;
+    let ((level, counts), text) = line_of(text, sizes_at(text.rest))?;
+    let (positions, text) = positions_at(alloc, counts.events, text)?;
+    let (notes, text) = notes_at(alloc, counts.edges, text)?;
+    let (places, text) = places_at(alloc, counts.points, text)?;
     let (_, text) = line_of(text, end_at(text.rest))?;
     let (topic, table, attribute) = names_of(alloc, title)?;
     let certificate = Certificate {
         topic,
         table,
         attribute,
-        level: sizes.level,
-        bent: sizes.bent,
+        level,
         positions,
         notes,
         places,
@@ -143,18 +138,17 @@ fn certificate_at<'a>(
 
 fn certificates_at<'a>(
     alloc: Global,
-    version: Version,
     count: u32,
     text: Text<'a>,
 ) -> Result<(Vec<Certificate>, Text<'a>), CertFault>
     ensures value { Gives (λ x. (views x.0.items, text_view x.1)) result
-        (many_at (certificate_at version) count (text_view text.entry)) }
+        (many_at certificate_at count (text_view text.entry)) }
     ensures paired { IfOk result (λ x. AllByRecursion (λ c. ArePaired c.notes.items) x.0.items) }
 {
     let mut list = Vec::new(alloc);
     let mut left = text;
     for _ in 0..count {
-        let (certificate, after) = certificate_at(alloc, version, left)?;
+        let (certificate, after) = certificate_at(alloc, left)?;
         list.push(certificate)?;
         left = after;
     }
@@ -172,26 +166,26 @@ fn list_of(alloc: Global, bytes: &[u8]) -> Result<Vec<Certificate>, CertFault>
         rest: bytes,
         line: 1,
     };
-    let (version, text) = line_of(text, version_at(text.rest))?;
+    let (_, text) = line_of(text, version_at(text.rest))?;
     let (count, text) = line_of(text, areas_at(text.rest))?;
-    let (list, text) = certificates_at(alloc, version, count, text)?;
+    let (list, text) = certificates_at(alloc, count, text)?;
     if !text.rest.is_empty() {
         return Err(CertFault::Line(text.line));
     }
     Ok(list)
 }
 
-/// The list of certificates that the bytes spell in version 1 or 2, or the first bad line.
+/// The list of certificates that the bytes spell, or the first bad line.
 pub fn read(alloc: Global, bytes: &[u8]) -> Result<Vec<Certificate>, CertFault>
     requires { length bytes.now ≤ 2 ^ 30 }
     // What is read is spelt so.
     ensures found { IfOk result (λ list. AreSpelt (views list.items) ×
-        Spells bytes.now (views list.items)) }
+        (bytes.now ≡ spelling (views list.items))) }
     // What is spelt so is read, unless memory runs out.
     ensures only { (list : List Plain) → AreSpelt list
-        → Spells bytes.now list → Gives (λ list. views list.items) result (Ok list) }
-    // The line of a fault is the first bad one: the lines before it begin a text of some list, and
-    // those up to it begin none.
+        → bytes.now ≡ spelling list → Gives (λ list. views list.items) result (Ok list) }
+    // The line of a fault is the first bad one: the lines before it begin the spelling of some
+    // list, and those up to it begin none.
     ensures first_bad { IfErr result (IsFault bytes.now) }
     // Which fault it is, by the form of each line.
     ensures exact { Gives (λ list. views list.items) result (list_of bytes.now) }

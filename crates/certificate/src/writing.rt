@@ -8,9 +8,8 @@ ghost use Rattle.ports.specs.Rooms.{HasRoom};
 ghost use Rattle.file_pages.specs.Writing.{sight, Wrote};
 ghost use Rattle.certificate.specs.Spelling.{event_line, edge_line, place_line, pairs, title_line};
 ghost use Rattle.certificate.specs.Spelling.{sizes_line, certificate_text, spelling, view, views};
-ghost use Rattle.certificate.specs.declared.forms.Version.TheVariants.{Two};
 
-use crate::lines::{put_bent, put_end, put_note, put_number, put_side, put_word};
+use crate::lines::{put_end, put_note, put_number, put_side, put_word};
 use crate::notes::{Certificate, HalfNote, PointPlace};
 use file_pages::{Page, finish, put};
 use ports::{Failed, Shelf};
@@ -112,9 +111,9 @@ fn edge_count(notes: &[HalfNote]) -> u64
     (notes.len() / 2) as u64
 }
 
-// The line of the level, of whether it is of the bent drawing, and of the counts.
+// The line of the level and the counts.
 fn put_sizes<S: Shelf>(shelf: &mut S, name: &str, page: &mut Page, certificate: &Certificate)
-    ensures { Wrote name.now (sizes_line Two (view certificate.now))
+    ensures { Wrote name.now (sizes_line (view certificate.now))
         (sight (S.held shelf.old) (S.space shelf.old name.now) (S.read_faults shelf.old)
         (S.write_faults shelf.old)) page.old
         (sight (S.held shelf.new) (S.space shelf.new name.now) (S.read_faults shelf.new)
@@ -122,7 +121,6 @@ fn put_sizes<S: Shelf>(shelf: &mut S, name: &str, page: &mut Page, certificate: 
 {
     put(shelf, name, page, b"SIZES");
     put_number(shelf, name, page, u64::from(certificate.level));
-    put_bent(shelf, name, page, certificate.bent);
     put_number(shelf, name, page, edge_count(&certificate.notes));
     put_number(shelf, name, page, certificate.positions.len() as u64);
     put_number(shelf, name, page, certificate.places.len() as u64);
@@ -184,7 +182,7 @@ fn put_places<S: Shelf>(shelf: &mut S, name: &str, page: &mut Page, places: &[Po
 
 // The lines of a certificate.
 fn put_certificate<S: Shelf>(shelf: &mut S, name: &str, page: &mut Page, certificate: &Certificate)
-    ensures { Wrote name.now (certificate_text Two (view certificate.now))
+    ensures { Wrote name.now (certificate_text (view certificate.now))
         (sight (S.held shelf.old) (S.space shelf.old name.now) (S.read_faults shelf.old)
         (S.write_faults shelf.old)) page.old
         (sight (S.held shelf.new) (S.space shelf.new name.now) (S.read_faults shelf.new)
@@ -200,7 +198,7 @@ fn put_certificate<S: Shelf>(shelf: &mut S, name: &str, page: &mut Page, certifi
 
 // The lines of the certificates.
 fn put_certificates<S: Shelf>(shelf: &mut S, name: &str, page: &mut Page, all: &[Certificate])
-    ensures { Wrote name.now (flat_map (certificate_text Two) (views all.now))
+    ensures { Wrote name.now (flat_map certificate_text (views all.now))
         (sight (S.held shelf.old) (S.space shelf.old name.now) (S.read_faults shelf.old)
         (S.write_faults shelf.old)) page.old
         (sight (S.held shelf.new) (S.space shelf.new name.now) (S.read_faults shelf.new)
@@ -219,17 +217,17 @@ fn put_text<S: Shelf>(shelf: &mut S, name: &str, page: &mut Page, all: &[Certifi
         (sight (S.held shelf.new) (S.space shelf.new name.now) (S.read_faults shelf.new)
         (S.write_faults shelf.new)) page.new }
 {
-    put(shelf, name, page, b"ITFCERT 2\n");
+    put(shelf, name, page, b"ITFCERT 1\n");
     put(shelf, name, page, b"AREAS");
     put_number(shelf, name, page, all.len() as u64);
     put_end(shelf, name, page);
     put_certificates(shelf, name, page, all);
 }
 
-/// Appends the text of the certificates, in version 2, to the file of that name, makes the file if
-/// there is none, and changes no other file. It takes no memory. `read` gives the list back where
-/// it is one that has a spelling: fewer than 2^32 certificates, notes in pairs, names of one or
-/// more bytes without blank and LF, and every count below 2^32.
+/// Appends the text of the certificates to the file of that name, makes the file if there is none,
+/// and changes no other file. It takes no memory. `read` gives the list back where it is one that
+/// has a spelling: fewer than 2^32 certificates, notes in pairs, names of one or more bytes without
+/// blank and LF, and every count below 2^32.
 pub fn write<S: Shelf>(all: &[Certificate], shelf: &mut S, name: &str) -> Result<(), Failed>
     // The file gained exactly the text.
     ensures done { OnOk result (Puts (S.held shelf.old) name.now

@@ -23,8 +23,8 @@ use Rattle.certificate.specs.declared.notes.Link.TheVariants as link
 use Rattle.certificate.specs.declared.notes.PointPlace.{PointPlace}
 use Rattle.certificate.specs.declared.notes.PointPlace.TheVariants as place
 
--- a certificate without its names, and without of which drawing it is: its level, the position of
--- each event, the note of each half-edge by its number, the place of each point
+-- a certificate without its names: its level, the position of each event, the note of each
+-- half-edge by its number, the place of each point
 pub record Claims : Type 0 where
   pub level : ℕ
   pub positions : List ℕ

@@ -25,9 +25,8 @@
 //! - **The laws** (`laws`): what is proved is a partition, and settled at its level; claims that
 //!   give a run with tubes and what certifies it prove; what is broken is not proved; there is one
 //!   first broken rule.
-//! - **Not here.** The names in a certificate are not read. A certificate of the bent drawing is not
-//!   judged against what the drawing becomes: it breaks rule 2 of the drawing itself. This crate
-//!   stands on no sweep, face or search.
+//! - **Not here.** The names in a certificate are not read. This crate stands on no sweep, face or
+//!   search.
 //! - **Degenerate cases.** No curve, no point, upright and equal straights, many in one point,
 //!   points at corners, on lines and on half arcs, half arcs without a tube, a level above 5, links
 //!   to half-edges and places in curves that are not there, and counts that do not fit. From 2^31

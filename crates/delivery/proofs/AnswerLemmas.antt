@@ -1,5 +1,5 @@
 -- The answer to one area, and to one area after the other.
-use Rattle.std.proofs.Common.{◌≡◌, false, ℕ, suc, ◌+◌, ◌<◌, ◌≤◌, ◌^◌, List, [], ◌∷◌, ◌++◌, length, Option, Some, None, refl, sym, ap, ◌∙◌, subst, arith, append-nil, append_assoc, ◌⊎◌, inl, inr}
+use Rattle.std.proofs.Common.{◌≡◌, ℕ, suc, ◌+◌, ◌<◌, ◌≤◌, ◌^◌, List, [], ◌∷◌, ◌++◌, length, Option, Some, None, refl, sym, ap, ◌∙◌, subst, arith, append-nil, append_assoc, ◌⊎◌, inl, inr}
 use Rattle.std.specs.List.{All, AllByRecursion}
 use Rattle.std.proofs.lemmas.List.{length-append}
 use Rattle.std.proofs.lemmas.List.Elements.{All-head, All-tail}
@@ -27,10 +27,9 @@ use Rattle.reports.specs.AreaNames.{HasTitle, topic_name, table_name}
 use Rattle.reports.specs.declared.lines.AreaAnswer.{AreaAnswer}
 
 -- ---- one answer
--- the certificate that a search gives proves the drawing itself, at the least level
-proof_of : (d : Plan) (c : Certificate) → search.IsAnswer d (found.Proved c)
-    → Proves d (claims c) × search.IsLeastLevel d c.level × (c.bent ≡ false)
-proof_of d _ (search.proved c p l n) = (p, (l, n.own))
+-- the certificate that a search gives proves, at the least level
+proof_of : (d : Plan) (c : Certificate) → search.IsAnswer d (found.Proved c) → Proves d (claims c) × search.IsLeastLevel d c.level
+proof_of d _ (search.proved c p l n) = (p, l)
 
 module _ (l : Layout) (a : AreaOf) (d : Plan) (b : Found) (h : search.IsAnswer d b) where
   pub answer_proved : (c e : Certificate) (topic table attribute : List ℕ) → b ≡ found.Proved c → view e ≡ named topic table attribute (view c)
@@ -41,7 +40,6 @@ module _ (l : Layout) (a : AreaOf) (d : Plan) (b : Found) (h : search.IsAnswer d
       proved (view e)
       (record {
         named = record { topic = ap (λ (z : Plain). z.topic) v ∙ t; table = ap (λ (z : Plain). z.table) v ∙ m; attribute = ap (λ (z : Plain). z.attribute) v ∙ n };
-        own = ap (λ (z : Plain). z.bent) v ∙ p.2;
         proves = subst (λ (z : Plain). Proves d (claims_of z)) (sym v) (proved_view d c p.0);
       })
       (subst (search.IsLeastLevel d) level p.1)

@@ -2,19 +2,13 @@
 use Rattle.std.proofs.Common.{◌≡◌, ℕ, zero, suc, ◌<◌, ◌≤◌, Bool, true, false, cond, nat_eq, List, [], ◌∷◌, ◌++◌, length, refl, sym, ap, subst, ◌∙◌, append_assoc, arith}
 use Rattle.std.proofs.lemmas.List.{length-append}
 use Rattle.straight_predicates.proofs.Orders.{by_lt}
-use Rattle.certificate.specs.Spelling.{Spells}
 use Rattle.certificate.specs.FirstBad.{Begin, IsFirstBad, IsTooShort, first_lines, lf_count}
 use Rattle.certificate.proofs.FirstLines.{behind_lines}
 use Rattle.delivery.specs.Verifying.{IsBadLine, bad, missing}
 
--- the front of what begins a text begins it too
+-- the front of what begins a spelling begins it too
 front_begins : (front rest : List ℕ) → Begin (front ++ rest) → Begin front
-front_begins front rest b = record {
-  list = b.list;
-  spelt = b.spelt;
-  rest = rest ++ b.rest;
-  is = subst (λ bytes. Spells bytes b.list) (append_assoc front rest b.rest) b.is;
-}
+front_begins front rest b = record { list = b.list; spelt = b.spelt; rest = rest ++ b.rest; is = b.is ∙ append_assoc front rest b.rest }
 
 -- fewer first lines are the front of more
 fewer_lines : (n m : ℕ) (bytes : List ℕ) → n ≤ m → (rest : List ℕ) × (first_lines m bytes ≡ first_lines n bytes ++ rest)
@@ -39,7 +33,7 @@ few_lf (suc n) (c ∷ bytes) = by_end (nat_eq c 10) refl (few_lf n bytes) (few_l
     by_end true e h k = rw e (omega (arith, h))
     by_end false e h k = rw e k
 
--- a line after the first bad one ends no front of a text
+-- a line after the first bad one ends no front of a spelling
 not_later : (bytes : List ℕ) (n m : ℕ) → n < m → m ≤ lf_count bytes → Begin (first_lines m bytes) → IsFirstBad bytes n → ⊥
 not_later bytes n m l w b f =
     let r = fewer_lines (suc n) m bytes (omega (arith, l)) in
@@ -50,7 +44,7 @@ one_first_bad bytes n m f g =
     by_lt n m (λ (l : n < m). absurd (not_later bytes n m l g.whole g.begin f))
     (λ (l : m ≤ n). by_lt m n (λ (k : m < n). absurd (not_later bytes m n k f.whole f.begin g)) (λ (k : n ≤ m). omega (arith, l, k)))
 
--- where all bytes begin a text no line is bad
+-- where all bytes begin a spelling no line is bad
 short_not_bad : (bytes : List ℕ) (n m : ℕ) → IsFirstBad bytes n → IsTooShort bytes m → ⊥
 short_not_bad bytes n m f s =
     by_lt n (lf_count bytes)

@@ -1,8 +1,7 @@
 -- An accepted check or trial leaves certificates that prove its areas.
 use Rattle.std.proofs.Common.{◌≡◌, ℕ, Bool, true, false, List, [], ◌∷◌, ◌++◌, Option, Some, refl, sym, ap, ◌∙◌, subst}
 use Rattle.ports.specs.Files.{Files}
-use Rattle.certificate.specs.Spelling.{CanSay, Plain, Spells, spelling}
-use Rattle.certificate.specs.declared.forms.Version.TheVariants.{Two}
+use Rattle.certificate.specs.Spelling.{Plain, spelling}
 use Rattle.table_layout.specs.Layouts.{AreaOf, Layout}
 use Rattle.plane.specs.Rule.Plans.{Plan}
 use Rattle.delivery.specs.Causes.{HasOutcome}
@@ -113,14 +112,6 @@ certifies held counted words o new (formed d g j h a) s f c name i w =
     )
 
 -- ---- what is left is verified
-all_said : (cs : List Plain) → AllByRecursion (λ (c : Plain). CanSay Two c.bent) cs
-all_said [] = tt
-all_said (c ∷ cs) = (tt, all_said cs)
-
--- the text that is written spells its list
-own_text : (cs : List Plain) → Spells (spelling cs) cs
-own_text cs = record { version = Two; said = all_said cs; is = refl }
-
 pub verified_again : AreaLaws → (l : Layout) (text : List ℕ) (cs : List Plain) (o : Outcome) → AreCertified l text cs → IsVerified l text (spelling cs) o → o.status ≡ Accepted
 verified_again laws l text cs o a h =
     let v = verifications.proved (levels_of cs) in
@@ -135,7 +126,7 @@ verified_again laws l text cs o a h =
         drawings = a.drawings;
         verification = v;
         drawn = a.drawn;
-        judged = verifying.all_proved cs (record { spelt = a.spelt; spells = own_text cs }) a.proved refl;
+        judged = verifying.all_proved cs (record { spelt = a.spelt; same = refl }) a.proved refl;
         is = refl;
       },
     ) in

@@ -11,13 +11,13 @@ use Rattle.certificate.specs.Spelling.{Plain, view, views}
 use Rattle.certificate.specs.declared.fault.CertFault.{CertFault}
 use Rattle.certificate.specs.declared.fault.CertFault.TheVariants as faults
 use Rattle.certificate.specs.declared.notes.Certificate.{Certificate}
-use Rattle.certificate_checker.specs.Verdicts.{IsBrokenBy, ProvesBy}
+use Rattle.certificate_checker.specs.Verdicts.{IsBroken, Proves}
 use Rattle.plane.specs.Rule.Plans.{Plan, plan}
 use Rattle.plane.specs.declared.drawing.Drawing.{Drawing}
 use Rattle.table_layout.specs.Layouts.{Layout}
 use Rattle.reports.specs.AreaKinds.{plans}
 use Rattle.delivery.specs.AreaCertificates.{claims_of}
-use Rattle.delivery.specs.Verifying.{AreChecked, AreNamed, IsBadLine, IsBrokenAt, IsLineOf, IsProvedAt, IsVerification, AreFiledIn, all_proved, bad, broken, levels_of, missing}
+use Rattle.delivery.specs.Verifying.{AreChecked, AreNamed, IsBadLine, IsBrokenAt, IsLineOf, IsProvedAt, IsVerification, Spells, all_proved, bad, broken, levels_of, missing}
 use Rattle.reports.specs.Verifications.{Verification, proved, not_proved}
 use Rattle.delivery.proofs.Verifications.{certificates_of}
 
@@ -46,10 +46,10 @@ no_list faults.Memory line list q h = absurd q
 
 -- ---- drawings
 module _ (ds : List Drawing) (cs : List Certificate) (k : ℕ) (d : Drawing) (c : Certificate) (v : k < length ds) (e : d ≡ get_or ds k d) (w : k < length cs) (f : c ≡ get_or cs k c) where
-  pub proved_here : ProvesBy (plan d) c.bent (claims_of (view c)) → IsProvedAt (plans ds) (views cs) k
-  proved_here p = record { drawing = plan d; certificate = view c; drawing_there = mapped_there plan ds k d v e; certificate_there = mapped_there view cs k c w f; own = p.own; proves = p.proves }
+  pub proved_here : Proves (plan d) (claims_of (view c)) → IsProvedAt (plans ds) (views cs) k
+  proved_here p = record { drawing = plan d; certificate = view c; drawing_there = mapped_there plan ds k d v e; certificate_there = mapped_there view cs k c w f; proves = p }
 
-  pub broken_here : (rule place : ℕ) → ((j : ℕ) → j < k → IsProvedAt (plans ds) (views cs) j) → IsBrokenBy (plan d) c.bent (claims_of (view c)) rule place → IsBrokenAt (plans ds) (views cs) k rule place
+  pub broken_here : (rule place : ℕ) → ((j : ℕ) → j < k → IsProvedAt (plans ds) (views cs) j) → IsBroken (plan d) (claims_of (view c)) rule place → IsBrokenAt (plans ds) (views cs) k rule place
   broken_here rule place h b = record { before = h; drawing = plan d; certificate = view c; drawing_there = mapped_there plan ds k d v e; certificate_there = mapped_there view cs k c w f; broken = b }
 
 -- what holds before a number and at it
@@ -74,6 +74,6 @@ pub levels_view : (cs : List Certificate) → map (λ (c : Certificate). c.level
 levels_view [] = refl
 levels_view (c ∷ cs) = ap (λ (ns : List ℕ). c.level ∷ ns) (levels_view cs)
 
-pub checked_list : (l : Layout) (ds : List Plan) (cs : List Plain) (v : Verification) → length ds ≡ length l.areas → AreNamed l cs → AreChecked ds cs v → (text : List ℕ) → AreFiledIn text cs → IsVerification l ds text v
+pub checked_list : (l : Layout) (ds : List Plan) (cs : List Plain) (v : Verification) → length ds ≡ length l.areas → AreNamed l cs → AreChecked ds cs v → (text : List ℕ) → Spells text cs → IsVerification l ds text v
 checked_list l ds cs (proved levels) m n h text s = all_proved cs s (certificates_of l ds cs m n h.1) (ap proved h.0)
 checked_list l ds cs (not_proved k rule place) m n h text s = broken cs k rule place s n h refl

@@ -1,11 +1,11 @@
 -- What a filed text of certificates proves of the drawings of a layout's areas.
-use Rattle.std.specs.Prelude.{◌≡◌, ◌⊎◌, ℕ, suc, ◌<◌, false, List, length, map, Option, Some, None}
+use Rattle.std.specs.Prelude.{◌≡◌, ◌⊎◌, ℕ, suc, ◌<◌, List, length, map, Option, Some, None}
 use Rattle.std.specs.Prelude.{slice_get}
 use Rattle.certificate.specs.FirstBad.{IsFirstBad, IsTooShort}
-use Rattle.certificate.specs.Spelling.{Plain, AreSpelt, Spells}
+use Rattle.certificate.specs.Spelling.{Plain, AreSpelt, spelling}
 use Rattle.certificate.specs.declared.fault.CertFault.{CertFault}
 use Rattle.certificate.specs.declared.fault.CertFault.TheVariants as faults
-use Rattle.certificate_checker.specs.Verdicts.{IsBrokenBy, Proves}
+use Rattle.certificate_checker.specs.Verdicts.{IsBroken, Proves}
 use Rattle.plane.specs.Rule.Plans.{Plan}
 use Rattle.table_layout.specs.Layouts.{AreaOf, Layout}
 use Rattle.reports.specs.Verifications.{Verification, proved, not_proved}
@@ -13,9 +13,9 @@ use Rattle.delivery.specs.AreaCertificates.{AreCertificatesOf, IsNamedFor, claim
 
 -- ---- rule 0: the text spells a list of certificates
 -- the text spells these certificates
-pub record AreFiledIn (text : List ℕ) (cs : List Plain) : Type 0 where
+pub record Spells (text : List ℕ) (cs : List Plain) : Type 0 where
   pub spelt : AreSpelt cs
-  pub spells : Spells text cs
+  pub same : text ≡ spelling cs
 
 -- the first line, counted from 1, that is bad or missing
 pub data IsBadLine (text : List ℕ) (line : ℕ) : Type 0 where
@@ -44,13 +44,12 @@ pub record IsMisnamedAt (l : Layout) (cs : List Plain) (k : ℕ) : Type 0 where
   pub misnamed : IsNamedAt l cs k → ⊥
 
 -- ---- the other rules: each certificate proves the drawing of its area
--- certificate k is of the drawing of area k itself, and proves it
+-- certificate k proves the drawing of area k
 pub record IsProvedAt (ds : List Plan) (cs : List Plain) (k : ℕ) : Type 0 where
   pub drawing : Plan
   pub certificate : Plain
   pub drawing_there : slice_get ds k ≡ Some drawing
   pub certificate_there : slice_get cs k ≡ Some certificate
-  pub own : certificate.bent ≡ false
   pub proves : Proves drawing (claims_of certificate)
 
 -- the certificates before k prove their drawings, and the rule is the first that certificate k
@@ -61,7 +60,7 @@ pub record IsBrokenAt (ds : List Plan) (cs : List Plain) (k rule place : ℕ) : 
   pub certificate : Plain
   pub drawing_there : slice_get ds k ≡ Some drawing
   pub certificate_there : slice_get cs k ≡ Some certificate
-  pub broken : IsBrokenBy drawing certificate.bent (claims_of certificate) rule place
+  pub broken : IsBroken drawing (claims_of certificate) rule place
 
 -- ---- all rules, in their order
 -- the levels of certificates
@@ -71,13 +70,13 @@ levels_of cs = map (λ c. c.level) cs
 -- what the text proves of the areas of the layout, whose drawings these are
 pub data IsVerification (l : Layout) (ds : List Plan) (text : List ℕ)
     (v : Verification) : Type 0 where
-  unspelt : (line : ℕ) → ((cs : List Plain) → AreFiledIn text cs → ⊥) → IsBadLine text line
+  unspelt : (line : ℕ) → ((cs : List Plain) → Spells text cs → ⊥) → IsBadLine text line
       → v ≡ not_proved 0 0 line → IsVerification l ds text v
-  misnamed : (cs : List Plain) (k : ℕ) → AreFiledIn text cs → IsMisnamedAt l cs k → v ≡ not_proved k 1 k
+  misnamed : (cs : List Plain) (k : ℕ) → Spells text cs → IsMisnamedAt l cs k → v ≡ not_proved k 1 k
       → IsVerification l ds text v
-  broken : (cs : List Plain) (k rule place : ℕ) → AreFiledIn text cs → AreNamed l cs
+  broken : (cs : List Plain) (k rule place : ℕ) → Spells text cs → AreNamed l cs
       → IsBrokenAt ds cs k rule place → v ≡ not_proved k rule place → IsVerification l ds text v
-  all_proved : (cs : List Plain) → AreFiledIn text cs → AreCertificatesOf l l.areas ds cs
+  all_proved : (cs : List Plain) → Spells text cs → AreCertificatesOf l l.areas ds cs
       → v ≡ proved (levels_of cs) → IsVerification l ds text v
 
 -- ---- what the parts of a verification answer

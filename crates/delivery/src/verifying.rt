@@ -2,14 +2,14 @@
 ghost use Rattle.std.specs.Prelude.{◌≡◌, ◌↔◌, ℕ, List, ◌<◌, ◌≤◌, ◌^◌, length, IfOk, IsTrue};
 ghost use Rattle.std.specs.List.{AllByRecursion};
 ghost use Rattle.certificate.specs.Spelling.{ArePaired, view, views};
-ghost use Rattle.certificate_checker.specs.Verdicts.{IsVerdictBy};
+ghost use Rattle.certificate_checker.specs.Verdicts.{IsVerdict};
 ghost use Rattle.plane.specs.Rule.Plans.{plan};
 ghost use Rattle.table_layout.specs.Values.{area_view, layout_view};
 ghost use Rattle.reports.specs.AreaKinds.{plans};
 ghost use Rattle.delivery.specs.AreaCertificates.{IsNamedFor, claims_of};
 ghost use Rattle.reports.specs.VerificationViews.{verification_of};
 ghost use Rattle.delivery.specs.Verifying.{AreChecked, IsFirstMisnamed, IsLineOf, IsNamedAt};
-ghost use Rattle.delivery.specs.Verifying.{AreFiledIn, IsVerification};
+ghost use Rattle.delivery.specs.Verifying.{IsVerification, Spells};
 
 use certificate::{CertFault, Certificate, read};
 use certificate_checker::{Verdict, check};
@@ -71,8 +71,7 @@ fn first_misnamed(layout: &Layout, certificates: &[Certificate]) -> Option<u32>
 // The verdict on a certificate, by its text.
 fn check_one(alloc: Global, drawing: &Drawing, certificate: &Certificate) -> Result<Verdict, Memory>
     requires { ArePaired certificate.now.notes.items }
-    ensures { IfOk result (IsVerdictBy (plan drawing.now) certificate.now.bent
-        (claims_of (view certificate.now))) }
+    ensures { IfOk result (IsVerdict (plan drawing.now) (claims_of (view certificate.now))) }
 {
     check(alloc, drawing, certificate)
 }
@@ -115,7 +114,7 @@ fn verify_list(
     requires drawn { length drawings.now ≡ length layout.now.areas.items }
     requires few { length certificates.now < 2 ^ 32 }
     requires paired { AllByRecursion (λ c. ArePaired c.notes.items) certificates.now }
-    ensures { IfOk result (λ v. (text : List ℕ) → AreFiledIn text (views certificates.now)
+    ensures { IfOk result (λ v. (text : List ℕ) → Spells text (views certificates.now)
         → IsVerification (layout_view layout.now) (plans drawings.now) text (verification_of v)) }
 {
     match first_misnamed(layout, certificates) {

@@ -12,6 +12,13 @@ true_le a b t = record { le = by (le_z a b) t }
     by true e = tt
     by false e = clash e
 
+-- ---- both
+pub both_of : (A B : Type 0) (r : Bool) → (IsTrue r ↔ B) → A → IsTrue r ↔ (A × B)
+both_of A B r h a = (λ t. (a, h.0 t), λ p. h.1 p.1)
+
+pub none_of : (A B : Type 0) (r : Bool) → (IsTrue r ↔ A) → r ≡ false → IsTrue r ↔ (A × B)
+none_of A B r h f = (λ t. clash (sym f ∙ t), λ p. h.1 p.0)
+
 -- ---- one of them
 pub first_of : (A B : Type 0) (r : Bool) → (IsTrue r ↔ A) → r ≡ true → IsTrue r ↔ (A ⊎ B)
 first_of A B r h t = (λ s. inl (h.0 s), λ p. t)

@@ -1,5 +1,6 @@
 pub mod Choices
 pub mod Answering
+pub mod OnStraights
 pub mod OnCircles
 pub mod ArcPairs
 pub mod Reaches

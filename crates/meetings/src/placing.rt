@@ -1,15 +1,16 @@
 // Points on curves.
-ghost use Rattle.std.specs.Prelude.{◌≡◌, ◌↔◌, pos, ◌≤ℤ◌, IsTrue};
+ghost use Rattle.std.specs.Prelude.{◌≡◌, ◌↔◌, pos, ◌*ℤ◌, ◌-ℤ◌, ◌≤ℤ◌, IsTrue};
 ghost use Rattle.plane.specs.Rule.Curves.{arc};
 ghost use Rattle.plane.specs.Rule.HalfArcs.{IsOnHalfArc, HasSide, bow};
 ghost use Rattle.plane.specs.Rule.Places.{point};
+ghost use Rattle.plane.specs.Rule.Straights.{IsOnStraight};
 ghost use Rattle.arc_predicates.specs.Circles.{AreClose, half_arc};
 ghost use Rattle.meetings.specs.CurvePairs.{IsJudgedOn, IsOnCircle};
 ghost use Rattle.meetings.specs.PlacedCurves.{IsPlacedWith};
 
 use arc_predicates::{Circle, Side, circle, is_away, side};
 use plane::{Curve, CurveKind, Point};
-use straight_predicates::is_on_straight;
+use straight_predicates::{Turn, turn};
 
 /// Whether the point is on the curve and, where that is a half arc, has a side for it: of a half
 /// arc that cannot be judged no point is. It takes no memory.
@@ -21,6 +22,32 @@ pub fn is_on(curve: &Curve, p: Point) -> bool
         CurveKind::Straight => is_on_straight(curve.from, curve.to, p),
         CurveKind::HalfArc => is_on_half_arc(curve, p),
     }
+}
+
+fn is_on_straight(a: Point, b: Point, p: Point) -> bool
+    requires ends { AreClose a b }
+    requires point { AreClose a p }
+    ensures { IsTrue result ↔ IsOnStraight (point a) (point b) (point p) }
+{
+    match turn(a, b, p) {
+        Turn::Straight => is_in_box(a, b, p),
+        Turn::Left => false,
+        Turn::Right => false,
+    }
+}
+
+/// Whether the point is from `a` to `b` in each coordinate.
+fn is_in_box(a: Point, b: Point, p: Point) -> bool
+    ensures { IsTrue result ↔ ((((a.x -ℤ p.x) *ℤ (b.x -ℤ p.x)) ≤ℤ pos 0)
+        × (((a.y -ℤ p.y) *ℤ (b.y -ℤ p.y)) ≤ℤ pos 0)) }
+{
+    is_between(a.x, b.x, p.x) && is_between(a.y, b.y, p.y)
+}
+
+fn is_between(a: i64, b: i64, z: i64) -> bool
+    ensures { IsTrue result ↔ (((a -ℤ z) *ℤ (b -ℤ z)) ≤ℤ pos 0) }
+{
+    if a <= z { z <= b || z == a } else { b <= z }
 }
 
 fn is_on_half_arc(curve: &Curve, p: Point) -> bool

@@ -1,6 +1,5 @@
 -- Numbered boxes, and pairs of them that are near.
-use Rattle.std.specs.Prelude.{◌≡◌, ◌⊎◌, ℕ, ◌<◌, ◌≤◌, ℤ, pos, ◌≤ℤ◌, Bool, true, false, List, length}
-use Rattle.std.specs.Prelude.{slice_index_or}
+use Rattle.std.specs.Prelude.{◌≡◌, ◌⊎◌, ℕ, ℤ, pos, ◌≤ℤ◌, Bool, true, false, List, slice_index_or}
 use Rattle.plane.specs.Forms.Boxes.{Box, InBox}
 use Rattle.plane.specs.Rule.Places.{Vector, Place}
 use Rattle.near_pairs.specs.declared.reaches.Reach.{Reach}
@@ -17,11 +16,6 @@ reach_of boxes i = slice_index_or boxes i no_reach
 
 abbrev pub mark_of : List Bool → ℕ → Bool
 mark_of marked i = slice_index_or marked i false
-
--- Of so many numbers those from the first on are marked.
-pub record AreMarkedFrom (first count : ℕ) (marks : List Bool) : Type 0 where
-  pub size : length marks ≡ count
-  pub marked : (n : ℕ) → first ≤ n → n < count → mark_of marks n ≡ true
 
 -- Some number is from a to b and from c to d.
 abbrev pub ShareANumber : ℤ → ℤ → ℤ → ℤ → Type 0

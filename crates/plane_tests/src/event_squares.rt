@@ -15,9 +15,8 @@ const NEXT: [u32; 10] = [5, 9, 1, 6, 3, 7, 4, 8, 0, 2];
 
 // The corners are the events 0 (0 0), 1 (0 4), 2 (4 0) and 3 (4 4). The edges are 0 below, 1 the
 // chord from 0 to 3, 2 on the left, 3 above and 4 on the right.
-pub fn square(alloc: Global) -> Result<Mesh, Memory>
-    ensures size { IfOk result (λ mesh. size mesh ≡ 10) }
-    ensures vertices { IfOk result (λ mesh. mesh.vertices ≡ 4) }
+fn square(alloc: Global) -> Result<Mesh, Memory>
+    ensures { IfOk result (λ mesh. size mesh ≡ 10) }
 {
     let mut mesh = mesh_of(alloc, 4, &[0, 0, 0, 1, 2], &[2, 3, 1, 3, 3])?;
     let mut fan = [HalfEdgeId(0); 3];

@@ -1,6 +1,6 @@
 -- The place of a point in a list of edges, found chunk by chunk.
-use Rattle.std.proofs.Common.{◌≡◌, ℕ, zero, suc, ◌+◌, ◌-◌, ◌<◌, ◌≤◌, ℤ, pos, ◌<ℤ◌, ◌≤ℤ◌, List, [], ◌++◌, length, take, drop, get_or, refl, arith, ap, sym, ◌∙◌, subst, append-nil}
-use Rattle.std.proofs.lemmas.List.{take_all, drop_all, drop-drop, get_or_read, length-drop, take-append-le}
+use Rattle.std.proofs.Common.{◌≡◌, ℕ, zero, suc, ◌+◌, ◌-◌, ◌<◌, ◌≤◌, ◌^◌, ℤ, pos, ◌<ℤ◌, ◌≤ℤ◌, List, [], ◌++◌, length, take, drop, get_or, refl, arith, ap, sym, ◌∙◌, subst, append-nil}
+use Rattle.std.proofs.lemmas.List.{take_all, take-append-drop, drop_all, drop-append-le, drop-drop, drop_more, get_or_read, length-drop, take-append-le, length-append}
 use Rattle.std.proofs.lemmas.Int.{ints}
 use Rattle.std.proofs.Math.Seq.{take-add}
 use Rattle.straight_predicates.specs.EdgeLists.{AreBelow}

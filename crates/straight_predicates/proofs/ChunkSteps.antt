@@ -1,6 +1,9 @@
 -- A list in which values are taken out or put in, some at a time.
-use Rattle.std.proofs.Common.{◌≡◌, ℕ, ◌+◌, ◌-◌, ◌≤◌, List, ◌++◌, length, take, drop, arith, ap, sym, ◌∙◌, append_assoc}
-use Rattle.std.proofs.lemmas.List.{take-append-drop, drop-drop, length-append, length-drop, length-take-le, take_at, drop_at}
+use Rattle.std.proofs.Common.{◌≡◌, ℕ, suc, ◌+◌, ◌-◌, ◌<◌, ◌≤◌, List, [], ◌++◌, length, take, drop, get_or, arith, ap, sym, ◌∙◌, append_assoc}
+use Rattle.std.proofs.lemmas.List.{take-append-drop, drop-drop, drop-take, length-append, length-drop, length-take-le, take_at, drop_at}
+use Rattle.std.proofs.Math.Seq.{drop-append-add}
+use Rattle.straight_predicates.specs.Chunks.{IsAt, joined}
+use Rattle.straight_predicates.proofs.Joined.{size_more, size_split}
 
 module _ {T : Type 0} (old : List T) (from count : ℕ) (w : from + count ≤ length old) where
   -- what is left when `left` of the values are still to be taken out

@@ -1,7 +1,7 @@
 -- A list in chunks, of which one is changed.
-use Rattle.std.proofs.Common.{◌≡◌, ℕ, suc, ◌+◌, ◌-◌, ◌^◌, ◌<◌, ◌≤◌, min, List, [], ◌∷◌, ◌++◌, length, take, drop, get_or, set, refl, arith, ap, sym, ◌∙◌, subst, append_assoc, append-nil}
+use Rattle.std.proofs.Common.{◌≡◌, ℕ, zero, suc, ◌+◌, ◌-◌, ◌^◌, ◌<◌, ◌≤◌, min, List, [], ◌∷◌, ◌++◌, length, take, drop, get_or, set, refl, arith, ap, sym, ◌∙◌, subst, append_assoc, append-nil}
 use Rattle.std.specs.List.{insert}
-use Rattle.std.proofs.lemmas.List.{drop_all, length-drop, get_or-append-add, get_or_append_left, get_or_read, length-set, take_more_set, drop-set-lt, take-append-drop, take-append-le, drop-append-le, drop-drop, length-append, set_split, take_more, drop_more}
+use Rattle.std.proofs.lemmas.List.{drop_all, length-drop, get_or-append-add, get_or_append_left, get_or_read, length-set, take_more_set, drop-set-lt, take-append-drop, take-append-le, drop-append-le, drop-drop, length-append, length-take-le, set_split, take_more, drop_more}
 use Rattle.std.proofs.Math.Seq.{take-append-add, drop-append-add}
 use Rattle.straight_predicates.specs.Chunks.{IsAt, joined}
 

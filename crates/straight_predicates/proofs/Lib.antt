@@ -22,4 +22,3 @@ pub mod Joined
 pub mod ChunkSteps
 pub mod ChunkSearch
 pub mod NextEdges
-pub mod OnStraights

@@ -1,5 +1,5 @@
 -- The edges beside a place.
-use Rattle.std.proofs.Common.{◌≡◌, ℕ, zero, suc, ◌-◌, ◌<◌, ◌≤◌, Some, None, List, [], ◌∷◌, length, get_or, refl, arith, ap, ◌∙◌}
+use Rattle.std.proofs.Common.{◌≡◌, ℕ, zero, suc, ◌+◌, ◌-◌, ◌<◌, ◌≤◌, Option, Some, None, List, [], ◌∷◌, length, get_or, refl, arith, ap, ◌∙◌}
 use Rattle.plane.specs.Runs.Gaps.{edge_at, edge_before}
 
 pub at_place : (es : List ℕ) (i : ℕ) → i < length es → edge_at es i ≡ Some (get_or es i 0)

@@ -4,8 +4,8 @@
 //! - **What it answers.** `turn` has the exact sign of a cross product. `meet` is exact both ways:
 //!   `Apart` exactly where the two edges share no place at all, `CommonEnd` exactly where they
 //!   share one end and nothing else, `Bad` exactly where they share a place that is no common end.
-//!   A place is any point with rational coordinates, not only a whole one. `is_on_straight` says
-//!   whether a point is on a straight, and `before` is the order by x, then y.
+//!   A place is any point with rational coordinates, not only a whole one. `before` is the order
+//!   by x, then y.
 //! - **The rule that it serves.** Lines of an area meet in control points alone: two straights are
 //!   bad exactly where their edges are (`plane::rule::edges_of_straights`).
 //! - **What it asks for.** Coordinates that differ by less than 2^41; the points of one window do.
@@ -46,7 +46,6 @@ mod edge_events;
 mod events;
 mod meeting;
 mod meets;
-mod on_straights;
 mod order;
 mod rays;
 mod slopes;
@@ -63,7 +62,6 @@ pub use directions::Direction;
 pub use edge_events::EdgeEvents;
 pub use meeting::meet;
 pub use meets::Meet;
-pub use on_straights::is_on_straight;
 pub use order::before;
 pub use slopes::slope;
 pub use timetable::Timetable;

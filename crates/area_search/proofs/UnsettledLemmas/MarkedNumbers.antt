@@ -10,7 +10,7 @@ use Rattle.plane.specs.declared.kinds.Placed.{Placed}
 use Rattle.plane.specs.declared.kinds.Point.{Point}
 use Rattle.near_pairs.specs.Boxes.{box_of, mark_of, no_reach}
 use Rattle.near_pairs.specs.declared.reaches.Reach.{Reach}
-use Rattle.area_search.specs.Unsettled.CurvePoints.{AreCurveBoxes, AreMarkedTo, ArePointBoxes, placed_at}
+use Rattle.area_search.specs.Unsettled.CurvePoints.{AreCurveBoxes, AreMarkedFrom, AreMarkedTo, ArePointBoxes, placed_at}
 use Rattle.area_search.proofs.Small.{by_lt}
 
 abbrev number_of : List ℕ → ℕ → ℕ
@@ -109,6 +109,19 @@ curve_box_more d numbers k boxes new r a q h = record {
 
 pub all_curve_boxes : (d : Plan) (numbers : List ℕ) (k : ℕ) (boxes : List Reach) → length numbers ≤ k → k ≤ length numbers → AreCurveBoxes d numbers k boxes → AreCurveBoxes d numbers (length numbers) boxes
 all_curve_boxes d numbers k boxes l m a = subst (λ (n : ℕ). AreCurveBoxes d numbers n boxes) (omega (arith, l, m)) a
+
+-- ---- marks
+pub no_marks : (first : ℕ) (marks : List Bool) → marks ≡ [] → AreMarkedFrom first 0 marks
+no_marks first marks e = record { size = ap length e; marked = λ n l k. absurd (omega (arith, k)) }
+
+pub mark_more : (first k : ℕ) (marks new : List Bool) (r : Bool) → AreMarkedFrom first k marks → new ≡ marks ++ r ∷ [] → (first ≤ k → r ≡ true) → AreMarkedFrom first (k + 1) new
+mark_more first k marks new r a q h = record {
+  size = size_more marks new r false k q a.size;
+  marked = λ n l g. by_lt n k (λ (b : n < k). front_of marks new r false k q a.size n b ∙ a.marked n l b) (λ (b : k ≤ n). let s = last n k g b in last_of marks new r false k q a.size n s ∙ h (omega (arith, l, s)));
+}
+
+pub all_marks : (first count k : ℕ) (marks : List Bool) → count ≤ k → k ≤ count → AreMarkedFrom first k marks → AreMarkedFrom first count marks
+all_marks first count k marks l m a = subst (λ (n : ℕ). AreMarkedFrom first n marks) (omega (arith, l, m)) a
 
 -- ---- tests
 pub refuted : (A : Type 0) (r : Bool) → (IsTrue r ↔ A) → r ≡ false → A → ⊥

@@ -21,7 +21,7 @@ use Rattle.point_location.specs.declared.places.Place.{Place}
 use Rattle.point_location.specs.declared.places.Place.TheVariants as place
 use Rattle.straight_predicates.proofs.WindowEdges.{inside_close}
 use Rattle.straight_predicates.specs.EdgeLists.{IsCloseToAll, edge_of, no_point}
-use Rattle.near_pairs.specs.Boxes.{AreMarkedFrom, AreNear, box_of, mark_of, reach_of}
+use Rattle.near_pairs.specs.Boxes.{AreNear, box_of, mark_of, reach_of}
 use Rattle.near_pairs.specs.LeastPairs.{IsLeastPair, IsLess}
 use Rattle.near_pairs.specs.declared.pairs.NearPair.{NearPair}
 use Rattle.near_pairs.specs.declared.reaches.Reach.{Reach}
@@ -29,7 +29,7 @@ use Rattle.meetings.specs.CurvePairs.{IsJudgedOn}
 use Rattle.meetings.specs.PlacedCurves.{IsPlacedWith}
 use Rattle.meetings.specs.StraightEdges.{AreStraightsTo}
 use Rattle.meetings.proofs.StraightLists.{all_close, inside}
-use Rattle.area_search.specs.Unsettled.CurvePoints.{AreCurveBoxes, AreMarkedTo, IsFirstOn, IsFirstOnCurve, IsInCell, IsLeastOf, IsLesserOn, IsNotAfter, IsPointOnCurve, LiesOnMarked, LiesOnStraight}
+use Rattle.area_search.specs.Unsettled.CurvePoints.{AreCurveBoxes, AreMarkedFrom, AreMarkedTo, IsFirstOn, IsFirstOnCurve, IsInCell, IsLeastOf, IsLesserOn, IsNotAfter, IsPointOnCurve, LiesOnMarked, LiesOnStraight}
 use Rattle.area_search.specs.Faults.{LiesOn}
 use Rattle.area_search.specs.declared.points.OnCurve.{OnCurve}
 use Rattle.area_search.proofs.PlaneLaws.{located_off, on_edge_is}

@@ -109,3 +109,8 @@ pub record AreCurveBoxes (d : Plan) (numbers : List ℕ) (k : ℕ) (boxes : List
   pub holds : (m : ℕ) → m < k
       → HoldsCurve (box_of (reach_of boxes (length d.points + m)))
       (curve d (slice_index numbers m))
+
+-- Of so many numbers those from the first on are marked.
+pub record AreMarkedFrom (first count : ℕ) (marks : List Bool) : Type 0 where
+  pub size : length marks ≡ count
+  pub marked : (n : ℕ) → first ≤ n → n < count → mark_of marks n ≡ true

@@ -56,7 +56,7 @@ pub(crate) fn certify_run(
     Ok(certificate)
 }
 
-/// The certificate of these parts at a level, with empty names, of the drawing itself.
+/// The certificate of these parts at a level, with empty names.
 fn nameless(
     alloc: Global,
     level: u8,
@@ -78,7 +78,6 @@ fn nameless(
         table: Name::new(alloc, b"".as_slice())?,
         attribute: Name::new(alloc, b"".as_slice())?,
         level,
-        bent: false,
         positions,
         notes,
         places,

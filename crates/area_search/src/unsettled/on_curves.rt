@@ -4,7 +4,7 @@ ghost use Rattle.std.specs.Prelude.{length};
 ghost use Rattle.near_pairs.specs.LeastPairs.{IsLess};
 ghost use Rattle.plane.specs.Rule.Plans.{plan};
 ghost use Rattle.meetings.specs.StraightRuns.{IsClearRun};
-ghost use Rattle.area_search.specs.Unsettled.CurvePoints.{AreCurveBoxes, AreNumbers};
+ghost use Rattle.area_search.specs.Unsettled.CurvePoints.{AreCurveBoxes, AreMarkedFrom, AreNumbers};
 ghost use Rattle.area_search.specs.Unsettled.CurvePoints.{ArePointBoxes, IsFirstOn, IsFirstOnCurve};
 ghost use Rattle.area_search.specs.Unsettled.CurvePoints.{IsLeastOf, IsLesserOn, LiesOnMarked};
 ghost use Rattle.area_search.specs.Unsettled.CurvePoints.{LiesOnStraight};
@@ -15,7 +15,7 @@ use crate::numbers::numbers_with;
 use crate::points::{OnCurve, points_at};
 use line_sweep::Swept;
 use meetings::{Straights, is_on, reach};
-use near_pairs::{PairTest, Reach, least, marked_from};
+use near_pairs::{PairTest, Reach, least};
 use plane::{Drawing, Placed};
 use point_location::{Place, locate};
 use ports::Memory;
@@ -120,7 +120,7 @@ fn first_on_marked(
     let points = drawing.points.as_slice();
     let numbers = numbers_with(alloc, aside, true)?;
     let boxes = boxes(alloc, drawing, &numbers)?;
-    let marks = marked_from(alloc, points.len(), boxes.as_slice().len())?;
+    let marks = marks_from(alloc, points.len(), boxes.as_slice().len())?;
     let test = OnTest {
         drawing,
         numbers: &numbers,
@@ -170,6 +170,17 @@ fn add_curve_boxes(boxes: &mut Vec<Reach>, drawing: &Drawing, numbers: &[u32]) -
         boxes.push(reach(&drawing.curves[*number as usize]))?;
     }
     Ok(())
+}
+
+/// Marks for the numbers below `count`, from `first` on.
+fn marks_from(alloc: Global, first: usize, count: usize) -> Result<Vec<bool>, Memory>
+    ensures { IfOk result (λ marks. AreMarkedFrom first count marks.items) }
+{
+    let mut marks = Vec::with_capacity(alloc, count)?;
+    for number in 0..count {
+        marks.push(first <= number)?;
+    }
+    Ok(marks)
 }
 
 /// The lesser of two, by the point, then by the curve.

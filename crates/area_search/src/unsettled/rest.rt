@@ -58,7 +58,6 @@ fn rest_with(
             window: drawing.window,
             curves,
             points,
-            tolerance: drawing.tolerance,
         },
         numbers,
     })

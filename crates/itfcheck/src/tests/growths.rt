@@ -43,7 +43,7 @@ const SQUARE: &str = "SCNT\n////\nMTID Rows\nMODL Land\nTOPI Cover\nTABL Parcel_
         EMOD\nENDE\n";
 
 const FILED: &str =
-    "ITFCERT 2\nAREAS 1\nAREA Cover Parcel Form\nSIZES 0 0 4 4 1\nV 0\nV 1\nV 0\nV 0\n\
+    "ITFCERT 1\nAREAS 1\nAREA Cover Parcel Form\nSIZES 0 4 4 1\nV 0\nV 1\nV 0\nV 0\n\
     E 0 R 0 1 R 0\nE 0 R 0 1 N 1\nE 1 R 0 0 R 0\nE 1 N 1 0 R 0\nP 1\nEND\n";
 
 const PROVED: &str = "AREA Cover Parcel Form PROVED 0 4 1\nVERDICT ACCEPTED 2\n";
@@ -85,7 +85,7 @@ const CALLS: [Call; 4] = [
         before: None,
         status: Status::Accepted,
         report: "VERDICT ACCEPTED 1\n",
-        after: Some("ITFCERT 2\nAREAS 0\n"),
+        after: Some("ITFCERT 1\nAREAS 0\n"),
     },
     Call {
         words: CHECK,

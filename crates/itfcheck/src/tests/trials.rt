@@ -63,9 +63,7 @@ const LARGEST: Call = Call {
     status: Status::Accepted,
     report: "AREA Grid Cell Form PROVED 0 501000 250000\n\
         TRIAL 500 501000 251001 250000\nVERDICT ACCEPTED 751000\n",
-    certificate: Some(
-        "ITFCERT 2\nAREAS 1\nAREA Grid Cell Form\nSIZES 0 0 501000 251001 250000\nV ",
-    ),
+    certificate: Some("ITFCERT 1\nAREAS 1\nAREA Grid Cell Form\nSIZES 0 501000 251001 250000\nV "),
 };
 
 // A size, and the report on its files.

@@ -5,7 +5,7 @@ use Rattle.plane.specs.declared.kinds.CurveKind.{CurveKind}
 use Rattle.plane.specs.declared.kinds.CurveKind.TheVariants as kind
 use Rattle.plane.specs.Forms.Vectors.{Vector, Edge}
 use Rattle.plane.specs.Rule.Plans.{Plan, curve}
-use Rattle.plane.specs.Rule.Partition.{IsPartition, Joined, IsOuter}
+use Rattle.plane.specs.Rule.Partition.{Joined, IsOuter}
 use Rattle.plane.specs.Rule.CrossedCurves.{CrossesCurve, CrossesHalfArc}
 
 -- the curve's ends as an edge in the direction of the curve
@@ -35,9 +35,3 @@ pub record IsCut (d : Plan) (i : ℕ) : Type 0 where
 -- No curve has one face on both sides.
 abbrev pub HasNoCut : Plan → Type 0
 HasNoCut d = (i : ℕ) → i < length d.curves → IsCut d i → ⊥
-
--- What the drawing of an area has to be: its curves part the plane, with one object's point in each
--- bounded region, and no curve has one region on both sides.
-pub record IsArea (d : Plan) : Type 0 where
-  pub parts : IsPartition d
-  pub uncut : HasNoCut d

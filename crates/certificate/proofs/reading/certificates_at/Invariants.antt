@@ -9,5 +9,5 @@ use Rattle.certificate.proofs.reading.certificates_at.Given as goal
 abbrev pub invariant-loop : goal.invariant-loop
 invariant-loop l = record {
   paired : AllByRecursion (λ c. ArePaired c.notes.items) l.list.items;
-  value : with_front (views l.list.items) (many_at (certificate_at l.version) (l.count - l.counter) (text_view l.left)) ≡ many_at (certificate_at l.version) l.count (text_view l.fn.text);
+  value : with_front (views l.list.items) (many_at certificate_at (l.count - l.counter) (text_view l.left)) ≡ many_at certificate_at l.count (text_view l.fn.text);
 }

@@ -12,8 +12,7 @@ returns g c =
     wrote_as (sizes_words c.args.certificate.now c.from.ensures edges events points)
     (wrote_then c.put.ensures
     (wrote_then c.put_number.ensures
-    (wrote_then c.put_bent.ensures
     (wrote_then c.put_number-2.ensures
     (wrote_then c.put_number-3.ensures
     (wrote_then c.put_number-4.ensures
-    (c.put_end.ensures)))))))
+    (c.put_end.ensures))))))

@@ -2,7 +2,7 @@ use Rattle.std.proofs.Common.{◌≡◌, ℕ, ◌<◌, List, length, map, arith,
 use Rattle.std.proofs.lemmas.List.{length-map}
 use Rattle.certificate.specs.Spelling.{view, views}
 use Rattle.certificate.specs.declared.notes.Certificate.{Certificate}
-use Rattle.certificate_checker.specs.Verdicts.{IsVerdictBy}
+use Rattle.certificate_checker.specs.Verdicts.{IsVerdict}
 use Rattle.plane.specs.Rule.Plans.{plan}
 use Rattle.reports.specs.AreaKinds.{plans}
 use Rattle.delivery.specs.AreaCertificates.{claims_of}
@@ -17,7 +17,7 @@ returns-in-NotProved c =
     broken_here c.args.drawings.now c.args.certificates.now c.loop-number.number d x
     (subst (λ (n : ℕ). c.loop-number.number < n) (sym c.requires.count) c.loop-number-test.true) c.index-drawings-number.is c.loop-number-test.true c.index-certificates-number.is
     c.in-NotProved.rule c.in-NotProved.place c.loop-number.invariant.proved
-    (subst (IsVerdictBy (plan d) x.bent (claims_of (view x))) c.in-NotProved.is c.in_ok-check_one.ensures)
+    (subst (IsVerdict (plan d) (claims_of (view x))) c.in-NotProved.is c.in_ok-check_one.ensures)
 
 pub loop-number-preserved : goal.loop-number-preserved
 loop-number-preserved c =
@@ -28,7 +28,7 @@ loop-number-preserved c =
       proved = one_further (IsProvedAt (plans c.args.drawings.now) (views c.args.certificates.now)) c.loop-number.number c.loop-number.invariant.proved
           (proved_here c.args.drawings.now c.args.certificates.now c.loop-number.number d x
           (subst (λ (n : ℕ). c.loop-number.number < n) (sym c.requires.count) c.loop-number-test.true) c.index-drawings-number.is c.loop-number-test.true c.index-certificates-number.is
-          (subst (IsVerdictBy (plan d) x.bent (claims_of (view x))) c.in-Proved.is c.in_ok-check_one.ensures));
+          (subst (IsVerdict (plan d) (claims_of (view x))) c.in-Proved.is c.in_ok-check_one.ensures));
     }
 
 pub returns : goal.returns

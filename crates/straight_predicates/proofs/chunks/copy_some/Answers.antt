@@ -1,4 +1,4 @@
-use Rattle.std.proofs.Common.{arith, subst, sym, ◌∙◌, ◌≡◌, ◌+◌, ◌-◌, take, drop, get_or}
+use Rattle.std.proofs.Common.{arith, ap, subst, sym, ◌∙◌, ◌≡◌, ◌++◌, ◌+◌, ◌-◌, take, drop, get_or}
 use Rattle.straight_predicates.specs.Chunks.{joined}
 use Rattle.straight_predicates.proofs.ChunkSearch.{appended, part_of_chunk}
 use Rattle.straight_predicates.proofs.chunks.copy_some.Goals as goal

@@ -1,4 +1,4 @@
-use Rattle.std.proofs.Common.{subst, arith, ap, ◌∙◌, ◌≡◌, ◌+◌, ◌++◌, ℕ, take, drop}
+use Rattle.std.proofs.Common.{subst, arith, ap, ◌∙◌, ◌≡◌, ◌+◌, ◌++◌, ◌≤◌, ℕ, length, take, drop}
 use Rattle.straight_predicates.specs.Chunks.{IsAt, joined}
 use Rattle.straight_predicates.proofs.Joined.{put_at, room_within}
 use Rattle.straight_predicates.proofs.chunks.insert_some.Goals as goal

@@ -1,4 +1,4 @@
-use Rattle.std.proofs.Common.{subst, arith, refl}
+use Rattle.std.proofs.Common.{subst, arith, refl, ◌+◌, ◌≤◌}
 use Rattle.straight_predicates.specs.Chunks.{IsAt}
 use Rattle.straight_predicates.proofs.Joined.{put_at}
 use Rattle.straight_predicates.proofs.chunks.replace.Goals as goal

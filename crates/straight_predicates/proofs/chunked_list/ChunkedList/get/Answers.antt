@@ -1,5 +1,5 @@
 use Rattle.std.proofs.Common.{ap, subst, sym, ◌<◌, ◌∙◌, ◌≡◌, length, get_or}
-use Rattle.straight_predicates.specs.Chunks.{IsAt}
+use Rattle.straight_predicates.specs.Chunks.{IsAt, joined}
 use Rattle.straight_predicates.proofs.Joined.{read_at}
 use Rattle.straight_predicates.proofs.chunked_list.ChunkedList.get.Goals as goal
 

@@ -1,4 +1,0 @@
-pub mod Zones
-pub mod Bent
-pub mod Ends
-pub mod ForkedStraights
