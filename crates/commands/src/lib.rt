@@ -2,8 +2,8 @@
 //! and the files of a trial, which are made in memory.
 //!
 //! - **Words.** `command_of` gives the one command that the words spell: `compile M`,
-//!   `check M T C`, `verify M T C` or `trial N C`. Names of files are not empty and do not begin
-//!   with a minus, and N is a number from 1 to 500 without sign or leading zero. All other words
+//!   `check M T C`, `verify M T C`, `trial N C` or `canonical M T O`. Names of files are not empty
+//!   and do not begin with a minus, and N is a number from 1 to 500 without sign or leading zero. All other words
 //!   spell none. A command has one `Task`: what is done once its model is compiled, where the
 //!   transfer comes from, and which file is read or written besides.
 //! - **Files.** `read_file` reads a file whole, in pieces of 65,536 bytes, and refuses one past its

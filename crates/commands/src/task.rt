@@ -41,6 +41,12 @@ pub enum Task<'a> {
         transfer: TransferSource<'a>,
         certificates: &'a str,
     },
+    /// The transfer of the file of that name is written to the other file, in its canonical text.
+    /// Its values are not judged.
+    Rewrites {
+        transfer: &'a str,
+        file: &'a str,
+    },
 }
 
 // The task of a command on three files.
@@ -53,13 +59,17 @@ fn verb_task<'a>(verb: Verb, names: &FileNames<'a>) -> Task<'a>
         Verb::Check => Task::Judges {
             transfer,
             target: Target {
-                name: names.certificate,
+                name: names.third,
                 trial: None,
             },
         },
         Verb::Verify => Task::Verifies {
             transfer,
-            certificates: names.certificate,
+            certificates: names.third,
+        },
+        Verb::Canonical => Task::Rewrites {
+            transfer: names.transfer,
+            file: names.third,
         },
     }
 }

@@ -7,13 +7,14 @@ use Rattle.table_layout.specs.Layouts.{Layout}
 use Rattle.reports.specs.declared.status.Status.{Status}
 use Rattle.reports.specs.declared.status.Status.TheVariants.{Accepted, Rejected, Undecided, ModelRefused, Usage, ReadFault, WriteFault, OverLimit, Memory, NotProved}
 use Rattle.delivery.specs.Answers.{HasCause}
-use Rattle.commands.specs.Commands.{Command, Source, Target, Task, lists, judges, verifies, task_of, IsCommand}
+use Rattle.commands.specs.Commands.{Command, Source, Target, Task, lists, judges, verifies, rewrites, task_of, IsCommand}
 use Rattle.delivery.specs.Deciding.{Decides, formless, formed}
 use Rattle.commands.specs.Gathering as gathering
 use Rattle.commands.specs.Gathering.{Gathered, Gathers}
 use Rattle.delivery.specs.Causes.{HasOutcome, HasFault, HasLargeArea, Accepts, Rejects, LeavesUndecided, Unproves, IsOversized}
 use Rattle.delivery.specs.Judging.{findings, objects, HasSoundRows, AreJudged, IsJudgedBy, at_fault, faulty, oversized, sound, IsChecked}
-use Rattle.reports.specs.Outcomes.{Outcome, usage, unread, too_long, area_too_large, refused, compiled, misbuilt, rejected, verified}
+use Rattle.delivery.specs.Rewriting.{canon_of, IsRewritten, misread, without_text, written}
+use Rattle.reports.specs.Outcomes.{Outcome, usage, unread, too_long, area_too_large, refused, compiled, misbuilt, rejected, verified, canonical, canon_refused}
 use Rattle.delivery.specs.FiledTexts.{AreVerified, IsVerified}
 use Rattle.reports.specs.Verifications as verifications
 use Rattle.delivery.specs.Verifying.{IsVerification}
@@ -73,6 +74,15 @@ module _ (laws : AreaLaws) (held : Option Files) (counted : List ℕ → Type 0)
     verify_means : (o : Outcome) → IsVerified l text filed o → HasCause held counted words o.status
     verify_means = judged_means c i l text (text ∷ filed ∷ []) g_ (with_filed Rejects) (with_filed IsOversized) (AreVerified l filed) filed_mean
 
+  -- a transfer that is written in its canonical text
+  rewrite_means : (c : Command) (s : Source) (name : List ℕ) → task_of c ≡ rewrites s name → IsCommand words c → (l : Layout) (text : List ℕ) → Gathers held counted c (gathering.texts l (text ∷ [])) → (o : Outcome) → IsRewritten name l text o → HasCause held counted words o.status
+  rewrite_means c s name e i l text g o (misread n code h q) =
+      moved o (misbuilt n code) q (c, l, text ∷ [], i, g, subst (λ (t : Task). Rejects t l (text ∷ [])) (sym e) (inl (n, code, h)))
+  rewrite_means c s name e i l text g o (without_text rows t k q) =
+      moved o canon_refused q (c, l, text ∷ [], i, g, subst (λ (t : Task). Rejects t l (text ∷ [])) (sym e) (inr (rows, t, k)))
+  rewrite_means c s name e i l text g o (written rows t k q) =
+      moved o (canonical name (objects rows) (canon_of l rows)) q (c, l, text ∷ [], i, g, subst (λ (t : Task). Accepts t l (text ∷ [])) (sym e) (rows, t, k))
+
   -- a command by its task
   task_means : (c : Command) (t : Task) (g : Gathered) → task_of c ≡ t → IsCommand words c → Gathers held counted c g → (o : Outcome) → HasOutcome t g o → HasCause held counted words o.status
   task_means c t (gathering.unread f) e i h o k = moved o (unread f) k (f, (c, i, h))
@@ -81,6 +91,7 @@ module _ (laws : AreaLaws) (held : Option Files) (counted : List ℕ → Type 0)
   task_means c lists (gathering.texts l ts) e i h o k = moved o (compiled l) k (c, l, ts, i, h, subst (λ (t : Task). Accepts t l ts) (sym e) tt)
   task_means c (judges s target) (gathering.texts l (text ∷ [])) e i h o k = checked_means c s target e i l text h o k
   task_means c (verifies s r) (gathering.texts l (text ∷ filed ∷ [])) e i h o k = verify_means c s r e i l text filed h o k
+  task_means c (rewrites s name) (gathering.texts l (text ∷ [])) e i h o k = rewrite_means c s name e i l text h o k
   task_means c t (gathering.texts l ts) e i h o k = absurd k
 
   -- the status of the outcome has its cause
@@ -118,6 +129,11 @@ judged_fixed l text Areas areas o (faulty rows t n e) = fixed_as o (rejected (fi
 judged_fixed l text Areas areas o (oversized rows t k b e) = fixed_as o area_too_large e tt
 judged_fixed l text Areas areas o (sound h) = areas h.0 o h.4
 
+rewrite_fixed : (name : List ℕ) (l : Layout) (text : List ℕ) (o : Outcome) → IsRewritten name l text o → IsFixed o.status
+rewrite_fixed name l text o (misread n code h e) = fixed_as o (misbuilt n code) e tt
+rewrite_fixed name l text o (without_text rows t k e) = fixed_as o canon_refused e tt
+rewrite_fixed name l text o (written rows t k e) = fixed_as o (canonical name (objects rows) (canon_of l rows)) e tt
+
 task_fixed : (t : Task) (g : Gathered) (o : Outcome) → HasOutcome t g o → IsFixed o.status
 task_fixed t (gathering.unread f) o e = fixed_as o (unread f) e tt
 task_fixed t (gathering.too_long f) o e = fixed_as o (too_long f) e tt
@@ -125,6 +141,7 @@ task_fixed t (gathering.refused r) o e = fixed_as o (refused r) e tt
 task_fixed lists (gathering.texts l ts) o e = fixed_as o (compiled l) e tt
 task_fixed (judges s target) (gathering.texts l (text ∷ [])) o k = judged_fixed l text (AreJudged target l) (λ rows p j. areas_fixed target l rows p j) o k
 task_fixed (verifies s r) (gathering.texts l (text ∷ filed ∷ [])) o k = judged_fixed l text (AreVerified l filed) (λ rows p j. verified_fixed l rows filed p j) o k
+task_fixed (rewrites s name) (gathering.texts l (text ∷ [])) o k = rewrite_fixed name l text o k
 task_fixed t (gathering.texts l ts) o k = absurd k
 
 fixed : (held : Option Files) (counted : List ℕ → Type 0) (words : List (List ℕ)) (o : Outcome) → Decides held counted words o → IsFixed o.status

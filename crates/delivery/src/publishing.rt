@@ -29,6 +29,7 @@ fn write_filing<S: Shelf>(filing: &Filing<'_>, shelf: &mut S) -> Result<(), Fail
     shelf.start(filing.name)?;
     match &filing.content {
         Content::Certificates(certificates) => write(certificates, shelf, filing.name),
+        Content::Text(text) => text.put(shelf, filing.name),
     }
 }
 

@@ -12,15 +12,20 @@ ghost use Rattle.delivery.specs.FiledTexts.{AreVerified, IsVerified};
 ghost use Rattle.delivery.specs.Judging.{AreJudged, IsChecked, objects};
 ghost use Rattle.commands.specs.CommandViews.{target_of};
 ghost use Rattle.reports.specs.OutcomeViews.{outcome_of};
-ghost use Rattle.delivery.specs.Pieces.{IsJudged, IsSound};
+ghost use Rattle.delivery.specs.Pieces.{AreKept, IsJudged, IsSound};
+ghost use Rattle.delivery.specs.Rewriting.{IsRewritten};
+ghost use Rattle.itf_writer.specs.Feeds.{HoldsRows};
 
 use crate::area_answers::answers_of;
-use crate::judging::Judged;
+use crate::judging::{Judged, count_objects};
 use crate::verifying::verify_areas;
 use commands::Target;
+use itf_writer::CanonFeed;
 use plane::Drawing;
 use ports::Memory;
-use reports::outcome::{Outcome, area_too_large, areas_outcome, misbuilt, rejected, verified};
+use reports::outcome::{
+    Outcome, area_too_large, areas_outcome, canon_refused, canonical, misbuilt, rejected, verified,
+};
 use std::alloc::Global;
 use table_layout::Layout;
 
@@ -118,4 +123,25 @@ pub fn verified_by<'a>(
         Sound::Drawn(count, drawings) => verify_drawn(alloc, layout, count, &drawings, filed),
         Sound::Ended(outcome) => Ok(outcome),
     }
+}
+
+/// The outcome of the rows of a transfer whose canonical text goes to the file of that name.
+pub fn rewritten<'a>(
+    alloc: Global,
+    layout: &Layout,
+    file: &'a str,
+    kept: CanonFeed,
+) -> Result<Outcome<'a>, Memory>
+    requires valid { IsValid (layout_view layout.now) }
+    requires text { (text : List ℕ) × AreKept HoldsRows (layout_view layout.now) text kept }
+    ensures { (text : List ℕ) → AreKept HoldsRows (layout_view layout.now) text kept
+        → IfOk result (λ o. IsRewritten file.now (layout_view layout.now) text (outcome_of o)) }
+{
+    // A line CONT would go on.
+    if layout.codes.continued == b'T' {
+        return canon_refused(alloc);
+    }
+    let objects = count_objects(layout, &kept);
+    let text = kept.finish(alloc, layout)?;
+    canonical(alloc, file, objects, text)
 }

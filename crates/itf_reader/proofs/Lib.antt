@@ -19,6 +19,7 @@ pub mod Placed
 pub mod Readings
 pub mod RowLaws
 pub mod RowLines
+pub mod RowsCame
 pub mod Sorting
 pub mod Stands
 pub mod Thin

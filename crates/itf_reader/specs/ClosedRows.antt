@@ -1,5 +1,5 @@
 -- The rows that the lines of a text close, one after another.
-use Rattle.std.specs.Prelude.{ℕ, ◌+◌, List, [], ◌∷◌, ◌++◌, map, Result, Ok, Err, if◌then◌else◌}
+use Rattle.std.specs.Prelude.{ℕ, zero, suc, ◌+◌, List, [], ◌∷◌, ◌++◌, map, Result, Ok, Err, if◌then◌else◌}
 use Rattle.std.specs.Prelude.{nat_eq}
 use Rattle.itf_lines.specs.declared.word.LineWord.{LineWord}
 use Rattle.itf_lines.specs.declared.word.LineWord.TheVariants.{Obje, Etab}
@@ -42,6 +42,12 @@ by_table_from n (t ∷ ts) rows = of_table n rows ∷ by_table_from (n + 1) ts r
 -- the rows of each table, in the order of the form
 abbrev pub by_table : Form → List (ℕ × Row) → List (List Row)
 by_table f rows = by_table_from 0 f.tables rows
+
+-- one more row of the table at a place, if there is one
+abbrev pub with_row_at : ℕ → Row → List (List Row) → List (List Row)
+with_row_at place r [] = []
+with_row_at zero r (rows ∷ transfer) = (rows ++ r ∷ []) ∷ transfer
+with_row_at (suc place) r (rows ∷ transfer) = rows ∷ with_row_at place r transfer
 
 -- the rows of a table, each with the number of the table
 abbrev pub pairs : TableRows → List (ℕ × Row)

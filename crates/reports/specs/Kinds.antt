@@ -2,7 +2,7 @@
 -- neither.
 use Rattle.std.specs.Prelude.{Bool, true, false, List}
 use Rattle.std.specs.List.{list_any}
-use Rattle.reports.specs.Lines.{Line, area}
+use Rattle.reports.specs.Lines.{Line, area, canon_refused}
 use Rattle.reports.specs.declared.kinds.Kind.{Kind}
 use Rattle.reports.specs.declared.kinds.Kind.TheVariants.{Fault, Undecided, Fine}
 use Rattle.reports.specs.declared.lines.AreaAnswer.{AreaAnswer}
@@ -17,6 +17,7 @@ answer_kind other = Fault
 -- the kind of a line
 abbrev pub kind_of : Line → Kind
 kind_of (area a) = answer_kind a.answer
+kind_of canon_refused = Fault
 kind_of other = Fine
 
 -- the kind is a fault

@@ -13,7 +13,7 @@ use Rattle.reports.specs.declared.lines.AreaLine as area
 use Rattle.reports.specs.declared.lines.Line as code
 use Rattle.reports.specs.declared.lines.Line.TheVariants.{UsageFault, UsageWords, Unread}
 use Rattle.reports.specs.declared.lines.Line.TheVariants.{TooLong, AreaLimit, ModelFault}
-use Rattle.reports.specs.declared.lines.Line.TheVariants.{Model, Table, Structure, Area}
+use Rattle.reports.specs.declared.lines.Line.TheVariants.{Model, Table, Structure, Area, CanonRefused}
 use Rattle.reports.specs.declared.lines.Line.TheVariants.{NotProved, Trial, Verdict}
 
 abbrev pub table_of : table.TableLine → TableLine
@@ -43,6 +43,7 @@ line_of (Model name) = lines.model name
 line_of (Table t) = lines.table (table_of t)
 line_of (Structure n code) = lines.structure n (fault_of code)
 line_of (Area a) = lines.area (area_of a)
+line_of CanonRefused = lines.canon_refused
 line_of (NotProved a rule place) = lines.not_proved a rule place
 line_of (Trial n curves events points) = lines.trial n curves events points
 line_of (Verdict v) = lines.verdict v

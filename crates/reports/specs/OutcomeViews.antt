@@ -9,13 +9,14 @@ use Rattle.table_layout.specs.declared.layouts.Table as table
 use Rattle.reports.specs.LineViews.{findings_view, lines_of}
 use Rattle.reports.specs.Outcomes.{Filing, Outcome}
 use Rattle.reports.specs.declared.outcome.Content as content
-use Rattle.reports.specs.declared.outcome.Content.TheVariants.{Certificates}
+use Rattle.reports.specs.declared.outcome.Content.TheVariants.{Certificates, Text}
 use Rattle.reports.specs.declared.outcome.Filing as filing
 use Rattle.reports.specs.declared.outcome.Outcome as outcome
 
 -- the text of what is written
 abbrev pub text_of : content.Content → List ℕ
 text_of (Certificates cs) = spelling (views cs.items)
+text_of (Text text) = text
 
 abbrev pub filing_of : filing.Filing → Filing
 filing_of f = record { name = f.name.now; text = text_of f.content }

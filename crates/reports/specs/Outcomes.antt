@@ -87,6 +87,11 @@ abbrev pub misbuilt : ℕ → Structure → Outcome
 misbuilt n code =
     reported status.Rejected (lines.structure n code ∷ lines.verdict verdict.Rejected ∷ [])
 
+-- the transfer has no canonical text
+abbrev pub canon_refused : Outcome
+canon_refused =
+    reported status.Rejected (lines.canon_refused ∷ lines.verdict verdict.Rejected ∷ [])
+
 -- the transfer has these findings
 abbrev pub rejected : List Finding → Outcome
 rejected found =
@@ -136,6 +141,10 @@ accepted ls objects filing =
       lines = with_verdict ls (verdict.Accepted objects);
       filing = Some filing;
     }
+
+-- the canonical text of a number of objects, which goes to the file of that name
+abbrev pub canonical : List ℕ → ℕ → List ℕ → Outcome
+canonical name objects text = accepted [] objects (record { name = name; text = text })
 
 -- certificates for a target
 abbrev pub certificates_for : Target → List Plain → Filing

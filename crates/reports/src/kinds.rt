@@ -51,6 +51,7 @@ fn kind_of(line: &Line) -> Kind
 {
     match line {
         Line::Area(area) => answer_kind(area.answer),
+        Line::CanonRefused => Kind::Fault,
         _ => Kind::Fine,
     }
 }

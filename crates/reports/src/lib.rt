@@ -2,8 +2,8 @@
 //!
 //! An outcome is a status, the lines of a report, and the text of a file where there is one to
 //! write. `outcome` makes each of them: wrong words, a file that was not read, a refused model, a
-//! compiled one, a transfer with a line at fault or with findings, the answers to all areas, and
-//! what filed certificates prove. `report` gives the text of an outcome, line by line.
+//! compiled one, a transfer with a line at fault or with findings, the answers to all areas, what
+//! filed certificates prove, and a canonical text or that there is none. `report` gives the text of an outcome, line by line.
 //!
 //! - **The definitions.** `specs/Outcomes` has the outcomes, `specs/Lines` and `specs/Codes` the
 //!   words of each line, `specs/Statuses` the number of each status. Lines name curves and objects

@@ -6,6 +6,7 @@ ghost use Rattle.itf_reader.specs.Refusals.{fault_of};
 ghost use Rattle.table_layout.specs.Values.{area_view, areas_view, layout_view, table_view};
 ghost use Rattle.table_layout.specs.Values.{tables_view};
 ghost use Rattle.reports.specs.Outcomes.{reported, usage, area_too_large};
+ghost use Rattle.reports.specs.Outcomes.{canonical, canon_refused};
 ghost use Rattle.reports.specs.Outcomes.{refused, compiled, misbuilt, rejected, areas_outcome};
 ghost use Rattle.reports.specs.Outcomes.{lines_outcome};
 ghost use Rattle.reports.specs.Outcomes.{accepted, area_line, area_lines, table_line};
@@ -27,6 +28,7 @@ use crate::status::Status;
 use crate::verification::Verification;
 use certificate::Certificate;
 use commands::{File, FileRefusal, Refusal, Target};
+use file_pages::HeldText;
 use itf_reader::{Finding, Structure};
 use plane::Drawing;
 use ports::{Memory, Name};
@@ -38,6 +40,8 @@ use table_layout::{AreaOf, Layout, Table};
 pub enum Content {
     /// Certificates, in their text.
     Certificates(Vec<Certificate>),
+    /// A text as it stands.
+    Text(HeldText),
 }
 
 /// What is written, and the name of its file.
@@ -159,6 +163,30 @@ pub fn misbuilt<'a>(alloc: Global, line: u32, code: Structure) -> Result<Outcome
         Line::Verdict(Verdict::Rejected),
     ]?;
     Ok(reported(alloc, Status::Rejected, lines))
+}
+
+/// The transfer has no canonical text.
+pub fn canon_refused<'a>(alloc: Global) -> Result<Outcome<'a>, Memory>
+    ensures { IfOk result (λ o. outcome_of o ≡ canon_refused) }
+{
+    let lines = vec![in alloc; Line::CanonRefused, Line::Verdict(Verdict::Rejected)]?;
+    Ok(reported(alloc, Status::Rejected, lines))
+}
+
+/// The canonical text of a number of objects, which goes to the file of that name.
+pub fn canonical(
+    alloc: Global,
+    name: &str,
+    objects: u128,
+    text: HeldText,
+) -> Result<Outcome<'_>, Memory>
+    ensures { IfOk result (λ o. outcome_of o ≡ canonical name.now objects text) }
+{
+    let filing = Filing {
+        name,
+        content: Content::Text(text),
+    };
+    accepted(alloc, Vec::new(alloc), objects, filing)
 }
 
 /// The transfer has findings.

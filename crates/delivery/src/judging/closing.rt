@@ -21,6 +21,7 @@ ghost use Rattle.delivery.specs.KeptViews.{HasTaken, found_in, found_of};
 ghost use Rattle.delivery.specs.Pieces.{AreKept, HasText, IsJudged, IsKept};
 
 use super::found::TableFound;
+use super::keeping::{RowKeeper, count_objects};
 use super::lines::Judge;
 use super::rows::{RowJudge, TransferKept};
 use area_drawings::{AREA_LIMIT, TablePlaces, drawings_from};
@@ -47,22 +48,21 @@ pub enum Judged {
 }
 
 // Takes the last line, where there is one.
-fn take_last(
-    rows: &mut RowJudge,
+fn take_last<K: RowKeeper>(
+    rows: &mut RowJudge<K>,
     layout: &Layout,
     names: &Names,
     whole: bool,
     line: &mut Line,
 ) -> Result<(), Memory>
-    requires valid { IsValid (layout_view layout.now) }
     requires named { form_in names.now ≡ form_of (layout_view layout.now) }
     ensures at { OnOk result (rows.new.feed.at ≡ after_lines (form_of (layout_view layout.now))
         rows.old.feed.at (line_if whole (line_view line.old))) }
     ensures sound { OnOk result (rows.old.feed.failed ≡ false
         → rows.new.feed.failed ≡ false) }
     ensures taken { OnOk result ((came : List (ℕ × GivenRow))
-        → HasTaken (layout_view layout.now) came rows.old.kept
-        → HasTaken (layout_view layout.now) (came ++ shown_rows
+        → K.has_rows (layout_view layout.now) came rows.old.kept
+        → K.has_rows (layout_view layout.now) (came ++ shown_rows
         (form_of (layout_view layout.now)) rows.old.feed.at (line_if whole (line_view line.old)))
         rows.new.kept) }
 {
@@ -72,14 +72,13 @@ fn take_last(
     Ok(())
 }
 
-impl<'a> Judge<'a> {
-    // The text ends here: what is kept of its rows, or the line at fault.
-    fn end(self, layout: &Layout, names: &Names) -> Result<TransferKept<'a>, ReadRefusal>
-        requires valid { IsValid (layout_view layout.now) }
+impl<K: RowKeeper> Judge<K> {
+    /// The text ends here: what is kept of its rows, or the line at fault.
+    pub fn end(self, layout: &Layout, names: &Names) -> Result<K, ReadRefusal>
         requires named { form_in names.now ≡ form_of (layout_view layout.now) }
-        requires text { (text : List ℕ) × HasText (layout_view layout.now) text self }
-        ensures { (text : List ℕ) → HasText (layout_view layout.now) text self.entry
-            → IsKept (layout_view layout.now) text result }
+        requires text { (text : List ℕ) × HasText K.has_rows (layout_view layout.now) text self }
+        ensures { (text : List ℕ) → HasText K.has_rows (layout_view layout.now) text self
+            → IsKept K.has_rows (layout_view layout.now) text result }
     {
         let Judge {
             lines,
@@ -94,13 +93,15 @@ impl<'a> Judge<'a> {
         rows.feed.finish(end)?;
         Ok(rows.kept)
     }
+}
 
+impl<'a> Judge<TransferKept<'a>> {
     /// The text ends here: what it comes to.
     pub fn finish(self, alloc: Global, layout: &Layout, names: &Names) -> Result<Judged, Memory>
         requires valid { IsValid (layout_view layout.now) }
         requires named { form_in names.now ≡ form_of (layout_view layout.now) }
-        requires text { (text : List ℕ) × HasText (layout_view layout.now) text self }
-        ensures { (text : List ℕ) → HasText (layout_view layout.now) text self.entry
+        requires text { (text : List ℕ) × HasText HasTaken (layout_view layout.now) text self }
+        ensures { (text : List ℕ) → HasText HasTaken (layout_view layout.now) text self.entry
             → IfOk result (IsJudged (layout_view layout.now) text) }
     {
         match self.end(layout, names) {
@@ -112,26 +113,13 @@ impl<'a> Judge<'a> {
 
 // What a text comes to that is no transfer.
 fn misbuilt(refusal: ReadRefusal) -> Result<Judged, Memory>
-    ensures { (l : GivenLayout) (text : List ℕ) → IsKept l text (Err refusal)
+    ensures { (l : GivenLayout) (text : List ℕ) → IsKept HasTaken l text (Err refusal)
         → IfOk result (IsJudged l text) }
 {
     match refusal {
         ReadRefusal::At { line, code } => Ok(Judged::Misbuilt(line, code)),
         ReadRefusal::Memory => Err(Memory),
     }
-}
-
-// The number of objects, those of helper tables included.
-fn count_objects(layout: &Layout, keys: &KeyFeed) -> u128
-    requires { length layout.now.tables.items ≤ 4194304 }
-    ensures { (rows : List (ℕ × GivenRow)) → HasRows (layout_view layout.now) keys.now rows
-        → result ≡ objects (transfer_so_far (layout_view layout.now) rows) }
-{
-    let mut count: u128 = 0;
-    for number in 0..layout.tables.len() {
-        count += keys.row_count(TableId(number as u32)) as u128;
-    }
-    count
 }
 
 // How many vertices are kept of the rows of that table, none where there is no such table.
@@ -241,21 +229,22 @@ fn has_any(found: &[Finding]) -> bool
     }
 }
 
-// What the rows of a text come to.
-fn judge_rows(alloc: Global, layout: &Layout, kept: TransferKept) -> Result<Judged, Memory>
+/// What the rows of a text come to.
+pub fn judge_rows(alloc: Global, layout: &Layout, kept: TransferKept) -> Result<Judged, Memory>
     requires valid { IsValid (layout_view layout.now) }
-    requires text { (text : List ℕ) × AreKept (layout_view layout.now) text kept }
-    ensures { (text : List ℕ) → AreKept (layout_view layout.now) text kept.entry
+    requires text { (text : List ℕ) × AreKept HasTaken (layout_view layout.now) text kept }
+    ensures { (text : List ℕ) → AreKept HasTaken (layout_view layout.now) text kept.entry
         → IfOk result (IsJudged (layout_view layout.now) text) }
 {
     strokes_counted();
     fed_transfer();
-    let objects = count_objects(layout, &kept.keys);
+    let objects = count_objects(layout, &kept);
     let oversized = has_too_large(&kept, &layout.areas);
     let TransferKept {
         mut tables,
         places,
         keys,
+        ..
     } = kept;
     let found = all_findings(alloc, &mut tables, keys)?;
     if has_any(&found) {
