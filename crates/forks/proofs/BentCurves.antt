@@ -27,11 +27,11 @@ numbers_size n (cs ∷ rest) =
     omega (arith, a, b, c, d)
 
 -- Curve k of all is one of list i, and has the number n + i.
-record IsAmong (n : ℕ) (pss : List (List Curve)) (k : ℕ) (z : Curve) : Type 0 where
-  index : ℕ
-  fits : index < length pss
-  number : get_or (numbers_of n pss) k 0 ≡ n + index
-  has : Has (get_or (all_of pss) k z) (get_or pss index [])
+pub record IsAmong (n : ℕ) (pss : List (List Curve)) (k : ℕ) (z : Curve) : Type 0 where
+  pub index : ℕ
+  pub fits : index < length pss
+  pub number : get_or (numbers_of n pss) k 0 ≡ n + index
+  pub has : Has (get_or (all_of pss) k z) (get_or pss index [])
 
 beyond : (a k : ℕ) → a ≤ k → (j : ℕ) × (k ≡ a + j)
 beyond a k l = (k - a, omega (arith, l))
@@ -79,10 +79,10 @@ module _ (t : ℤ) (d g : Plan) (origin : List ℕ) (b : IsBentOf t d g origin) 
   abbrev pub of : ℕ → ℕ
   of k = get_or origin k 0
 
-  here : (k : ℕ) → k < length g.curves → IsAmong 0 b.pieces k no_curve
+  pub here : (k : ℕ) → k < length g.curves → IsAmong 0 b.pieces k no_curve
   here k l = among 0 b.pieces k no_curve (let a = ap length b.curves in omega (arith, l, a))
 
-  number_is : (k : ℕ) (l : k < length g.curves) → of k ≡ (here k l).index
+  pub number_is : (k : ℕ) (l : k < length g.curves) → of k ≡ (here k l).index
   number_is k l = ap (λ (os : List ℕ). get_or os k 0) b.origins ∙ (here k l).number ∙ zero_more (here k l).index
     where
       zero_more : (i : ℕ) → 0 + i ≡ i

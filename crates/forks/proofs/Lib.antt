@@ -8,6 +8,7 @@ pub mod Outside
 pub mod OneBent
 pub mod BentParts
 pub mod BentCurves
+pub mod StayingArcs
 pub mod NothingBent
 pub mod RisingOrigins
 pub mod EndBlocks
@@ -17,3 +18,4 @@ pub mod ForkedLists
 pub mod HeldParts
 pub mod BentDrawings
 pub mod BentWeights
+pub mod Grounds

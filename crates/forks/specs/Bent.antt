@@ -28,6 +28,7 @@ IsBendAt t d i at_from (Some b) =
     × ((l : ℕ) (c : Point) → l < k → BendsAt t d i at_from l c → ⊥)
 
 -- ---- parts
+-- a bend, where there is one
 abbrev pub if_any : Option Point → List Point
 if_any None = []
 if_any (Some b) = b ∷ []
@@ -75,10 +76,12 @@ abbrev pub StandForKind : CurveKind → ℤ → Plan → ℕ → List Curve → 
 StandForKind kind.Straight t d i cs = StandForStraight t d i cs
 StandForKind kind.HalfArc t d i cs = cs ≡ curve d i ∷ []
 
+-- the curves stand for the curve of that number
 abbrev pub StandFor : ℤ → Plan → ℕ → List Curve → Type 0
 StandFor t d i cs = StandForKind (curve d i).kind t d i cs
 
 -- ---- the bent drawing
+-- the curves of all lists, in turn
 abbrev pub all_of : List (List Curve) → List Curve
 all_of [] = []
 all_of (cs ∷ rest) = cs ++ all_of rest

@@ -1,4 +1,5 @@
 pub mod Zones
 pub mod Bent
+pub mod Grounds
 pub mod Ends
 pub mod ForkedStraights

@@ -26,6 +26,7 @@ abbrev pub near_end : Bool → Curve → Point
 near_end true s = s.from
 near_end false s = s.to
 
+-- the other end
 abbrev pub far_end : Bool → Curve → Point
 far_end true s = s.to
 far_end false s = s.from
@@ -52,6 +53,7 @@ toward h q =
     signed (bend h)
     ((circle_x h *ℤ (q.x -ℤ h.from.x)) +ℤ (circle_y h *ℤ (q.y -ℤ h.from.y)))
 
+-- The cross product of the way to q and that to the centre, by the same positive factor.
 abbrev pub across : HalfArc → Point → ℤ
 across h q =
     signed (bend h)

@@ -6,13 +6,14 @@ ghost use Rattle.plane.specs.declared.kinds.Point.{Point};
 ghost use Rattle.plane.specs.Forms.Bends.{square};
 ghost use Rattle.plane.specs.Rule.HalfArcs.{HalfArc, HasCircle, power};
 ghost use Rattle.plane.specs.Rule.Places.{point};
-ghost use Rattle.plane.specs.declared.kinds.CurveKind.TheVariants.{Straight};
+ghost use Rattle.plane.specs.declared.kinds.CurveKind.TheVariants.{HalfArc as OfArc, Straight};
 ghost use Rattle.plane.specs.Forms.Bends.{IsClose};
 ghost use Rattle.plane.specs.Rule.Curves.{IsOn};
 ghost use Rattle.plane.specs.Rule.Places.{Place, Vector};
 ghost use Rattle.plane.specs.Rule.Plans.{Plan, curve, object};
 ghost use Rattle.plane.specs.Rule.Windows.{IsDrawn};
 ghost use Rattle.forks.specs.Bent.{IsBentOf, weight};
+ghost use Rattle.forks.specs.Grounds.{IsGround};
 ghost use Rattle.forks.specs.Zones.{IsZone, LeadsOut};
 
 /// A straight forks from a half arc at one of its ends at most, and has one bend there.
@@ -35,6 +36,14 @@ pub fn one_bent()
         → IsBentOf t d g os → IsBentOf t d h ps → g ≡ h }
     ensures origin { (t : ℤ) (d g h : Plan) (os ps : List ℕ)
         → IsBentOf t d g os → IsBentOf t d h ps → os ≡ ps }
+{}
+
+/// A drawing has one ground that is bent, and one that is not.
+pub fn one_ground()
+    ensures plan { (t : ℤ) (d g h : Plan) (is_bent : Bool) (os ps : List ℕ)
+        → IsGround t d is_bent g os → IsGround t d is_bent h ps → g ≡ h }
+    ensures origin { (t : ℤ) (d g h : Plan) (is_bent : Bool) (os ps : List ℕ)
+        → IsGround t d is_bent g os → IsGround t d is_bent h ps → os ≡ ps }
 {}
 
 /// Where nothing is bent, which the number of curves shows, the drawing stays what it was.
@@ -86,4 +95,11 @@ pub fn bent_curves()
         → (k : ℕ) → k < length g.curves → (j : ℕ) → j < length d.points
         → IsOn (curve g k) (point (object d j))
         → IsOn (curve d (get_or os k 0)) (point (object d j)) }
+{}
+
+/// A half arc of a bent drawing is its origin.
+pub fn half_arcs_stay()
+    ensures { (t : ℤ) (d g : Plan) (os : List ℕ) → IsBentOf t d g os
+        → (k : ℕ) → k < length g.curves → (curve g k).kind ≡ OfArc
+        → curve g k ≡ curve d (get_or os k 0) }
 {}

@@ -153,7 +153,7 @@ few B n z (c ∷ cs) i h =
     later : (i k : ℕ) → i + suc k ≡ suc i + k
     later i k = omega arith
 
-power_most : (level : ℕ) → level ≤ 5 → 2 ^ (level + 1) ≤ 64
+pub power_most : (level : ℕ) → level ≤ 5 → 2 ^ (level + 1) ≤ 64
 power_most zero l = omega arith
 power_most (suc zero) l = omega arith
 power_most (suc (suc zero)) l = omega arith

@@ -16,6 +16,7 @@ pub mod TubePoints
 pub mod TubeTriangles
 pub mod UsableEdges
 pub mod LevelEdges
+pub mod EdgeWeights
 pub mod SettledLevels
 pub mod FacingSides
 pub mod ForeignCorners

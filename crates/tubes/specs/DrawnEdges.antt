@@ -32,5 +32,6 @@ nth_curve curves i =
 abbrev pub AreAllStraight : List Curve → Type 0
 AreAllStraight curves = (i : ℕ) → i < length curves → (nth_curve curves i).kind ≡ kind.Straight
 
+-- all curves of the drawing are straights
 abbrev pub AreStraights : Plan → Type 0
 AreStraights d = AreAllStraight d.curves

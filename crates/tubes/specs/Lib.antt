@@ -2,6 +2,7 @@ pub mod Corners
 pub mod Counting
 pub mod DrawnEdges
 pub mod Facings
+pub mod FewEdges
 pub mod HalfArcTubes
 pub mod Holding
 pub mod Making

@@ -18,6 +18,7 @@ ghost use Rattle.plane.specs.Runs.Timetables.{IsTimetable, Timed};
 ghost use Rattle.straight_predicates.specs.EdgeLists.{HasEnds, edge_of};
 ghost use Rattle.plane.specs.Tubes.Bays.{IsTube, bays};
 ghost use Rattle.tubes.specs.DrawnEdges.{AreStraights, edge_from, edges_of};
+ghost use Rattle.tubes.specs.FewEdges.{HasFewEdges};
 ghost use Rattle.tubes.specs.HalfArcTubes.{IsTubeOf, root};
 ghost use Rattle.tubes.specs.Settled.{HaveTubes, IsFirstForeign, IsOwnCorner, IsSettledAt};
 ghost use Rattle.tubes.specs.Settled.{edge_at, edges_at, owned_at};
@@ -140,4 +141,9 @@ pub fn chains_have_edges()
 pub fn few_edges()
     ensures { (d : Plan) (level : ℕ)
         → level ≤ 5 → HaveTubes d level → length (edges_at d level) ≤ (129 * length d.curves) }
+{}
+
+/// A drawing of at most 16,000,000 curves has fewer than 2^31 edges up to level 5.
+pub fn few_curves_have_few_edges()
+    ensures { (d : Plan) → length d.curves ≤ 16000000 → HasFewEdges d }
 {}

@@ -6,6 +6,7 @@ use Rattle.plane.specs.declared.kinds.Point.{Point}
 use Rattle.plane.specs.Forms.Vectors.{Edge}
 use Rattle.plane.specs.Faces.Halves.{Half, under, over, edge_of}
 
+-- a way in the plane
 pub record Direction : Type 0 where
   pub x : ℤ
   pub y : ℤ
@@ -15,6 +16,7 @@ abbrev pub origin : (ℕ → Edge) → Half → Point
 origin E (under e) = (E e).high
 origin E (over e) = (E e).low
 
+-- the way from the start of a half-edge to its end
 abbrev pub direction : (ℕ → Edge) → Half → Direction
 direction E (under e) = record { x = (E e).low.x -ℤ (E e).high.x; y = (E e).low.y -ℤ (E e).high.y }
 direction E (over e) = record { x = (E e).high.x -ℤ (E e).low.x; y = (E e).high.y -ℤ (E e).low.y }
@@ -36,6 +38,7 @@ abbrev pub Precedes : Direction → Direction → Type 0
 Precedes a b =
     (IsRight a × IsLeft b) ⊎ (((IsRight a × IsRight b) ⊎ (IsLeft a × IsLeft b)) × TurnsLeft a b)
 
+-- g comes before h, by their directions
 abbrev pub Comes : (ℕ → Edge) → Half → Half → Type 0
 Comes E g h = Precedes (direction E g) (direction E h)
 

@@ -7,14 +7,17 @@ use Rattle.plane.specs.Faces.Labels.{Labels}
 use Rattle.plane.specs.Faces.Cells.{is_positive}
 use Rattle.plane.specs.Forms.Vectors.{Vector, Edge, side}
 
+-- the other truth value
 abbrev pub flip : Bool → Bool
 flip true = false
 flip false = true
 
+-- whether both are true
 abbrev pub both : Bool → Bool → Bool
 both true b = b
 both false b = false
 
+-- whether exactly one is true
 abbrev pub differ : Bool → Bool → Bool
 differ true b = flip b
 differ false b = b
@@ -41,9 +44,11 @@ abbrev pub ends_of : List Edge → List Point
 ends_of [] = []
 ends_of (e ∷ es) = e.low ∷ (e.high ∷ ends_of es)
 
+-- whether two whole numbers are equal
 abbrev pub same_whole : ℤ → ℤ → Bool
 same_whole a b = both (flip (is_positive (a -ℤ b))) (flip (is_positive (b -ℤ a)))
 
+-- whether two points are equal
 unfoldable pub same_point : Point → Point → Bool
 same_point p q = both (same_whole p.x q.x) (same_whole p.y q.y)
 

@@ -14,6 +14,7 @@ abbrev pub aside_x : Bool → Point → Point → ℤ
 aside_x true p q = pos 0 -ℤ (q.y -ℤ p.y)
 aside_x false p q = q.y -ℤ p.y
 
+-- the y of that way
 abbrev pub aside_y : Bool → Point → Point → ℤ
 aside_y true p q = q.x -ℤ p.x
 aside_y false p q = pos 0 -ℤ (q.x -ℤ p.x)
