@@ -11,7 +11,8 @@ use Rattle.plane.specs.Rule.Plans.{Plan}
 use Rattle.plane.specs.Runs.Sweeps.{IsEventList}
 use Rattle.plane.specs.Runs.Timetables.{Timed, IsTimetable}
 use Rattle.plane.proofs.ListLemmas.SortedLists.{room, sorted_once}
-use Rattle.tubes.specs.Settled.{HaveTubes, edges_at}
+use Rattle.tubes.specs.FewEdges.{HasFewEdges}
+use Rattle.tubes.specs.Settled.{edges_at}
 use Rattle.certificate_checker.specs.Subjects.{Claims}
 use Rattle.certificate_checker.specs.Verdicts.{Proves}
 use Rattle.certificate_checker.proofs.PlaneLaws.{before_trans, half_number, never, number_below}
@@ -66,18 +67,20 @@ two_an_edge m E table t =
     let n = length-map table (λ (t : Timed). t.at) in
     omega (arith, l, n)
 
--- ---- the counts of claims that prove
-module _ (d : Plan) (c : Claims) (h : Proves d c)
-    (few : (d : Plan) (level : ℕ) → level ≤ 5 → HaveTubes d level → length (edges_at d level) ≤ (129 * length d.curves)) where
-  few_edges : length (edges_at d c.level) ≤ (129 * length d.curves)
-  few_edges = few d c.level h.rules.counts.edges.low h.rules.counts.edges.tubes
+-- ---- the counts of claims that prove a drawing of few edges
+module _ (d : Plan) (c : Claims) (h : Proves d c) (few : HasFewEdges d) where
+  edges_fit : length (edges_at d c.level) < 2 ^ 31
+  edges_fit = few c.level h.rules.counts.edges.low h.rules.counts.edges.tubes
 
-  pub few_positions : length d.curves ≤ 16000000 → length c.positions < 2 ^ 32
-  few_positions l =
+  pub positions_fit : length c.positions < 2 ^ 32
+  positions_fit =
       let t = two_an_edge _ _ h.table h.is_table in
-      let e = few_edges in
+      let e = edges_fit in
       let p = h.rules.counts.positions in
-      omega (arith, t, e, p, l)
+      omega (arith, t, e, p)
 
-  pub few_notes : length d.curves ≤ 16000000 → length c.notes < 2 ^ 32
-  few_notes l = let e = few_edges in let n = h.rules.counts.notes in omega (arith, e, n, l)
+  pub notes_fit : length c.notes < 2 ^ 32
+  notes_fit =
+      let e = edges_fit in
+      let n = h.rules.counts.notes in
+      omega (arith, e, n)

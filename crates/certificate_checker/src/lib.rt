@@ -2,10 +2,10 @@
 //! arcs is a partition, by one replay of its events and no search.
 //!
 //! - **What it answers.** `check` takes a drawing and a certificate that anyone may have made. It
-//!   answers `Proved` exactly where all rules of the certificate format hold, and then the drawing
-//!   is a partition, settled at the certificate's level: its lines meet only in control points, and
-//!   each bounded face holds exactly one object's point. Else it names the first rule that is
-//!   broken, and its place.
+//!   answers `Proved` exactly where all rules of the certificate format hold of the drawing that
+//!   the certificate is of, and then this is a partition, settled at the certificate's level: its
+//!   lines meet only in control points, and each bounded face holds exactly one object's point.
+//!   Else it names the first rule that is broken, and its place.
 //! - **The rules** stand in `docs/certificate-format.md`, and as definitions in `specs/Rules.antt`.
 //!   Rule 2 asks for tubes of all half arcs at the level, and for the counts; 3 at each event that
 //!   corners of tubes are their own; 4 to 7 of each event its block in the live list, the edges
@@ -25,14 +25,17 @@
 //! - **The laws** (`laws`): what is proved is a partition, and settled at its level; claims that
 //!   give a run with tubes and what certifies it prove; what is broken is not proved; there is one
 //!   first broken rule.
-//! - **Not here.** The names in a certificate are not read. A certificate of the bent drawing is not
-//!   judged against what the drawing becomes: it breaks rule 2 of the drawing itself. This crate
-//!   stands on no sweep, face or search.
+//! - **Of which drawing.** A certificate says whether it is of the drawing itself or of what
+//!   becomes of it when its forks are bent (`forks::bent`). The rules are judged on that drawing,
+//!   and what is proved is proved of it. Whether a level settles the drawing itself, so that nobody
+//!   needed to bend it, is not asked.
+//! - **Not here.** The names in a certificate are not read. This crate stands on no sweep, face or
+//!   search.
 //! - **Degenerate cases.** No curve, no point, upright and equal straights, many in one point,
 //!   points at corners, on lines and on half arcs, half arcs without a tube, a level above 5, links
-//!   to half-edges and places in curves that are not there, and counts that do not fit. From 2^31
-//!   edges on half-edges have no numbers of 32 bits: then the answer is out of memory. Drawings of
-//!   at most 16,000,000 curves have fewer (`tubes::laws::few_edges`).
+//!   to half-edges and places in curves that are not there, and counts that do not fit. A drawing
+//!   has at most 16,000,000 curves; so it has fewer than 2^31 edges, bent or not, and half-edges
+//!   have numbers of 32 bits (`laws::grounds_have_few_edges`).
 //!
 //! Cost: a certificate whose edges or points are not as many as the drawing's is answered by
 //! counting the curves, before any edge or tube is made. Any other takes O((m + p) log (m + p))
@@ -40,7 +43,8 @@
 //! edges at most, and a step over each chunk before the place (`straight_predicates::ChunkedList`).
 //! A half arc has 2^(level + 2) + 1 edges. For each point that is placed in a tube that tube is
 //! made and freed again. About 130 bytes an edge, 4 a curve and 25 a point are taken at the start;
-//! the replay takes up to 8 a live edge.
+//! the replay takes up to 8 a live edge. A certificate of the bent drawing takes what `forks::bent`
+//! takes first.
 #![tactic(auto)]
 
 mod case;

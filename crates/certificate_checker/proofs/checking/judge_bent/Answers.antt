@@ -1,0 +1,16 @@
+use Rattle.std.proofs.Common.{refl, true}
+use Rattle.plane.specs.Rule.Plans.{plan}
+use Rattle.forks.specs.Grounds.{bent}
+use Rattle.certificate_checker.specs.Subjects.{claims}
+use Rattle.certificate_checker.proofs.Grounds.{verdict_by}
+use Rattle.certificate_checker.proofs.Judging.{if_ok}
+use Rattle.certificate_checker.proofs.checking.judge_bent.Goals as goal
+
+pub returns : goal.returns
+returns c =
+    let w = c.args.drawing.now in
+    let x = c.args.certificate.now in
+    let b = c.in_ok-copy.copy in
+    if_ok _ _ c.judge_drawing.result
+    (λ v h. verdict_by w.tolerance (plan w) true (claims x) (plan b.drawing) b.origin.items
+    (bent refl c.in_ok-copy.ensures.bent) v h) c.judge_drawing.ensures
