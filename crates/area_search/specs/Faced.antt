@@ -1,5 +1,5 @@
 -- The half-edges of a drawing of straights with their faces, and the face of each object's point.
-use Rattle.std.specs.Prelude.{◌≡◌, ℕ, ℤ, ◌<◌, Option, Some, None, List, [], length, slice_index, ⊤}
+use Rattle.std.specs.Prelude.{◌≡◌, ℕ, ℤ, ◌<◌, Option, Some, None, List, length, slice_index, ⊤}
 use Rattle.event_mesh.specs.Turned.{IsTurned, points_of}
 use Rattle.faces.specs.declared.labelled.Labelled.{Labelled}
 use Rattle.half_edges.specs.HalfEdges.{face_of, size}

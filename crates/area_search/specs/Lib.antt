@@ -1,6 +1,7 @@
 pub mod Faults
 pub mod Answers
 pub mod Faced
+pub mod Grounds
 pub mod Level
 pub mod Settled
 pub mod Unsettled

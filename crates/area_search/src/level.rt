@@ -5,38 +5,42 @@
 // tube is another curve's too (`corners`) and both sides of each cell face one tube or none, the
 // level settles the drawing; else it does not, nor where two edges are bad, or a half arc has no
 // tube (`by_sweep`). A half arc without a tube is looked for before the edges of a level above 0
-// are listed (`missing_tubes`). Of two bad edges the two curves are tested (`bad_edges`): where
-// they are bad, they are the answer; else each next level that these two break is passed over
-// without its edges (`finding`). In a drawing of at most 2,048 curves a bad pair is looked for
-// instead where two curves are bad, two straights first and then the least pair with a half arc
+// are listed (`missing_tubes`). Of two bad edges the two curves are tested (`bad_edges`), and each
+// next level that these two break is passed over without its edges (`finding`). Where they are
+// bad, and so no level settles the drawing, they are the answer; but in a drawing of at most 2,048
+// curves a bad pair is looked for, two straights first and then the least pair with a half arc
 // (`at_fault`).
 //
 // What `find_area` calls, with the module or the crate:
 //
 //     find_area                   finding
-//       shown_at                  finding: what is shown of one level
-//         breaks_level            level_breaks: the last two curves whose edges were bad
-//         answer_by_sweep         by_sweep
-//           is_tube_missing       missing_tubes
-//           edge_list             tubes
-//           sweep                 line_sweep
-//           shown_by_edges        bad_edges: of two bad edges
-//           settled_facings       settled_runs: of a complete run
-//             has_foreign_corner  corners, own_corners
-//             are_paired          cell_sides
-//           answer_settled        settled: the level settles the drawing
-//             object_spots        finishing, spots
-//             mesh_of_run         meshing
-//             label               faces
-//             judge_run           case_judging
-//             certify_run         case_certificates
-//       answer_at_fault           at_fault: two curves of few are bad
+//       all_levels                finding: the levels from 0 to 5
+//         shown_at                finding: what is shown of one level
+//           breaks_level          level_breaks: the last two curves whose edges were bad
+//           answer_by_sweep       by_sweep
+//             is_tube_missing     missing_tubes
+//             edge_list           tubes
+//             sweep               line_sweep
+//             shown_by_edges      bad_edges: of two bad edges
+//             settled_facings     settled_runs: of a complete run
+//               has_foreign_corner    corners, own_corners
+//               are_paired        cell_sides
+//             answer_settled      settled: the level settles the drawing
+//               object_spots      finishing, spots
+//               mesh_of_run       meshing
+//               label             faces
+//               judge_run         case_judging
+//               certify_run       case_certificates
+//       answer_at_fault           at_fault: two curves are bad
 //       answer_unsettled          unsettled: no level settles the drawing
 //         sweep_straights         meetings
 //         first_on_straight       on_curves
 //         set_aside               aside
 //         arc_meeting_among       meetings
 //         first_on_curve          on_curves
+//         bent_answer             bent
+//           bent                  forks
+//           settled_answer        finding: the levels of the bent drawing, by all_levels
 //         alone_curves            alone
 //         first_break_among       level_breaks
 //
@@ -57,5 +61,6 @@ mod straights;
 pub(crate) use at_fault::meeting;
 pub(crate) use cell_sides::mark_unpaired;
 pub use finding::find_area;
+pub(crate) use finding::settled_answer;
 pub(crate) use settled_runs::settled_facings;
 pub use straights::faces_of_straights;

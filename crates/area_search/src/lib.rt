@@ -6,18 +6,26 @@
 //!   without a point, a curve with one region on both sides. A fault is named by the least numbers,
 //!   but for two curves that meet badly, of which any pair may be named. Where there is none, a
 //!   certificate that proves the drawing to be a partition without such a curve, at the least level
-//!   that settles it. `Undecided` names the least pair of curves that breaks the last level, where
-//!   no level settles the drawing; one of them is a half arc.
+//!   that settles it.
+//! - **Of which drawing.** Two curves that meet badly, and a point on a curve, are those of the
+//!   drawing itself. All else is said of its ground: the drawing itself where some level settles
+//!   it, else what becomes of it when its forks are bent by the overlap that it permits (`forks`),
+//!   where some level settles that. A fault then names the curve of which a bent one is a part,
+//!   and a certificate says that it is of the bent drawing. `Undecided` names the least pair of
+//!   curves of the drawing that breaks the last level, where no level settles either; one of them
+//!   is a half arc.
 //! - **The rule that it serves.** The lines of an area part the plane, and each bounded region
-//!   holds exactly one object's point; and no curve has one region on both sides. Of a drawing that
-//!   a level settles, as each drawing of straights is, a certificate is answered exactly where that
-//!   is so, and each fault contradicts it (`laws`).
+//!   holds exactly one object's point; and no curve has one region on both sides. Of a drawing
+//!   whose ground a level settles, as each drawing of straights is, a certificate is answered exactly
+//!   where that is so of the ground and no two curves of the drawing meet badly and no point is on
+//!   one; and each fault contradicts it (`laws`).
 //! - **How.** The levels are tried in turn by a sweep of their edges, which shows whether a level
 //!   settles the drawing (`level`, with what `find_area` calls). Of a drawing that a level settles
 //!   the sweep's run is kept, and the fault or the certificate is read off it (`settled`). Where no
-//!   level settles, pairs of curves and points on curves are looked for (`unsettled`). What the
-//!   certificate says is what the run, the places, the faces and the links are;
-//!   `certificate_checker` judges it without any of them.
+//!   level settles, pairs of curves and points on curves are looked for, and where there are none
+//!   the levels of the bent drawing are tried (`unsettled`). What the certificate says is what the
+//!   run, the places, the faces and the links are; `certificate_checker` judges it without any of
+//!   them.
 //! - **Faces.** `faces_of_straights` gives the mesh of a drawing of straights that is a partition,
 //!   with its faces and the face of each object's point, for whoever asks what bounds a region.
 //! - **Degenerate cases.** No line, no point, several rings, holes, lines that end inside a region,
@@ -26,8 +34,10 @@
 //!
 //! Cost: O((m + p + events) log (m + p)) for m edges and p points, and what the live list moves in
 //! the sweep and in two replays; some 240 bytes an edge at the peak. Where level 0 does not settle,
-//! at each further level two tubes where the two curves of the last bad edges break it too, else
-//! its tubes and a sweep of its edges up to two that are bad. Where no level settles: a sweep of
+//! at each further level two tubes where the two curves of the last bad edges break it too, also
+//! where these are bad, else its tubes and a sweep of its edges up to two that are bad. So it is of
+//! the bent drawing, which has at most as many edges as its half arcs and three for each straight,
+//! and is there with the drawing. Where no level settles the drawing: a sweep of
 //! the straights, the tubes of level 5, and curves set aside times the curves, points and groups of
 //! edges that begin within their boxes. Set aside are all half arcs; or, where these have more than
 //! some 32 others near them on the average, those without which level 5 settles the drawing, if up

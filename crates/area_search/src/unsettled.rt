@@ -1,8 +1,9 @@
-// A drawing that no level settles into its answer: a bad pair, a point on a curve, or the least
-// pair that breaks level 5.
+// A drawing that no level settles into its answer: a bad pair, a point on a curve, what the bent
+// drawing answers, or the least pair that breaks level 5.
 //
 // Bad pairs are looked for, two straights first and then the least pair with a half arc, then
-// points on curves (`on_curves`), then the least pair that breaks level 5. Where half arcs have
+// points on curves (`on_curves`), then a level that settles the drawing with its forks bent
+// (`bent`), then the least pair that breaks level 5. Where half arcs have
 // many others near them, curves that are near each other at level 5 are first set aside, until it
 // settles the drawing of the others (`settling`, `rest`): then only pairs with one of these are
 // tested (`aside`). Where many are set aside, curves that break level 5 with no other one are
@@ -12,11 +13,13 @@ ghost use Rattle.level_breaks.specs.LevelLists.{AreBreaksMarked, HasNoBadStraigh
 ghost use Rattle.plane.specs.Rule.Plans.{plan};
 ghost use Rattle.meetings.specs.StraightRuns.{IsClearRun};
 ghost use Rattle.area_search.specs.Answers.{AreClear, HasNoBadPair, IsAnswer, IsUnsettled};
+ghost use Rattle.area_search.specs.Grounds.{IsAnswerBy};
 ghost use Rattle.area_search.specs.Unsettled.CurvePoints.{IsLeastOf, LiesOnStraight};
 ghost use Rattle.area_search.specs.Unsettled.SetAside.{AreAside};
 
 mod alone;
 mod aside;
+mod bent;
 mod on_curves;
 mod rest;
 mod settling;
@@ -27,6 +30,7 @@ use crate::level::meeting;
 use crate::points::OnCurve;
 use alone::alone_curves;
 use aside::{Aside, set_aside};
+use bent::bent_answer;
 use level_breaks::first_break_among;
 use line_sweep::Swept;
 use meetings::{StraightRun, Straights, arc_meeting_among, sweep_straights};
@@ -36,15 +40,15 @@ use ports::Memory;
 use std::alloc::Global;
 
 /// The answer to a drawing that no level settles: a pair of curves that is bad, else a point on a
-/// curve, else the first pair that breaks the last level. The only error is out of memory. The
-/// memory of each part is freed before the next begins.
+/// curve, else what the bent drawing answers, else the first pair that breaks the last level. The
+/// only error is out of memory. The memory of each part is freed before the next begins.
 pub(crate) fn answer_unsettled(alloc: Global, drawing: &Drawing) -> Result<AreaAnswer, Memory>
     requires few { length (plan drawing.now).curves ≤ 16000000 }
     requires unsettled { IsUnsettled (plan drawing.now) }
-    ensures { IfOk result (IsAnswer (plan drawing.now)) }
+    ensures { IfOk result (IsAnswerBy drawing.now.tolerance (plan drawing.now)) }
 {
     match sweep_straights(alloc, drawing)? {
-        StraightRun::Bad(pair) => Ok(meeting(pair)),
+        StraightRun::Bad(pair) => Ok(meeting(pair.first, pair.second)),
         StraightRun::Clear { straights, swept } => {
             let on_straight = point_on_straight(alloc, drawing, straights, swept)?;
             answer_clear(alloc, drawing, on_straight)
@@ -76,11 +80,11 @@ fn answer_clear(
     requires unsettled { IsUnsettled (plan drawing.now) }
     requires straights { HasNoBadStraights (plan drawing.now) }
     requires points { IsLeastOf (LiesOnStraight (plan drawing.now)) on_straight }
-    ensures { IfOk result (IsAnswer (plan drawing.now)) }
+    ensures { IfOk result (IsAnswerBy drawing.now.tolerance (plan drawing.now)) }
 {
     let aside = set_aside(alloc, drawing, on_straight)?;
     match arc_meeting_among(alloc, drawing, &aside.marks)? {
-        Some(pair) => Ok(meeting(pair)),
+        Some(pair) => Ok(meeting(pair.first, pair.second)),
         None => answer_good(alloc, drawing, &aside),
     }
 }
@@ -91,13 +95,28 @@ fn answer_good(alloc: Global, drawing: &Drawing, aside: &Aside) -> Result<AreaAn
     requires unsettled { IsUnsettled (plan drawing.now) }
     requires pairs { HasNoBadPair (plan drawing.now) }
     requires aside { AreAside (plan drawing.now) aside.now.marks.items aside.now.on_others }
-    ensures { IfOk result (IsAnswer (plan drawing.now)) }
+    ensures { IfOk result (IsAnswerBy drawing.now.tolerance (plan drawing.now)) }
 {
     match first_on_curve(alloc, drawing, aside)? {
         Some(on) => Ok(AreaAnswer::Fault(AreaFinding::On {
             point: on.point,
             curve: on.curve,
         })),
+        None => answer_bent(alloc, drawing, aside),
+    }
+}
+
+/// The answer to the drawing, where no two curves are bad and no point is on a curve: that of the
+/// bent drawing, named by curves of the drawing, or the first pair that breaks the last level.
+fn answer_bent(alloc: Global, drawing: &Drawing, aside: &Aside) -> Result<AreaAnswer, Memory>
+    requires few { length (plan drawing.now).curves ≤ 16000000 }
+    requires unsettled { IsUnsettled (plan drawing.now) }
+    requires clear { AreClear (plan drawing.now) }
+    requires aside { AreAside (plan drawing.now) aside.now.marks.items aside.now.on_others }
+    ensures { IfOk result (IsAnswerBy drawing.now.tolerance (plan drawing.now)) }
+{
+    match bent_answer(alloc, drawing)? {
+        Some(answer) => Ok(answer),
         None => first_undecided(alloc, drawing, &aside.marks),
     }
 }

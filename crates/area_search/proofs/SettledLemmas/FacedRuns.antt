@@ -1,9 +1,9 @@
 -- The faces of a settled drawing of straights, in the words of runs over its straights.
-use Rattle.std.proofs.Common.{◌≡◌, ℕ, zero, suc, ◌+◌, ◌*◌, ◌<◌, ◌≤◌, ℤ, pos, Option, Some, None, List, [], ◌∷◌, length, map, take, slice_index, refl, sym, ap, subst, ◌∙◌, arith, true, false, inl, inr}
+use Rattle.std.proofs.Common.{◌≡◌, ℕ, ◌*◌, ◌<◌, ◌≤◌, ℤ, pos, Option, Some, None, List, [], ◌∷◌, length, map, take, slice_index, refl, sym, ap, subst, ◌∙◌, arith, true, false, inl, inr}
 use Rattle.std.proofs.lemmas.Bool.{cases_eq}
 use Rattle.std.proofs.lemmas.List.{length-map}
 use Rattle.event_mesh.specs.Turned.{IsTurned, points_of}
-use Rattle.half_edges.specs.HalfEdges.{HalfEdges, size}
+use Rattle.half_edges.specs.HalfEdges.{HalfEdges}
 use Rattle.plane.specs.Faces.Cells.{position}
 use Rattle.plane.specs.Faces.Classes.{IsFaces, face_of, numbers}
 use Rattle.plane.specs.Faces.DrawnRuns.{IsRunOf, drawn}
@@ -15,7 +15,7 @@ use Rattle.plane.specs.Forms.Segments.{AreEdgesOf}
 use Rattle.plane.specs.Rule.Partition.{IsPartition}
 use Rattle.plane.specs.Rule.Plans.{Plan, object}
 use Rattle.plane.specs.Runs.Moves.{Move, live_from, steps_from}
-use Rattle.plane.specs.Runs.Steps.{Run, Step, after}
+use Rattle.plane.specs.Runs.Steps.{Run, Step}
 use Rattle.plane.specs.declared.kinds.Edge.{Edge}
 use Rattle.plane.specs.declared.kinds.Point.{Point}
 use Rattle.point_location.specs.Places.{IsCell}

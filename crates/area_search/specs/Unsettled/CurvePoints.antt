@@ -1,6 +1,6 @@
 -- Objects' points on curves: the least of a kind, and the lists in which those on curves that are
 -- chosen by their marks are looked for.
-use Rattle.std.specs.Prelude.{◌≡◌, ◌⊎◌, ℕ, ◌+◌, ◌-◌, ◌<◌, ◌≤◌, Bool, true, Option, Some, None, List}
+use Rattle.std.specs.Prelude.{◌≡◌, ◌⊎◌, ℕ, ◌+◌, ◌-◌, ◌<◌, ◌≤◌, Bool, Option, Some, None, List}
 use Rattle.std.specs.Prelude.{length, slice_index, slice_index_or, ⊤}
 use Rattle.plane.specs.Forms.Boxes.{HoldsCurve, InBox}
 use Rattle.plane.specs.Rule.Places.{point}

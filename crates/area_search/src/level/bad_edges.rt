@@ -1,20 +1,14 @@
 // What two bad edges of a level show.
 ghost use Rattle.std.specs.Prelude.{◌≡◌, ◌⊎◌, ℕ, ◌<◌, Some, IfSome, length};
-ghost use Rattle.plane.specs.Rule.BadPairs.{IsBadPair};
 ghost use Rattle.plane.specs.Rule.Plans.{plan};
 ghost use Rattle.tubes.specs.Settled.{IsSettledAt};
 ghost use Rattle.area_search.specs.Settled.CaseRoots.{owner_at};
 ghost use Rattle.area_search.specs.Level.LevelAnswers.{AreOfCurves, AreOfDrawing, IsShown};
 
 use super::by_sweep::Shown;
-use crate::kinds::{AreaAnswer, AreaFinding};
 use meetings::is_bad;
 use plane::Drawing;
 use tubes::Owner;
-
-/// Of a drawing of so many curves or fewer the pairs are searched for the least bad one. In larger
-/// ones that could take the square of their number.
-const FEW_CURVES: usize = 2048;
 
 /// Two curves by their numbers, the lesser first.
 #[derive(Clone, Copy, Debug, PartialEq, Eq)]
@@ -52,25 +46,10 @@ fn shown_by_curves(drawing: &Drawing, pair: CurvePair) -> Shown
         → IsShown (plan drawing.now) level result }
 {
     if is_bad(drawing, pair.first, pair.second) {
-        shown_by_bad(drawing, pair)
+        Shown::AtFault(pair)
     } else {
         Shown::Unsettled(Some(pair))
     }
-}
-
-/// What two bad curves show: they are named, or in a drawing of few curves only that some pair is
-/// bad, since its least pair is looked for among all pairs.
-fn shown_by_bad(drawing: &Drawing, pair: CurvePair) -> Shown
-    requires { IsBadPair (plan drawing.now) pair.first pair.second }
-    ensures { (level : ℕ) → IsShown (plan drawing.now) level result }
-{
-    if drawing.curves.len() <= FEW_CURVES {
-        return Shown::AtFault;
-    }
-    Shown::Answer(AreaAnswer::Fault(AreaFinding::Meeting {
-        first: pair.first,
-        second: pair.second,
-    }))
 }
 
 /// Two curves in order, where they are two.

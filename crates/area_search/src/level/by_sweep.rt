@@ -7,6 +7,7 @@ ghost use Rattle.plane.specs.Runs.Gaps.{closed_gaps};
 ghost use Rattle.plane.specs.Runs.Moves.{Fit, steps_from};
 ghost use Rattle.plane.specs.Runs.Steps.{Run};
 ghost use Rattle.straight_predicates.specs.EdgeLists.{edge_of};
+ghost use Rattle.tubes.specs.FewEdges.{HasFewEdges};
 ghost use Rattle.tubes.specs.TubedEdges.{AreUsable, IsTubedList};
 ghost use Rattle.area_search.specs.Answers.{SettlesNoneBelow};
 ghost use Rattle.area_search.specs.Level.LevelAnswers.{IsShown};
@@ -29,19 +30,18 @@ pub(crate) enum Shown {
     Answer(AreaAnswer),
     /// The level does not settle the drawing. Where two bad edges show it, their two curves.
     Unsettled(Option<CurvePair>),
-    /// Some pair is bad, in a drawing of few curves, whose least bad pair is looked for.
-    AtFault,
+    /// The level does not settle the drawing, since these two curves are bad.
+    AtFault(CurvePair),
 }
 
 /// What the edges of a level show of a drawing that no lower level settles. The only error is out
 /// of memory.
 pub(crate) fn answer_by_sweep(alloc: Global, drawing: &Drawing, level: u8) -> Result<Shown, Memory>
-    requires curves { length (plan drawing.now).curves ≤ 16000000 }
+    requires few { HasFewEdges (plan drawing.now) }
     requires low { level ≤ 5 }
     requires least { SettlesNoneBelow (plan drawing.now) level }
     ensures { IfOk result (IsShown (plan drawing.now) level) }
 {
-    tubes::laws::few_edges();
     level_breaks::laws::settled_is_unbroken();
     if level > 0 && is_tube_missing(alloc, drawing, level)? {
         return Ok(Shown::Unsettled(None));

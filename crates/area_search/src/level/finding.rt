@@ -1,8 +1,10 @@
 // The answer to a drawing.
 ghost use Rattle.std.specs.Prelude.{◌≤◌, IfOk, length};
 ghost use Rattle.plane.specs.Rule.Plans.{plan};
-ghost use Rattle.area_search.specs.Answers.{IsAnswer, SettlesNoneBelow};
-ghost use Rattle.area_search.specs.Level.LevelAnswers.{AreOfDrawing, IsShown};
+ghost use Rattle.tubes.specs.FewEdges.{HasFewEdges};
+ghost use Rattle.area_search.specs.Answers.{SettlesNoneBelow};
+ghost use Rattle.area_search.specs.Grounds.{IsAnswerBy, IsSettledAnswer};
+ghost use Rattle.area_search.specs.Level.LevelAnswers.{AreOfDrawing, AreShown, IsShown};
 
 use super::at_fault::answer_at_fault;
 use super::bad_edges::CurvePair;
@@ -14,23 +16,62 @@ use plane::Drawing;
 use ports::Memory;
 use std::alloc::Global;
 
-/// The answer to a drawing of at most 16,000,000 curves: a certificate with empty names where it is
-/// a partition without a cut that some level settles, else its first fault in the order of the
-/// answers; or the pair that no level settles. The only error is out of memory. For the costs see
-/// the head of the crate.
+/// The answer to a drawing of at most 16,000,000 curves, by its ground: itself where some level
+/// settles it, else what becomes of it when its forks are bent, by the overlap that it permits. It
+/// is a certificate with empty names where the ground is a partition without a cut that some level
+/// settles, else the first fault in the order of the answers; or the pair that no level settles.
+/// The only error is out of memory. For the costs see the head of the crate.
 pub fn find_area(alloc: Global, drawing: &Drawing) -> Result<AreaAnswer, Memory>
     requires curves { length (plan drawing.now).curves ≤ 16000000 }
-    ensures { IfOk result (IsAnswer (plan drawing.now)) }
+    ensures { IfOk result (IsAnswerBy drawing.now.tolerance (plan drawing.now)) }
+{
+    tubes::laws::few_curves_have_few_edges();
+    match all_levels(alloc, drawing)? {
+        LevelsShown::Answer(answer) => Ok(answer),
+        LevelsShown::Unsettled(Some(bad)) => answer_at_fault(alloc, drawing, bad),
+        LevelsShown::Unsettled(None) => answer_unsettled(alloc, drawing),
+    }
+}
+
+/// The answer to a drawing that some level settles, none where no level does. The only error is out
+/// of memory.
+pub(crate) fn settled_answer(alloc: Global, drawing: &Drawing) -> Result<Option<AreaAnswer>, Memory>
+    requires few { HasFewEdges (plan drawing.now) }
+    ensures { IfOk result (IsSettledAnswer (plan drawing.now)) }
+{
+    match all_levels(alloc, drawing)? {
+        LevelsShown::Answer(answer) => Ok(Some(answer)),
+        LevelsShown::Unsettled(_) => Ok(None),
+    }
+}
+
+/// What the levels from 0 to 5 show of a drawing.
+#[derive(Drop)]
+pub(crate) enum LevelsShown {
+    /// The answer: some level settles the drawing.
+    Answer(AreaAnswer),
+    /// No level settles the drawing. Two curves that are bad, where some were met.
+    Unsettled(Option<CurvePair>),
+}
+
+/// Tries the levels in turn. The only error is out of memory.
+fn all_levels(alloc: Global, drawing: &Drawing) -> Result<LevelsShown, Memory>
+    requires few { HasFewEdges (plan drawing.now) }
+    ensures { IfOk result (AreShown (plan drawing.now)) }
 {
     let mut pair = None;
+    let mut bad = None;
     for level in 0..6 {
         match shown_at(alloc, drawing, level, pair)? {
-            Shown::Answer(answer) => return Ok(answer),
+            Shown::Answer(answer) => return Ok(LevelsShown::Answer(answer)),
             Shown::Unsettled(next) => pair = next,
-            Shown::AtFault => return answer_at_fault(alloc, drawing),
+            Shown::AtFault(two) => {
+                pair = Some(two);
+                bad = Some(two);
+            }
         }
     }
-    answer_unsettled(alloc, drawing)
+    Ok(LevelsShown::Unsettled(bad))
 }
 
 /// What is shown of a level that is the least one or follows one that does not settle the drawing:
@@ -42,7 +83,7 @@ fn shown_at(
     level: u8,
     pair: Option<CurvePair>,
 ) -> Result<Shown, Memory>
-    requires curves { length (plan drawing.now).curves ≤ 16000000 }
+    requires few { HasFewEdges (plan drawing.now) }
     requires low { level ≤ 5 }
     requires least { SettlesNoneBelow (plan drawing.now) level }
     requires pair { AreOfDrawing (plan drawing.now) pair }

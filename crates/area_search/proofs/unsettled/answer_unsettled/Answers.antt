@@ -1,7 +1,8 @@
 use Rattle.std.proofs.Common.{sym, subst}
 use Rattle.plane.specs.Rule.Plans.{plan}
 use Rattle.meetings.specs.StraightRuns.{IsStraightRun}
-use Rattle.area_search.specs.Answers.{IsAnswer, meeting}
+use Rattle.area_search.specs.Grounds.{IsAnswerBy}
+use Rattle.area_search.proofs.Grounds.{own_meeting}
 use Rattle.area_search.proofs.LevelLemmas.LevelSearch.{straights_clear}
 use Rattle.area_search.proofs.unsettled.answer_unsettled.Goals as goal
 
@@ -13,4 +14,6 @@ answer_clear-requires-clause-straights c =
 pub returns-in-Bad : goal.returns-in-Bad
 returns-in-Bad c =
     let bad = subst (IsStraightRun (plan c.args.drawing.now)) c.in-Bad.is c.in_ok-pair.ensures in
-    subst (IsAnswer (plan c.args.drawing.now)) (sym c.meeting.ensures) (meeting c.in-Bad.pair.first c.in-Bad.pair.second bad)
+    let d = plan c.args.drawing.now in
+    let t = c.args.drawing.now.tolerance in
+    subst (IsAnswerBy t d) (sym c.meeting.ensures) (own_meeting t d c.in-Bad.pair.first c.in-Bad.pair.second bad)

@@ -1,14 +1,22 @@
 use Rattle.std.proofs.Common.{sym, subst}
 use Rattle.plane.specs.Rule.Plans.{plan}
-use Rattle.area_search.specs.Answers.{IsAnswer, meeting}
+use Rattle.area_search.specs.Grounds.{IsAnswerBy}
+use Rattle.area_search.proofs.Grounds.{own_meeting}
 use Rattle.area_search.proofs.level.at_fault.answer_at_fault.Goals as goal
+
+pub returns-then-len-gt-FEW_CURVES : goal.returns-then-len-gt-FEW_CURVES
+returns-then-len-gt-FEW_CURVES c =
+    let d = plan c.args.drawing.now in
+    let t = c.args.drawing.now.tolerance in
+    let p = c.args.pair in
+    subst (IsAnswerBy t d) (sym c.meeting.ensures) (own_meeting t d p.first p.second c.requires)
 
 pub returns : goal.returns
 returns c =
-    let bad = rw c.in-Some.is at c.in_ok-pair.ensures.bad in
-    subst (IsAnswer (plan c.args.drawing.now)) (sym c.meeting.ensures) (meeting c.in-Some.pair.first c.in-Some.pair.second bad)
+    let d = plan c.args.drawing.now in
+    let t = c.args.drawing.now.tolerance in
+    let bad = rw c.in-Some.is at c.in_ok-least.ensures.bad in
+    subst (IsAnswerBy t d) (sym c.meeting-in-Some.ensures) (own_meeting t d c.in-Some.least.first c.in-Some.least.second bad)
 
 pub unreachable-requires : goal.unreachable-requires
-unreachable-requires c =
-    let (i, j, bad) = c.requires in
-    c.in_ok-pair.ensures.none c.in-None.is i j bad
+unreachable-requires c = c.in_ok-least.ensures.none c.in-None.is c.args.pair.first c.args.pair.second c.requires

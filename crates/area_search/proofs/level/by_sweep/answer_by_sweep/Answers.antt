@@ -1,15 +1,16 @@
-use Rattle.std.proofs.Common.{refl, rules, subst}
+use Rattle.std.proofs.Common.{ap, arith, length, refl, rules, subst}
 use Rattle.plane.specs.Rule.Plans.{plan}
 use Rattle.tubes.specs.Settled.{missing}
 use Rattle.tubes.specs.TubedEdges.{IsListAt}
-use Rattle.area_search.proofs.LevelLemmas.CellSideLemmas.{few_of}
 use Rattle.area_search.proofs.level.by_sweep.answer_by_sweep.Goals as goal
 
 pub answer_list-requires-clause-few : goal.answer_list-requires-clause-few
 answer_list-requires-clause-few c =
     let d = plan c.args.drawing.now in
     let t = subst (IsListAt d c.args.level) c.in-Some.is c.in_ok-list.ensures.list in
-    few_of d c.args.level c.in-Some.list t (c.few_edges.ensures d c.args.level c.requires.low t.tubes) c.requires.curves
+    let few = c.requires.few c.args.level c.requires.low t.tubes in
+    let size = ap length t.edges in
+    omega (arith, few, size)
 
 pub returns-in-None : goal.returns-in-None
 returns-in-None c =

@@ -1,4 +1,4 @@
-use Rattle.std.proofs.Common.{◌≡◌, ℕ, ◌<◌, List, length, map, slice_index, ap, sym, subst, ◌∙◌, [], arith}
+use Rattle.std.proofs.Common.{◌≡◌, ℕ, ◌<◌, List, length, map, slice_index, ap, sym, subst, ◌∙◌, []}
 use Rattle.std.proofs.lemmas.List.{length-map}
 use Rattle.half_edges.specs.HalfEdges.{size}
 use Rattle.plane.specs.Rule.Plans.{plan}
