@@ -4,6 +4,7 @@ pub mod KeptAt
 pub mod LineForms
 pub mod LineNames
 pub mod RowSteps
+pub mod StrokeCurves
 pub mod StrokeSteps
 pub mod Windows
 pub mod Zips

@@ -14,7 +14,7 @@ use Rattle.table_layout.specs.Values.{columns_view}
 use Rattle.table_layout.specs.declared.layouts.Column.{Column as CodeColumn}
 use Rattle.itf_reader.specs.Forms.{Row}
 use Rattle.itf_reader.specs.RowReadings.{Cell, cells_view}
-use Rattle.itf_reader.specs.StrokeFindings.{Seen, is_of_area}
+use Rattle.itf_reader.specs.StrokeFindings.{Seen}
 use Rattle.itf_reader.specs.declared.rows.values.Cell.{Cell as CodeCell}
 use Rattle.plane.specs.declared.kinds.Placed.{Placed}
 use Rattle.area_drawings.specs.declared.kept_points.PointColumn.{PointColumn as CodePoints}
@@ -22,7 +22,8 @@ use Rattle.area_drawings.specs.KeptLines.{row_vertices, vertex_count, Lines, lin
 use Rattle.area_drawings.specs.KeptPoints.{row_cells, cell_points, row_points, PointColumn}
 use Rattle.area_drawings.specs.KeptPoints.{point_column, points_kept, with_point, with_points}
 use Rattle.area_drawings.specs.KeptPoints.{points_in_column}
-use Rattle.area_drawings.specs.KeptRows.{is_area_point, area_columns, Kept, kept, with_row}
+use Rattle.area_drawings.specs.KeptRows.{is_area_point, are_lines, area_columns, Kept, kept}
+use Rattle.area_drawings.specs.KeptRows.{with_row}
 use Rattle.area_drawings.specs.KeptViews as views
 
 -- ---- one row more
@@ -76,7 +77,7 @@ pub kept_more : (codes : Codes) (t : Table) (rows : List Row) (r : Row)
 kept_more codes t rows r =
     let ns = area_columns 0 t.columns in
     ap (λ (ls : Option Lines). kept_made ls (points_kept codes t ns (rows ++ r ∷ [])))
-    (lines_if (is_of_area t.role) (lines_kept t rows) (lines_kept t (rows ++ r ∷ []))
+    (lines_if (are_lines t.role) (lines_kept t rows) (lines_kept t (rows ++ r ∷ []))
     (with_line (row_vertices t r)) (lines_more t rows r))
     ∙ ap (kept_made (option_map (with_line (row_vertices t r)) (kept codes t rows).lines))
     (points_more codes t ns rows r)

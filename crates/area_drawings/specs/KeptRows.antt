@@ -1,13 +1,14 @@
--- What is kept of the rows of a table that come one after another: what areas are drawn from.
+-- What is kept of the rows of a table that come one after another: what AREAs and SURFACEs are
+-- drawn from.
 use Rattle.std.specs.Prelude.{ℕ, ◌+◌, Bool, true, false, if◌then◌else◌, List, [], ◌∷◌}
 use Rattle.std.specs.Prelude.{Option, Some, None}
 use Rattle.std.specs.Option.{option_map}
 use Rattle.ili_grammar.specs.Syntax.{Codes}
 use Rattle.resolver.specs.Resolved.{Form, AreaPoint}
-use Rattle.table_layout.specs.Layouts.{Column, Table}
+use Rattle.table_layout.specs.Layouts.{Role, Main, AreaLines, SurfaceLines, Column, Table}
 use Rattle.itf_reader.specs.Forms.{Row}
 use Rattle.itf_reader.specs.RowReadings.{Cell}
-use Rattle.itf_reader.specs.StrokeFindings.{Seen, is_of_area}
+use Rattle.itf_reader.specs.StrokeFindings.{Seen}
 use Rattle.area_drawings.specs.KeptLines.{Lines, lines_kept, with_line}
 use Rattle.area_drawings.specs.KeptPoints.{PointColumn, points_kept, with_points}
 
@@ -23,7 +24,13 @@ area_columns n [] = []
 area_columns n (c ∷ cs) =
     if is_area_point c.form then n ∷ area_columns (n + 1) cs else area_columns (n + 1) cs
 
--- what is kept of rows: if they are lines of an area, these; and the points in some columns
+-- the rows of a table of that role are lines of an AREA or of a SURFACE
+abbrev pub are_lines : Role → Bool
+are_lines Main = false
+are_lines (AreaLines main column) = true
+are_lines (SurfaceLines main) = true
+
+-- what is kept of rows: if they are lines, these; and the points in some columns
 pub record Kept : Type 0 where
   pub lines : Option Lines
   pub points : List PointColumn
@@ -31,7 +38,7 @@ pub record Kept : Type 0 where
 -- of the rows of a table, with the points in the columns that are the points of areas
 abbrev pub kept : Codes → Table → List Row → Kept
 kept codes t rows = record {
-  lines = if is_of_area t.role then Some (lines_kept t rows) else None;
+  lines = if are_lines t.role then Some (lines_kept t rows) else None;
   points = points_kept codes t (area_columns 0 t.columns) rows;
 }
 

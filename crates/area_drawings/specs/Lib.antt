@@ -7,3 +7,4 @@ pub mod KeptPoints
 pub mod KeptRows
 pub mod KeptViews
 pub mod LineNames
+pub mod Strokes

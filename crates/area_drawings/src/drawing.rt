@@ -49,8 +49,8 @@ fn add_after(start: Place, vertices: &[ReadVertex], drawing: &mut Drawing) -> Re
     Ok(())
 }
 
-// Adds the curves of a line by its vertices.
-fn add_stroke(vertices: &[ReadVertex], drawing: &mut Drawing) -> Result<(), Memory>
+/// Adds the curves of a line by its vertices.
+pub fn add_stroke(vertices: &[ReadVertex], drawing: &mut Drawing) -> Result<(), Memory>
     requires inside { AreIn drawing.old.window (vertices_view vertices.now) }
     requires room { vec_len drawing.old.curves + length vertices.now < 2 ^ 30 }
     ensures curves { OnOk result (drawing.new.curves.items ≡ drawing.old.curves.items ++

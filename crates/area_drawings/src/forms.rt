@@ -1,6 +1,7 @@
 // The forms of an area in the layout.
 ghost use Rattle.std.specs.Prelude.{◌≡◌, ◌∷◌, [], Some, slice_get};
 ghost use Rattle.plane.specs.Rule.Overlaps.{IsTolerance};
+ghost use Rattle.resolver.specs.Resolved.{LineForm as GivenForm};
 ghost use Rattle.resolver.specs.Sound.{IsNarrow};
 ghost use Rattle.resolver.specs.Values.{line_of, window_of};
 ghost use Rattle.table_layout.specs.Values.{area_view, layout_view, lines_view, tables_view};
@@ -22,6 +23,19 @@ fn lines_of(layout: &Layout, id: TableId) -> &[LineForm]
     match layout.tables.get(id.0 as usize) {
         Some(table) => &table.lines,
         None => &[],
+    }
+}
+
+/// The form of the lines of a table that has one.
+pub fn only_form(layout: &Layout, id: TableId) -> &LineForm
+    requires { (form : GivenForm) × (lines_in (slice_get (tables_view layout.now.tables.items)
+        id.0) ≡ form ∷ []) }
+    ensures { lines_in (slice_get (tables_view layout.now.tables.items) id.0)
+        ≡ line_of result.now ∷ [] }
+{
+    match lines_of(layout, id) {
+        [form, ..] => form,
+        [] => unreachable!(),
     }
 }
 

@@ -34,11 +34,13 @@ mod forms;
 mod kept_lines;
 mod kept_points;
 pub mod laws;
+mod strokes;
 mod table_places;
 
 pub use area_limits::AREA_LIMIT;
 pub use drawing::{draw, drawings_from};
-pub use forms::line_form;
+pub use forms::{line_form, only_form};
 pub use kept_lines::KeptLines;
 pub use kept_points::{KeptPoints, PointColumn};
+pub use strokes::{draw_some, draw_strokes};
 pub use table_places::TablePlaces;

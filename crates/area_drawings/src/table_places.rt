@@ -5,10 +5,9 @@ ghost use Rattle.resolver.specs.Values.{form_of};
 ghost use Rattle.table_layout.specs.Layouts.{Table as GivenTable};
 ghost use Rattle.table_layout.specs.Values.{columns_view, role_view, table_view};
 ghost use Rattle.itf_reader.specs.RowReadings.{cells_view, vertices_view};
-ghost use Rattle.itf_reader.specs.StrokeFindings.{is_of_area};
 ghost use Rattle.area_drawings.specs.KeptPoints.{points_in_column, points_kept};
-ghost use Rattle.area_drawings.specs.KeptRows.{area_columns, counts_in, is_area_point, kept};
-ghost use Rattle.area_drawings.specs.KeptRows.{vertices_in, with_row};
+ghost use Rattle.area_drawings.specs.KeptRows.{are_lines, area_columns, counts_in, is_area_point};
+ghost use Rattle.area_drawings.specs.KeptRows.{kept, vertices_in, with_row};
 ghost use Rattle.area_drawings.specs.KeptViews.{kept_of, points_of};
 
 use crate::kept_lines::KeptLines;
@@ -20,7 +19,7 @@ use resolver::Form;
 use std::alloc::Global;
 use table_layout::{Column, Role, Table};
 
-/// What areas are drawn from, of the rows of a table: if these are lines of an area, their
+/// What AREAs and SURFACEs are drawn from, of the rows of a table: if these are lines of one, their
 /// vertices; and the points in the columns that are the points of areas.
 #[derive(Drop)]
 pub struct TablePlaces {
@@ -52,13 +51,13 @@ fn area_points(alloc: Global, columns: &[Column]) -> Result<KeptPoints, Memory>
     Ok(kept)
 }
 
-// The rows of a table are lines of an area.
-fn is_of_area(role: Role) -> bool
-    ensures { result ≡ is_of_area (role_view role) }
+// The rows of a table of that role are lines of an AREA or of a SURFACE.
+fn are_lines(role: Role) -> bool
+    ensures { result ≡ are_lines (role_view role) }
 {
     match role {
-        Role::AreaLines { .. } => true,
-        Role::Main | Role::SurfaceLines { .. } => false,
+        Role::AreaLines { .. } | Role::SurfaceLines { .. } => true,
+        Role::Main => false,
     }
 }
 
@@ -69,7 +68,7 @@ impl TablePlaces {
             → kept_of k ≡ kept codes (table_view table.now) []) }
     {
         let points = area_points(alloc, &table.columns)?;
-        let lines = if is_of_area(table.role) {
+        let lines = if are_lines(table.role) {
             Some(KeptLines::new(alloc))
         } else {
             None

@@ -144,6 +144,22 @@ pub rows_counted : (l : Layout) (rows : List (ℕ × Row)) (place : ℕ) (ks : L
 rows_counted l rows place ks lines h e =
     ap (λ (ns : List ℕ). length ns) (e ∙ ap (λ (k : List Kept). slice_index_or (all_lines k) place []) h) ∙ counted_from l.codes 0 place l.tables rows
 
+-- ---- the lines of the rows of a table
+lined_from : (codes : Codes) (n place : ℕ) (ts : List Table) (rows : List (ℕ × Row))
+    → slice_index_or (all_lines (kept_from codes n ts rows)) place []
+    ≡ map row_line (slice_index_or (by_table_from n (map wanted_of ts) rows) place [])
+lined_from codes n place [] rows = refl
+lined_from codes n zero (t ∷ ts) rows = refl
+lined_from codes n (suc place) (t ∷ ts) rows = lined_from codes (n + 1) place ts rows
+
+pub rows_lined : (l : Layout) (rows : List (ℕ × Row)) (place : ℕ) (ks : List Kept) (lines : List ℕ)
+    → ks ≡ kept_rows l rows → lines ≡ slice_index_or (all_lines ks) place []
+    → lines ≡ map row_line (slice_index_or (by_table (form_of l) rows) place [])
+rows_lined l rows place ks lines h e =
+    e
+    ∙ ap (λ (k : List Kept). slice_index_or (all_lines k) place []) h
+    ∙ lined_from l.codes 0 place l.tables rows
+
 pub lines_there : (tables : List TableKeys) (place : ℕ) (t : TableKeys) → place < length tables → t ≡ get_or tables place t → t.lines.items ≡ slice_index_or (all_lines (all_kept_view tables)) place []
 lines_there [] place t lt e = absurd (omega (arith, lt))
 lines_there (y ∷ tables) zero t lt e = ap (λ (k : TableKeys). k.lines.items) e

@@ -1,5 +1,5 @@
 // What the keys of all rows can be asked: what is wrong with them, and which rows are named.
-ghost use Rattle.std.specs.Prelude.{◌≡◌, ◌++◌, ℕ, List, IfOk, OnOk};
+ghost use Rattle.std.specs.Prelude.{◌≡◌, ◌++◌, [], ℕ, List, IfOk, OnOk, map, slice_index_or};
 ghost use Rattle.std.specs.List.{flat_map};
 ghost use Rattle.table_layout.specs.Layouts.{Layout as GivenLayout};
 ghost use Rattle.itf_reader.specs.ClosedRows.{by_table};
@@ -8,11 +8,13 @@ ghost use Rattle.itf_reader.specs.Forms.{Row as GivenRow};
 ghost use Rattle.itf_reader.specs.Layouts.{form_of};
 ghost use Rattle.ident_refs.specs.FedRows.{fed_keys};
 ghost use Rattle.ident_refs.specs.KeptRows.{all_ids, all_lines, all_kept_findings, ref_names, refs_at};
+ghost use Rattle.ident_refs.specs.KeptRows.{row_line};
 ghost use Rattle.ident_refs.specs.KeptViews.{ids_view, all_kept_view, named_view, refs_view};
 ghost use Rattle.ident_refs.specs.KeptViews.{row_lines_view};
 ghost use Rattle.ident_refs.specs.KeysOfRows.{HasKeys};
 ghost use Rattle.ident_refs.specs.NamedRows.{rows_named};
 
+use super::feed::lines_at;
 use super::references::{KeptRef, NamedRow, add_named};
 use super::repeats::KeyColumn;
 use super::sorted::Keys;
@@ -75,6 +77,16 @@ impl<'b, 'a> Keys<'b, 'a> {
     {
         add_findings(self.tables, &self.ids, findings)?;
         Ok(())
+    }
+
+    /// The lines of the rows of that table, in order; none of a table that the layout lacks. It
+    /// takes no memory.
+    pub fn row_lines(&self, table: TableId) -> &[u32]
+        ensures { (l : GivenLayout) (rows : List (ℕ × GivenRow)) → HasKeys l self.now rows
+            → result.now
+            ≡ map row_line (slice_index_or (by_table (form_of l) rows) table.0 []) }
+    {
+        lines_at(self.tables, table.0 as usize)
     }
 
     /// The rows that the references in a column name, with the lines of the rows that name them, in

@@ -72,8 +72,8 @@ fn add_rows(tables: &mut [TableKeys], place: usize, rows: &[Row]) -> Result<(), 
     Ok(())
 }
 
-// The lines of the rows of the table at that place, none where there is no such table.
-fn lines_at<'a>(tables: &'a [TableKeys], place: usize) -> &'a [u32]
+/// The lines of the rows of the table at that place, none where there is no such table.
+pub fn lines_at<'a>(tables: &'a [TableKeys], place: usize) -> &'a [u32]
     ensures { result.now ≡ slice_index_or (all_lines (all_kept_view tables.now)) place [] }
 {
     match tables.get(place) {
