@@ -12,6 +12,7 @@ use Rattle.polygons.specs.Polygons.{AreTraced, IsPolygonOf}
 abbrev pub outlines : List Polygon → List (List (List Point))
 outlines polygons = map (λ (p : Polygon). shapes p.rings.items) polygons
 
+-- the rings of the face of that number
 abbrev pub outline : List (List (List Point)) → ℕ → List (List Point)
 outline os f = slice_index_or os f []
 

@@ -34,10 +34,12 @@ abbrev pub sides_to : Point → Point → List Point → List Side
 sides_to end p [] = record { from = p; to = end } ∷ []
 sides_to end p (q ∷ qs) = record { from = p; to = q } ∷ sides_to end q qs
 
+-- the sides of a ring, from each corner to the next one and from the last to the first
 abbrev pub sides_of : List Point → List Side
 sides_of [] = []
 sides_of (p ∷ ps) = sides_to p p ps
 
+-- the sides of all rings
 abbrev pub all_sides : List (List Point) → List Side
 all_sides [] = []
 all_sides (ring ∷ rings) = sides_of ring ++ all_sides rings

@@ -1,7 +1,8 @@
 -- The text of the polygons of areas.
 use Rattle.std.specs.Prelude.{ℕ, List, [], ◌∷◌, ◌++◌, Option, Some, None, codes, length, map}
 use Rattle.std.specs.Fmt.{decimal, signed_decimal}
-use Rattle.std.specs.List.{flat_map}
+use Rattle.std.specs.List.{flat_map, zip}
+use Rattle.plane.specs.declared.kinds.Placed.{Placed}
 use Rattle.plane.specs.declared.kinds.Point.{Point}
 use Rattle.polygons.specs.declared.areas.AreaObjects.{AreaObjects}
 use Rattle.polygons.specs.declared.areas.AreaObjects.TheVariants.{Polygons, Skipped}
@@ -47,6 +48,7 @@ abbrev pub count_word : Option (List Object) → List ℕ
 count_word None = codes "SKIPPED"
 count_word (Some objects) = decimal (length objects)
 
+-- the objects that are written, none where the area is skipped
 abbrev pub objects_of : Option (List Object) → List Object
 objects_of None = []
 objects_of (Some objects) = objects
@@ -63,6 +65,12 @@ polygons_text areas =
     line (codes "ITFPOLY" ∷ codes "1" ∷ [])
     ++ (line (codes "AREAS" ∷ decimal (length areas) ∷ [])
     ++ (flat_map area_text areas ++ line (codes "END" ∷ [])))
+
+-- the polygons of objects, each with the line of the object's point
+abbrev pub with_lines : List Placed → List (List (List Point)) → List Object
+with_lines points polygons =
+    map (λ (o : Placed × List (List Point)). record { line = o.0.line; rings = o.1 })
+    (zip points polygons)
 
 -- ---- what the code has
 abbrev pub object_view : ObjectPolygon → Object

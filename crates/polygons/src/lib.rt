@@ -34,7 +34,7 @@ mod leading;
 mod tracing;
 mod writing;
 
-pub use areas::{AreaObjects, AreaPolygons, ObjectPolygon};
+pub use areas::{AreaObjects, AreaPolygons, ObjectPolygon, with_lines};
 pub use building::{all_polygons, polygon};
 pub use choosing::polygons_of;
 pub use kinds::{Polygon, Ring};
