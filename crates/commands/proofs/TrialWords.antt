@@ -41,4 +41,4 @@ no_compile words n a m h k =
 
 pub no_names : (words : List (List ℕ)) (n : ℕ) (a command : List ℕ) (c : FileNames) → IsTrial words n a → IsSpelled command words c → ⊥
 no_names words n a command c h k =
-    let e : codes "trial" ∷ h.word ∷ a ∷ [] ≡ command ∷ c.model ∷ c.transfer ∷ c.certificate ∷ [] = sym h.spelled ∙ k.spelled in absurd (cc)
+    let e : codes "trial" ∷ h.word ∷ a ∷ [] ≡ command ∷ c.model ∷ c.transfer ∷ c.third ∷ [] = sym h.spelled ∙ k.spelled in absurd (cc)

@@ -1,7 +1,7 @@
 -- The command of the code and its task, without where they lie in memory.
 use Rattle.std.specs.Prelude.{◌≤◌, ⊤}
 use Rattle.commands.specs.Commands.{FileNames, Command, compile, on_files, trial, Source, from_file}
-use Rattle.commands.specs.Commands.{made, Target, Task, lists, judges, verifies}
+use Rattle.commands.specs.Commands.{made, Target, Task, lists, judges, verifies, rewrites}
 use Rattle.commands.specs.TrialFiles.{transfer_text}
 use Rattle.commands.specs.declared.command.FileNames.{FileNames as CodeNames}
 use Rattle.commands.specs.declared.command.Command.{Command as CodeCommand}
@@ -15,7 +15,7 @@ use Rattle.commands.specs.declared.task.TransferSource.TheVariants as sources
 
 abbrev pub names_of : CodeNames → FileNames
 names_of c =
-    record { model = c.model.now; transfer = c.transfer.now; certificate = c.certificate.now }
+    record { model = c.model.now; transfer = c.transfer.now; third = c.third.now }
 
 abbrev pub command_of : CodeCommand → Command
 command_of (commands.Compile model) = compile model.now
@@ -23,7 +23,7 @@ command_of (commands.OnFiles verb c) = on_files verb (names_of c)
 command_of (commands.Trial t) = trial t.size t.certificate.now
 
 abbrev pub target_of : CodeTarget → Target
-target_of t = record { name = t.name.now; trial = t.trial }
+target_of t = record { name = t.name.now; filed = t.filed }
 
 abbrev pub transfer_of : TransferSource → Source
 transfer_of (sources.File name) = from_file Transfer name.now
@@ -34,6 +34,7 @@ task_view tasks.Lists = lists
 task_view (tasks.Judges transfer target) = judges (transfer_of transfer) (target_of target)
 task_view (tasks.Verifies transfer certificates) =
     verifies (transfer_of transfer) (from_file Certificate certificates.now)
+task_view (tasks.Rewrites transfer file) = rewrites (from_file Transfer transfer.now) file.now
 
 -- a grid that is made has no more cells than a size allows
 abbrev pub IsSmallSource : TransferSource → Type 0
@@ -44,3 +45,4 @@ abbrev pub IsSmallTask : CodeTask → Type 0
 IsSmallTask tasks.Lists = ⊤
 IsSmallTask (tasks.Judges transfer target) = IsSmallSource transfer
 IsSmallTask (tasks.Verifies transfer certificates) = IsSmallSource transfer
+IsSmallTask (tasks.Rewrites transfer file) = ⊤

@@ -3,21 +3,25 @@ use Rattle.std.specs.Prelude.{◌≡◌, ◌≤◌, ℕ, Bool, true, false, not,
 use Rattle.std.specs.Prelude.{Some, None, ⊤, codes}
 use Rattle.commands.specs.TrialFiles.{IsSize, model_text, transfer_text}
 use Rattle.commands.specs.declared.command.Verb.{Verb}
-use Rattle.commands.specs.declared.command.Verb.TheVariants.{Check, Verify}
+use Rattle.commands.specs.declared.command.Verb.TheVariants.{Check, Verify, Polygons, Canonical}
 use Rattle.commands.specs.declared.files.File.{File}
 use Rattle.commands.specs.declared.files.File.TheVariants.{Model, Transfer, Certificate}
+use Rattle.commands.specs.declared.task.Filed.{Filed}
+use Rattle.commands.specs.declared.task.Filed.TheVariants as filed
 
--- the model, the transfer, and the third file, which is that of the certificates
+-- the model, the transfer, and a third file, which the verb reads or writes
 pub record FileNames : Type 0 where
   pub model : List ℕ
   pub transfer : List ℕ
-  pub certificate : List ℕ
+  pub third : List ℕ
 
 -- what the words may ask for
 pub data Command : Type 0 where
   -- compile M: the model
   compile : List ℕ → Command
-  -- check M T C: the certificates are written to their file; verify M T C: they are read from it
+  -- check M T C: the certificates are written to their file; verify M T C: they are read from it;
+  -- polygons M T P: the polygons of the areas are written to their file; canonical M T O: the
+  -- transfer is written to its file
   on_files : Verb → FileNames → Command
   -- trial N C: so many cells a side, and the file that the certificates are written to
   trial : ℕ → List ℕ → Command
@@ -31,6 +35,8 @@ is_file_name (c ∷ name) = not (c == 45)
 abbrev pub verb_word : Verb → List ℕ
 verb_word Check = codes "check"
 verb_word Verify = codes "verify"
+verb_word Polygons = codes "polygons"
+verb_word Canonical = codes "canonical"
 
 -- the words spell this command
 pub record IsCompile (words : List (List ℕ)) (model : List ℕ) : Type 0 where
@@ -39,10 +45,10 @@ pub record IsCompile (words : List (List ℕ)) (model : List ℕ) : Type 0 where
 
 -- the words are this command and the names of three files
 pub record IsSpelled (command : List ℕ) (words : List (List ℕ)) (c : FileNames) : Type 0 where
-  pub spelled : words ≡ command ∷ c.model ∷ c.transfer ∷ c.certificate ∷ []
+  pub spelled : words ≡ command ∷ c.model ∷ c.transfer ∷ c.third ∷ []
   pub model : is_file_name c.model ≡ true
   pub transfer : is_file_name c.transfer ≡ true
-  pub certificate : is_file_name c.certificate ≡ true
+  pub third : is_file_name c.third ≡ true
 
 -- trial N C: the word that is a size, and the name
 pub record IsTrial (words : List (List ℕ)) (size : ℕ) (certificate : List ℕ) : Type 0 where
@@ -88,32 +94,40 @@ model_of (on_files verb c) = from_file Model c.model
 model_of (trial n c) = made model_text
 
 -- ---- what a command does
--- where certificates go: the name of their file; and for a trial its size, which the report names
+-- what is written of a transfer that is judged and accepted, and the name of its file
 pub record Target : Type 0 where
   pub name : List ℕ
-  pub trial : Option ℕ
+  pub filed : Filed
 
 -- where a check files its certificates
 abbrev pub check_target : List ℕ → Target
-check_target name = record { name = name; trial = None }
+check_target name = record { name = name; filed = filed.Certificates }
 
 -- where a trial of size n files its certificates
 abbrev pub trial_target : ℕ → List ℕ → Target
-trial_target n name = record { name = name; trial = Some n }
+trial_target n name = record { name = name; filed = filed.Trial n }
+
+-- where the polygons of areas are filed
+abbrev pub polygons_target : List ℕ → Target
+polygons_target name = record { name = name; filed = filed.Polygons }
 
 -- what is done once the model is compiled
 pub data Task : Type 0 where
   -- its tables are listed
   lists : Task
-  -- a transfer is judged, and certificates of its areas go to the target
+  -- a transfer is judged, and where it is accepted its target is written
   judges : Source → Target → Task
   -- a transfer is judged, and the filed certificates against its areas
   verifies : Source → Source → Task
+  -- a transfer is written to the file of that name, in its canonical text
+  rewrites : Source → List ℕ → Task
 
 -- the task of a command on three files
 abbrev pub verb_task : Verb → FileNames → Task
-verb_task Check c = judges (from_file Transfer c.transfer) (check_target c.certificate)
-verb_task Verify c = verifies (from_file Transfer c.transfer) (from_file Certificate c.certificate)
+verb_task Check c = judges (from_file Transfer c.transfer) (check_target c.third)
+verb_task Verify c = verifies (from_file Transfer c.transfer) (from_file Certificate c.third)
+verb_task Polygons c = judges (from_file Transfer c.transfer) (polygons_target c.third)
+verb_task Canonical c = rewrites (from_file Transfer c.transfer) c.third
 
 -- the task of a command
 abbrev pub task_of : Command → Task
@@ -126,9 +140,11 @@ abbrev pub further_files : Task → List Source
 further_files lists = []
 further_files (judges transfer target) = transfer ∷ []
 further_files (verifies transfer certificates) = transfer ∷ certificates ∷ []
+further_files (rewrites transfer name) = transfer ∷ []
 
 -- the file that is written
 abbrev pub writes_to : Task → Option (List ℕ)
 writes_to lists = None
 writes_to (judges transfer target) = Some target.name
 writes_to (verifies transfer certificates) = None
+writes_to (rewrites transfer name) = Some name

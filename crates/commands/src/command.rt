@@ -8,12 +8,12 @@ ghost use Rattle.commands.specs.declared.command.Verb.{Verb as AnyVerb};
 use crate::trial::{TrialWords, trial_of};
 use crate::word::Word;
 
-/// The names of the model, of the transfer, and of the file of the certificates.
+/// The names of the model, of the transfer, and of a third file, which the verb reads or writes.
 #[derive(Clone, Copy)]
 pub struct FileNames<'a> {
     pub model: &'a str,
     pub transfer: &'a str,
-    pub certificate: &'a str,
+    pub third: &'a str,
 }
 
 /// What is done with a model, a transfer and a third file.
@@ -23,6 +23,10 @@ pub enum Verb {
     Check,
     /// `verify M T C`: the certificates are read from their file.
     Verify,
+    /// `polygons M T P`: the polygons of the areas are written to their file.
+    Polygons,
+    /// `canonical M T O`: the transfer is written to a file in its canonical text.
+    Canonical,
 }
 
 /// What the words ask for.
@@ -73,6 +77,12 @@ fn verb_of(word: &str) -> Option<Verb>
     if word == "verify" {
         return Some(Verb::Verify);
     }
+    if word == "polygons" {
+        return Some(Verb::Polygons);
+    }
+    if word == "canonical" {
+        return Some(Verb::Canonical);
+    }
     None
 }
 
@@ -83,19 +93,16 @@ fn files_of(words: &[Word]) -> Option<(Verb, FileNames<'_>)>
     ensures none { IfNone result ((verb : AnyVerb) (c : AnyNames)
         → IsSpelled (verb_word verb) words.now c → ⊥) }
 {
-    let [command, model, transfer, certificate] = words else {
+    let [command, model, transfer, third] = words else {
         return None;
     };
     let names = FileNames {
         model: model.text(),
         transfer: transfer.text(),
-        certificate: certificate.text(),
+        third: third.text(),
     };
     let verb = verb_of(command.text())?;
-    if is_file_name(names.model)
-        && is_file_name(names.transfer)
-        && is_file_name(names.certificate)
-    {
+    if is_file_name(names.model) && is_file_name(names.transfer) && is_file_name(names.third) {
         Some((verb, names))
     } else {
         None

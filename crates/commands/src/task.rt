@@ -9,12 +9,22 @@ ghost use Rattle.commands.specs.CommandViews.{command_of as command_view};
 use crate::command::{Command, FileNames, Verb};
 use crate::trial::TrialWords;
 
-/// Where certificates go: the name of their file; and for a trial its size, which the report
-/// says.
+/// What is written of a transfer that is judged and accepted.
+#[derive(Clone, Copy)]
+pub enum Filed {
+    /// The certificates of its areas.
+    Certificates,
+    /// The certificates of the areas of a trial of that size, which the report says.
+    Trial(u32),
+    /// The polygons of its areas.
+    Polygons,
+}
+
+/// What is written of a transfer that is judged and accepted, and the name of its file.
 #[derive(Clone, Copy)]
 pub struct Target<'a> {
     pub name: &'a str,
-    pub trial: Option<u32>,
+    pub filed: Filed,
 }
 
 /// Where the text of a transfer comes from.
@@ -31,7 +41,7 @@ pub enum TransferSource<'a> {
 pub enum Task<'a> {
     /// The tables of the model are listed.
     Lists,
-    /// A transfer is judged, and certificates of its areas go to the target.
+    /// A transfer is judged, and where it is accepted its target is written.
     Judges {
         transfer: TransferSource<'a>,
         target: Target<'a>,
@@ -40,6 +50,12 @@ pub enum Task<'a> {
     Verifies {
         transfer: TransferSource<'a>,
         certificates: &'a str,
+    },
+    /// The transfer of the file of that name is written to the other file, in its canonical text.
+    /// Its values are not judged.
+    Rewrites {
+        transfer: &'a str,
+        file: &'a str,
     },
 }
 
@@ -53,13 +69,24 @@ fn verb_task<'a>(verb: Verb, names: &FileNames<'a>) -> Task<'a>
         Verb::Check => Task::Judges {
             transfer,
             target: Target {
-                name: names.certificate,
-                trial: None,
+                name: names.third,
+                filed: Filed::Certificates,
             },
         },
         Verb::Verify => Task::Verifies {
             transfer,
-            certificates: names.certificate,
+            certificates: names.third,
+        },
+        Verb::Polygons => Task::Judges {
+            transfer,
+            target: Target {
+                name: names.third,
+                filed: Filed::Polygons,
+            },
+        },
+        Verb::Canonical => Task::Rewrites {
+            transfer: names.transfer,
+            file: names.third,
         },
     }
 }
@@ -75,7 +102,7 @@ fn trial_task<'a>(trial: &TrialWords<'a>) -> Task<'a>
         transfer: TransferSource::Grid(trial.size),
         target: Target {
             name: trial.certificate,
-            trial: Some(trial.size),
+            filed: Filed::Trial(trial.size),
         },
     }
 }

@@ -1,2 +1,3 @@
 pub mod AreaLines
 pub mod LineKinds
+pub mod SurfaceSteps

@@ -8,5 +8,7 @@ pub mod Lines
 pub mod OutcomeViews
 pub mod Outcomes
 pub mod Statuses
+pub mod SurfaceViews
+pub mod Surfaces
 pub mod VerificationViews
 pub mod Verifications

@@ -5,16 +5,18 @@ use Rattle.itf_reader.specs.Refusals.{fault_of}
 use Rattle.itf_reader.specs.declared.findings.Finding as found
 use Rattle.table_layout.specs.Values.{role_view}
 use Rattle.reports.specs.Lines as lines
-use Rattle.reports.specs.Lines.{TableLine, AreaNames, AreaLine, Line}
+use Rattle.reports.specs.Lines.{TableLine, AreaNames, AreaLine, SurfaceLine, Line}
 use Rattle.commands.specs.RefusalViews.{refusal_of}
 use Rattle.reports.specs.declared.area_names.AreaNames as names
 use Rattle.reports.specs.declared.lines.TableLine as table
 use Rattle.reports.specs.declared.lines.AreaLine as area
+use Rattle.reports.specs.declared.lines.SurfaceLine as surface
 use Rattle.reports.specs.declared.lines.Line as code
 use Rattle.reports.specs.declared.lines.Line.TheVariants.{UsageFault, UsageWords, Unread}
 use Rattle.reports.specs.declared.lines.Line.TheVariants.{TooLong, AreaLimit, ModelFault}
 use Rattle.reports.specs.declared.lines.Line.TheVariants.{Model, Table, Structure, Area}
-use Rattle.reports.specs.declared.lines.Line.TheVariants.{NotProved, Trial, Verdict}
+use Rattle.reports.specs.declared.lines.Line.TheVariants.{Surface, CanonRefused, NotProved, Trial}
+use Rattle.reports.specs.declared.lines.Line.TheVariants.{Verdict}
 
 abbrev pub table_of : table.TableLine → TableLine
 table_of t =
@@ -32,6 +34,9 @@ area_names_of n = record { topic = n.topic; table = n.table; attribute = n.attri
 abbrev pub area_of : area.AreaLine → AreaLine
 area_of a = record { names = area_names_of a.names; answer = a.answer }
 
+abbrev pub surface_of : surface.SurfaceLine → SurfaceLine
+surface_of s = record { names = area_names_of s.names; answer = s.answer }
+
 abbrev pub line_of : code.Line → Line
 line_of UsageFault = lines.usage_fault
 line_of UsageWords = lines.usage_words
@@ -43,6 +48,8 @@ line_of (Model name) = lines.model name
 line_of (Table t) = lines.table (table_of t)
 line_of (Structure n code) = lines.structure n (fault_of code)
 line_of (Area a) = lines.area (area_of a)
+line_of (Surface s) = lines.surface (surface_of s)
+line_of CanonRefused = lines.canon_refused
 line_of (NotProved a rule place) = lines.not_proved a rule place
 line_of (Trial n curves events points) = lines.trial n curves events points
 line_of (Verdict v) = lines.verdict v

@@ -4,20 +4,26 @@ use Rattle.std.specs.Prelude.{None, slice_index_or}
 use Rattle.std.specs.List.{flat_map}
 use Rattle.plane.specs.Rule.Plans.{Plan}
 use Rattle.certificate.specs.Spelling.{Plain, spelling}
+use Rattle.polygons.specs.Text as polygons
+use Rattle.polygons.specs.Text.{polygons_text}
 use Rattle.itf_reader.specs.Findings.{Finding}
 use Rattle.itf_reader.specs.Readings.{Structure}
 use Rattle.table_layout.specs.Layouts.{Table, AreaOf, Layout}
 use Rattle.reports.specs.AreaKinds.{proof_answer}
 use Rattle.reports.specs.AreaNames.{topic_name, table_name}
 use Rattle.reports.specs.Kinds.{has_fault, has_undecided}
+use Rattle.reports.specs.Surfaces.{SurfaceOf, surface_names, surfaces}
 use Rattle.reports.specs.Lines as lines
 use Rattle.reports.specs.Lines.{Line, line_text}
 use Rattle.commands.specs.Commands.{Target}
+use Rattle.commands.specs.declared.task.Filed.{Filed}
+use Rattle.commands.specs.declared.task.Filed.TheVariants as filed
 use Rattle.commands.specs.ModelTexts.{Refusal}
 use Rattle.reports.specs.Verifications.{Verification, proved, not_proved}
 use Rattle.commands.specs.declared.files.File.{File}
 use Rattle.reports.specs.declared.lines.AreaAnswer.{AreaAnswer}
 use Rattle.reports.specs.declared.lines.AreaAnswer.TheVariants as answer
+use Rattle.reports.specs.declared.lines.SurfaceAnswer.{SurfaceAnswer}
 use Rattle.reports.specs.declared.lines.Verdict as verdicts
 use Rattle.reports.specs.declared.lines.Verdict.TheVariants as verdict
 use Rattle.reports.specs.declared.status.Status.{Status}
@@ -87,6 +93,11 @@ abbrev pub misbuilt : ℕ → Structure → Outcome
 misbuilt n code =
     reported status.Rejected (lines.structure n code ∷ lines.verdict verdict.Rejected ∷ [])
 
+-- the transfer has no canonical text
+abbrev pub canon_refused : Outcome
+canon_refused =
+    reported status.Rejected (lines.canon_refused ∷ lines.verdict verdict.Rejected ∷ [])
+
 -- the transfer has these findings
 abbrev pub rejected : List Finding → Outcome
 rejected found =
@@ -106,6 +117,16 @@ area_lines l [] xs = []
 area_lines l (a ∷ as_) [] = []
 area_lines l (a ∷ as_) (x ∷ xs) = area_line l a x ∷ area_lines l as_ xs
 
+-- a SURFACE of the layout, and the answer to it
+abbrev pub surface_line : Layout → SurfaceOf → SurfaceAnswer → Line
+surface_line l s x = lines.surface (record { names = surface_names l s; answer = x })
+
+-- the lines of SURFACEs of a layout, in order
+abbrev pub surface_lines : Layout → List SurfaceOf → List SurfaceAnswer → List Line
+surface_lines l [] xs = []
+surface_lines l (s ∷ ss) [] = []
+surface_lines l (s ∷ ss) (x ∷ xs) = surface_line l s x ∷ surface_lines l ss xs
+
 -- what a trial of that size reports of an area that is proved: its curves, the events that its
 -- certificate has positions for, and its points
 abbrev pub trial_line : ℕ → AreaAnswer → Plain → List Line
@@ -120,9 +141,9 @@ size_lines n (x ∷ xs) [] = []
 size_lines n (x ∷ xs) (c ∷ cs) = trial_line n x c ++ size_lines n xs cs
 
 -- the lines of the sizes of a trial, none where it is no trial
-abbrev pub trial_lines : Option ℕ → List AreaAnswer → List Plain → List Line
-trial_lines None xs cs = []
-trial_lines (Some n) xs cs = size_lines n xs cs
+abbrev pub trial_lines : Filed → List AreaAnswer → List Plain → List Line
+trial_lines (filed.Trial n) xs cs = size_lines n xs cs
+trial_lines other xs cs = []
 
 -- the lines of a report and its verdict
 abbrev pub with_verdict : List Line → verdicts.Verdict → List Line
@@ -137,9 +158,18 @@ accepted ls objects filing =
       filing = Some filing;
     }
 
--- certificates for a target
-abbrev pub certificates_for : Target → List Plain → Filing
-certificates_for target cs = record { name = target.name; text = spelling cs }
+-- the canonical text of a number of objects, which goes to the file of that name
+abbrev pub canonical : List ℕ → ℕ → List ℕ → Outcome
+canonical name objects text = accepted [] objects (record { name = name; text = text })
+
+-- the text that is filed: that of the polygons, or of the certificates
+abbrev pub filed_text : Filed → List Plain → List polygons.Plain → List ℕ
+filed_text filed.Polygons cs ps = polygons_text ps
+filed_text other cs ps = spelling cs
+
+-- what is filed for a target
+abbrev pub filing_for : Target → List Plain → List polygons.Plain → Filing
+filing_for target cs ps = record { name = target.name; text = filed_text target.filed cs ps }
 
 -- The outcome of the lines on what was judged, by their kinds: one fault rejects the transfer, else
 -- one that is undecided leaves it so, else it is accepted, with these lines more, a number of
@@ -152,12 +182,17 @@ lines_outcome ls more objects filing =
     then reported status.Undecided (with_verdict ls verdict.Undecided)
     else accepted (ls ++ more) objects filing
 
--- the outcome of a number of objects without a finding and of the answers to the areas of the
--- layout, with certificates for the target
-abbrev pub areas_outcome : Layout → ℕ → Target → List AreaAnswer → List Plain → Outcome
-areas_outcome l objects target xs cs =
-    lines_outcome (area_lines l l.areas xs) (trial_lines target.trial xs cs) objects
-    (certificates_for target cs)
+-- the lines of the areas of a layout and the answers to them, and behind them those of its SURFACEs
+abbrev pub judged_lines : Layout → List SurfaceAnswer → List AreaAnswer → List Line
+judged_lines l ss xs = area_lines l l.areas xs ++ surface_lines l (surfaces l) ss
+
+-- the outcome of a number of objects without a finding and of the answers to the SURFACEs and the
+-- areas of the layout, with certificates or polygons for the target
+abbrev pub areas_outcome : Layout → ℕ → Target → List SurfaceAnswer → List AreaAnswer → List Plain
+    → List polygons.Plain → Outcome
+areas_outcome l objects target ss xs cs ps =
+    lines_outcome (judged_lines l ss xs) (trial_lines target.filed xs cs) objects
+    (filing_for target cs ps)
 
 -- the answers to drawings that are shown to be partitions at these levels
 abbrev pub proof_answers : List Plan → List ℕ → List AreaAnswer

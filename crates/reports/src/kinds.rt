@@ -1,10 +1,10 @@
 // What a line says of a delivery.
 ghost use Rattle.std.specs.Prelude.{◌≡◌};
 ghost use Rattle.reports.specs.Kinds.{answer_kind, kind_of, is_fault, is_undecided, has_fault};
-ghost use Rattle.reports.specs.Kinds.{has_undecided};
+ghost use Rattle.reports.specs.Kinds.{has_undecided, surface_kind, are_fine, is_fine};
 ghost use Rattle.reports.specs.LineViews.{line_of, lines_of};
 
-use crate::lines::{AreaAnswer, Line};
+use crate::lines::{AreaAnswer, Line, SurfaceAnswer};
 
 /// What a line says of a delivery. One fault rejects it, else one undecided line leaves it
 /// undecided, else it is accepted.
@@ -29,6 +29,12 @@ impl Kind {
     {
         matches!(self, Kind::Undecided)
     }
+
+    fn is_fine(self) -> bool
+        ensures { result ≡ is_fine self }
+    {
+        matches!(self, Kind::Fine)
+    }
 }
 
 fn answer_kind(answer: AreaAnswer) -> Kind
@@ -46,13 +52,38 @@ fn answer_kind(answer: AreaAnswer) -> Kind
     }
 }
 
+fn surface_kind(answer: SurfaceAnswer) -> Kind
+    ensures { result ≡ surface_kind answer }
+{
+    match answer {
+        SurfaceAnswer::Proved { .. } => Kind::Fine,
+        SurfaceAnswer::Meeting { .. } | SurfaceAnswer::Odd { .. } | SurfaceAnswer::Parts { .. } => {
+            Kind::Fault
+        }
+    }
+}
+
 fn kind_of(line: &Line) -> Kind
     ensures { result ≡ kind_of (line_of line.now) }
 {
     match line {
         Line::Area(area) => answer_kind(area.answer),
+        Line::Surface(surface) => surface_kind(surface.answer),
+        Line::CanonRefused => Kind::Fault,
         _ => Kind::Fine,
     }
+}
+
+/// No answer names a fault, and none what is undecided.
+pub fn are_fine(answers: &[AreaAnswer]) -> bool
+    ensures { result ≡ are_fine answers.now }
+{
+    for answer in answers {
+        if !answer_kind(*answer).is_fine() {
+            return false;
+        }
+    }
+    true
 }
 
 /// Some line names a fault.

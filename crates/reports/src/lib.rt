@@ -2,8 +2,9 @@
 //!
 //! An outcome is a status, the lines of a report, and the text of a file where there is one to
 //! write. `outcome` makes each of them: wrong words, a file that was not read, a refused model, a
-//! compiled one, a transfer with a line at fault or with findings, the answers to all areas, and
-//! what filed certificates prove. `report` gives the text of an outcome, line by line.
+//! compiled one, a transfer with a line at fault or with findings, the answers to all areas, what
+//! filed certificates prove, and a canonical text or that there is none. `report` gives the text of
+//! an outcome, line by line.
 //!
 //! - **The definitions.** `specs/Outcomes` has the outcomes, `specs/Lines` and `specs/Codes` the
 //!   words of each line, `specs/Statuses` the number of each status. Lines name curves and objects
@@ -27,12 +28,15 @@ mod kinds;
 mod lines;
 pub mod outcome;
 mod status;
+mod surfaces;
 mod text;
 mod verification;
 
 pub use area_answers::{Answers, proof_answer};
 pub use area_names::{AreaNames, names_of, table_name, topic_name};
-pub use lines::AreaAnswer;
+pub use kinds::are_fine;
+pub use lines::{AreaAnswer, SurfaceAnswer};
 pub use status::Status;
+pub use surfaces::{SurfaceOf, surfaces_of};
 pub use text::report;
 pub use verification::Verification;

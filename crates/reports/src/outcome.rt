@@ -1,19 +1,22 @@
 // Outcomes of a call, fixed before anything is written.
-ghost use Rattle.std.specs.Prelude.{◌≡◌, ◌++◌, map, IfOk, OnOk, Some, None};
+ghost use Rattle.std.specs.Prelude.{◌≡◌, ◌≤◌, ◌++◌, length, map, IfOk, OnOk, Some, None};
 ghost use Rattle.certificate.specs.Spelling.{view, views};
 ghost use Rattle.itf_reader.specs.Findings.{findings_of};
 ghost use Rattle.itf_reader.specs.Refusals.{fault_of};
 ghost use Rattle.table_layout.specs.Values.{area_view, areas_view, layout_view, table_view};
 ghost use Rattle.table_layout.specs.Values.{tables_view};
 ghost use Rattle.reports.specs.Outcomes.{reported, usage, area_too_large};
+ghost use Rattle.reports.specs.Outcomes.{canonical, canon_refused};
 ghost use Rattle.reports.specs.Outcomes.{refused, compiled, misbuilt, rejected, areas_outcome};
-ghost use Rattle.reports.specs.Outcomes.{lines_outcome};
+ghost use Rattle.reports.specs.Outcomes.{judged_lines, lines_outcome};
 ghost use Rattle.reports.specs.Outcomes.{accepted, area_line, area_lines, table_line};
 ghost use Rattle.reports.specs.Outcomes.{with_verdict, trial_line, size_lines, trial_lines};
+ghost use Rattle.reports.specs.Outcomes.{filed_text};
+ghost use Rattle.polygons.specs.Text.{views as polygons_in};
 ghost use Rattle.reports.specs.Outcomes.{proof_answers, verified};
 ghost use Rattle.reports.specs.AreaKinds.{plans};
 ghost use Rattle.reports.specs.LineViews.{line_of, lines_of};
-ghost use Rattle.reports.specs.OutcomeViews.{filing_of, outcome_of};
+ghost use Rattle.reports.specs.OutcomeViews.{filing_of, outcome_of, text_of};
 ghost use Rattle.commands.specs.CommandViews.{target_of};
 ghost use Rattle.reports.specs.FileRefusals.{IsNotRead};
 ghost use Rattle.commands.specs.RefusalViews.{refusal_of};
@@ -22,13 +25,16 @@ ghost use Rattle.reports.specs.VerificationViews.{verification_of};
 use crate::area_answers::{Answers, proof_answer};
 use crate::area_names::{names_of, topic_text};
 use crate::kinds::{has_fault, has_undecided};
-use crate::lines::{AreaAnswer, AreaLine, Line, TableLine, Verdict};
+use crate::lines::{AreaAnswer, AreaLine, Line, SurfaceAnswer, TableLine, Verdict};
 use crate::status::Status;
+use crate::surfaces::{add_surface_lines, surfaces_of};
 use crate::verification::Verification;
 use certificate::Certificate;
-use commands::{File, FileRefusal, Refusal, Target};
+use commands::{File, FileRefusal, Filed, Refusal, Target};
+use file_pages::HeldText;
 use itf_reader::{Finding, Structure};
 use plane::Drawing;
+use polygons::AreaPolygons;
 use ports::{Memory, Name};
 use std::alloc::Global;
 use table_layout::{AreaOf, Layout, Table};
@@ -38,6 +44,10 @@ use table_layout::{AreaOf, Layout, Table};
 pub enum Content {
     /// Certificates, in their text.
     Certificates(Vec<Certificate>),
+    /// The polygons of areas, in their text.
+    Polygons(Vec<AreaPolygons>),
+    /// A text as it stands.
+    Text(HeldText),
 }
 
 /// What is written, and the name of its file.
@@ -161,6 +171,30 @@ pub fn misbuilt<'a>(alloc: Global, line: u32, code: Structure) -> Result<Outcome
     Ok(reported(alloc, Status::Rejected, lines))
 }
 
+/// The transfer has no canonical text.
+pub fn canon_refused<'a>(alloc: Global) -> Result<Outcome<'a>, Memory>
+    ensures { IfOk result (λ o. outcome_of o ≡ canon_refused) }
+{
+    let lines = vec![in alloc; Line::CanonRefused, Line::Verdict(Verdict::Rejected)]?;
+    Ok(reported(alloc, Status::Rejected, lines))
+}
+
+/// The canonical text of a number of objects, which goes to the file of that name.
+pub fn canonical(
+    alloc: Global,
+    name: &str,
+    objects: u128,
+    text: HeldText,
+) -> Result<Outcome<'_>, Memory>
+    ensures { IfOk result (λ o. outcome_of o ≡ canonical name.now objects text) }
+{
+    let filing = Filing {
+        name,
+        content: Content::Text(text),
+    };
+    accepted(alloc, Vec::new(alloc), objects, filing)
+}
+
 /// The transfer has findings.
 pub fn rejected<'a>(alloc: Global, findings: Vec<Finding>) -> Result<Outcome<'a>, Memory>
     ensures { IfOk result (λ o. outcome_of o ≡ rejected (findings_of findings.items)) }
@@ -239,13 +273,24 @@ fn size_lines(
 }
 
 // What the report of a trial says of its areas; nothing where it is none.
-fn trial_lines(alloc: Global, trial: Option<u32>, answers: &Answers) -> Result<Vec<Line>, Memory>
-    ensures { IfOk result (λ lines. lines_of lines.items ≡ trial_lines trial
+fn trial_lines(alloc: Global, filed: Filed, answers: &Answers) -> Result<Vec<Line>, Memory>
+    ensures { IfOk result (λ lines. lines_of lines.items ≡ trial_lines filed
         answers.now.areas.items (views answers.now.certificates.items)) }
 {
-    match trial {
-        Some(size) => size_lines(alloc, size, &answers.areas, &answers.certificates),
-        None => Ok(Vec::new(alloc)),
+    match filed {
+        Filed::Trial(size) => size_lines(alloc, size, &answers.areas, &answers.certificates),
+        Filed::Certificates | Filed::Polygons => Ok(Vec::new(alloc)),
+    }
+}
+
+// What is filed of the areas.
+fn content_of(filed: Filed, certificates: Vec<Certificate>, polygons: Vec<AreaPolygons>) -> Content
+    ensures { text_of result ≡ filed_text filed (views certificates.items)
+        (polygons_in polygons.items) }
+{
+    match filed {
+        Filed::Certificates | Filed::Trial(_) => Content::Certificates(certificates),
+        Filed::Polygons => Content::Polygons(polygons),
     }
 }
 
@@ -309,23 +354,45 @@ pub fn lines_outcome(
     accepted(alloc, lines, objects, filing)
 }
 
-/// The outcome of a number of objects without a finding and of the answers to the areas of the
-/// layout, whose certificates go to the target where all are proved.
+// The lines for areas, and behind them those for SURFACEs.
+fn judged_lines(
+    alloc: Global,
+    layout: &Layout,
+    surfaces: &[SurfaceAnswer],
+    answers: &[AreaAnswer],
+) -> Result<Vec<Line>, Memory>
+    requires { length layout.now.tables.items ≤ 4194304 }
+    ensures { IfOk result (λ lines. lines_of lines.items ≡ judged_lines (layout_view layout.now)
+        surfaces.now answers.now) }
+{
+    let mut lines = area_lines(alloc, layout, answers)?;
+    let all = surfaces_of(alloc, layout)?;
+    add_surface_lines(alloc, layout, &all, surfaces, &mut lines)?;
+    Ok(lines)
+}
+
+/// The outcome of a number of objects without a finding and of the answers to the SURFACEs and the
+/// areas of the layout. Where all areas are proved and no SURFACE is at fault, the certificates or
+/// the polygons of the areas go to the target.
 pub fn areas_outcome<'a>(
     alloc: Global,
     layout: &Layout,
     objects: u128,
     target: &Target<'a>,
+    surfaces: &[SurfaceAnswer],
     answers: Answers,
+    polygons: Vec<AreaPolygons>,
 ) -> Result<Outcome<'a>, Memory>
+    requires { length layout.now.tables.items ≤ 4194304 }
     ensures { IfOk result (λ o. outcome_of o ≡ areas_outcome (layout_view layout.now) objects
-        (target_of target.now) answers.areas.items (views answers.certificates.items)) }
+        (target_of target.now) surfaces.now answers.areas.items
+        (views answers.certificates.items) (polygons_in polygons.items)) }
 {
-    let lines = area_lines(alloc, layout, &answers.areas)?;
-    let more = trial_lines(alloc, target.trial, &answers)?;
+    let lines = judged_lines(alloc, layout, surfaces, &answers.areas)?;
+    let more = trial_lines(alloc, target.filed, &answers)?;
     let filing = Filing {
         name: target.name,
-        content: Content::Certificates(answers.certificates),
+        content: content_of(target.filed, answers.certificates, polygons),
     };
     lines_outcome(alloc, lines, more, objects, filing)
 }

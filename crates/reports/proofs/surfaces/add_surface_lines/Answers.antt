@@ -1,0 +1,29 @@
+use Rattle.std.proofs.lemmas.Slice.Zip.{either_empty_from_Zip, Zip-more}
+use Rattle.std.specs.Iterator.Adapters.{zip_first, zip_second}
+use Rattle.std.specs.Slice.Iter.{iter_rest}
+use Rattle.table_layout.specs.Values.{layout_view}
+use Rattle.reports.proofs.AreaLines.{all_lines}
+use Rattle.reports.proofs.SurfaceSteps.{lines_end, lines_more}
+use Rattle.reports.proofs.surfaces.add_surface_lines.Goals as goal
+
+pub loop-surface-preserved : goal.loop-surface-preserved
+loop-surface-preserved c =
+    let it = c.loop-surface.surface-iterator in
+    let more = Zip-more it c.next.new.self c.next.result _ c.in-Some.is c.next.ensures.steps in
+    record {
+      can_next = (tt, tt);
+      is_finite = tt;
+      whole = lines_more (layout_view c.args.layout.now) _ c.in-Some.surface.now
+          (iter_rest (zip_first c.next.new.self)) _ c.in-Some.answer.now
+          (iter_rest (zip_second c.next.new.self)) c.loop-surface.lines.items
+          c.push.new.self.items c.in_ok-surface_line.field-0 _ more.0 more.1
+          c.in_ok-push.ensures.items c.in_ok-surface_line.ensures c.loop-surface.invariant.whole;
+    }
+
+pub returns : goal.returns
+returns c =
+    let it = c.loop-surface.surface-iterator in
+    all_lines _ _ _ (lines_end (layout_view c.args.layout.now) (iter_rest (zip_first it))
+    (iter_rest (zip_second it))
+    (either_empty_from_Zip it c.next.new.self c.next.result c.in-None.is c.next.ensures.steps))
+    c.loop-surface.invariant.whole
