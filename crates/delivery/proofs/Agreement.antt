@@ -16,7 +16,7 @@ use Rattle.delivery.specs.AreaAnswers.{AreAnswers}
 use Rattle.delivery.specs.Verifying.{IsVerification}
 use Rattle.plane.specs.Rule.Plans.{Plan}
 use Rattle.area_drawings.proofs.Windows.{same_drawings}
-use Rattle.commands.specs.Commands.{Command, Source, Target, Task, lists, judges, verifies, task_of, from_file, made, limit_of, model_of, further_files, IsCommand}
+use Rattle.commands.specs.Commands.{Command, Source, Target, Task, lists, judges, verifies, rewrites, task_of, from_file, made, limit_of, model_of, further_files, IsCommand}
 use Rattle.delivery.specs.Deciding.{Decides, formless, formed}
 use Rattle.area_drawings.specs.AreaLimits.{has_too_large}
 use Rattle.delivery.specs.FiledTexts.{AreVerified, IsVerified}
@@ -25,7 +25,8 @@ use Rattle.commands.specs.Gathering.{Gathered, Reads, ReadsAll, Compiles, Gather
 use Rattle.delivery.specs.Causes.{HasOutcome}
 use Rattle.delivery.specs.Judging.{lines_of, findings, objects, IsMisbuilt, IsTextOf, IsClean, AreJudged, IsJudgedBy, at_fault, faulty, oversized, sound, IsChecked}
 use Rattle.commands.specs.ModelTexts.{Refusal, IsRefused, HasLayout}
-use Rattle.reports.specs.Outcomes.{Filing, Outcome, misbuilt, rejected, areas_outcome, verified, report_of}
+use Rattle.reports.specs.Outcomes.{Filing, Outcome, misbuilt, rejected, areas_outcome, verified, canonical, report_of}
+use Rattle.delivery.specs.Rewriting.{canon_of, IsRewritten, misread, without_text, written}
 use Rattle.commands.specs.Reading.{IsWhole, IsLonger}
 use Rattle.delivery.proofs.AreaLemmas.{AreaLaws, same_lines, areas_agree}
 use Rattle.delivery.proofs.Causes.{by_write}
@@ -201,12 +202,33 @@ module _ (l : Layout) (text : List ℕ) (Areas : List (List Row) → Outcome →
   agree_judged o p (sound h) (oversized more u k b f) = absurd (differ (sym b ∙ ap (λ (r : List (List Row)). has_too_large r l.areas) (one_rows more h.0 u h.1) ∙ h.3))
   agree_judged o p (sound h) (sound k) = areas k.0 o p (subst (λ (r : List (List Row)). Areas r o) (one_rows h.0 k.0 h.1 k.1) h.4) k.4
 
+-- a transfer that is written in its canonical text
+module _ (name : List ℕ) (l : Layout) (text : List ℕ) where
+  same_rows : (a b : List (List Row)) → IsTextOf l text a → IsTextOf l text b → a ≡ b
+  same_rows a b h k = one_transfer (form_of l) (lines_of l text).lines a b h.1 k.1
+
+  no_misread : (rows : List (List Row)) (n : ℕ) (code : Structure) → IsMisbuilt l text n code → IsTextOf l text rows → ⊥
+  no_misread rows n code h t = never_both (form_of l) (lines_of l text) rows n code t h
+
+  agree_rewritten : (o p : Outcome) → IsRewritten name l text o → IsRewritten name l text p → Agree o p
+  agree_rewritten o p (misread n c h e) (misread m d k f) =
+      let q = one_fault (form_of l) (lines_of l text) n m c d h k in
+      agree_same o p (e ∙ ap (λ (x : ℕ). misbuilt x c) q.0 ∙ ap (misbuilt m) q.1 ∙ sym f)
+  agree_rewritten o p (misread n c h e) (without_text rows t k f) = absurd (no_misread rows n c h t)
+  agree_rewritten o p (misread n c h e) (written rows t k f) = absurd (no_misread rows n c h t)
+  agree_rewritten o p (without_text rows t k e) (misread n c h f) = absurd (no_misread rows n c h t)
+  agree_rewritten o p (without_text rows t k e) (without_text more u m f) = agree_both o p _ e f
+  agree_rewritten o p (without_text rows t k e) (written more u m f) = absurd (m k)
+  agree_rewritten o p (written rows t k e) (misread n c h f) = absurd (no_misread rows n c h t)
+  agree_rewritten o p (written rows t k e) (without_text more u m f) = absurd (k m)
+  agree_rewritten o p (written rows t k e) (written more u m f) = agree_both o p _ e (f ∙ ap (λ (r : List (List Row)). canonical name (objects r) (canon_of l r)) (same_rows more rows u t))
+
 module _ (laws : AreaLaws) where
   agree_areas : (target : Target) (l : Layout) (rows : List (List Row)) (o p : Outcome) → AreJudged target l rows o → AreJudged target l rows p → Agree o p
   agree_areas target l rows o p j k =
       subst (λ (x : Outcome). Agree x p) (sym j.is)
-      (subst (Agree (areas_outcome l (objects rows) target j.answers j.certificates)) (sym k.is)
-      (areas_agree laws l (objects rows) target k.drawings j.answers k.answers j.certificates k.certificates
+      (subst (Agree (areas_outcome l (objects rows) target j.surface_answers j.answers j.certificates j.polygons)) (sym k.is)
+      (areas_agree laws l (objects rows) target rows j.surface_answers k.surface_answers j.surfaces_answered k.surfaces_answered k.drawings j.answers k.answers j.certificates k.certificates j.polygons k.polygons
       (subst (λ (ds : List Plan). AreAnswers l l.areas ds j.answers j.certificates) (same_drawings l rows l.areas j.drawings k.drawings j.drawn k.drawn) j.answered) k.answered))
 
   agree_verified : (l : Layout) (filed : List ℕ) (rows : List (List Row)) (o p : Outcome) → AreVerified l filed rows o → AreVerified l filed rows p → Agree o p
@@ -231,6 +253,7 @@ module _ (laws : AreaLaws) where
   agree_amount lists (gathering.texts l ts) o p h k = agree_both o p _ h k
   agree_amount (judges s target) (gathering.texts l (text ∷ [])) o p h k = agree_text target l text o p h k
   agree_amount (verifies s r) (gathering.texts l (text ∷ filed ∷ [])) o p h k = agree_filed l text filed o p h k
+  agree_amount (rewrites s name) (gathering.texts l (text ∷ [])) o p h k = agree_rewritten name l text o p h k
   agree_amount t (gathering.texts l ts) o p h k = absurd h
 
   files_agree : (t : Task) (g h : Gathered) (o p : Outcome) → Same g h → HasOutcome t g o → HasOutcome t h p → AgreeUnlessUnread o p

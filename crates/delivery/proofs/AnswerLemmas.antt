@@ -1,6 +1,8 @@
 -- The answer to one area, and to one area after the other.
-use Rattle.std.proofs.Common.{◌≡◌, false, ℕ, suc, ◌+◌, ◌<◌, ◌≤◌, ◌^◌, List, [], ◌∷◌, ◌++◌, length, Option, Some, None, refl, sym, ap, ◌∙◌, subst, arith, append-nil, append_assoc, ◌⊎◌, inl, inr}
-use Rattle.std.specs.List.{All, AllByRecursion}
+use Rattle.std.proofs.Common.{◌≡◌, ℕ, ℤ, Bool, suc, ◌+◌, ◌<◌, ◌≤◌, ◌^◌, List, [], ◌∷◌, ◌++◌, length}
+use Rattle.std.proofs.Common.{Option, Some, None, refl, sym, ap, ◌∙◌, subst, arith, append-nil}
+use Rattle.std.proofs.Common.{append_assoc, ◌⊎◌, inl, inr}
+use Rattle.std.specs.List.{All, AllByRecursion, AllZip}
 use Rattle.std.proofs.lemmas.List.{length-append}
 use Rattle.std.proofs.lemmas.List.Elements.{All-head, All-tail}
 use Rattle.certificate.specs.Spelling.{Plain, Fits, HasNamesAndCounts, IsName, pairs, view}
@@ -13,7 +15,12 @@ use Rattle.table_layout.specs.Values.{area_view, areas_view}
 use Rattle.table_layout.specs.declared.layouts.AreaOf.{AreaOf as CodeArea}
 use Rattle.plane.specs.Rule.Plans.{Plan, plan}
 use Rattle.plane.specs.declared.drawing.Drawing.{Drawing}
-use Rattle.area_search.specs.Answers as search
+use Rattle.area_search.specs.Grounds.{IsAnswerBy, ProvesGround}
+use Rattle.forks.specs.Grounds.{IsGround, own, bent}
+use Rattle.tubes.specs.FewEdges.{HasFewEdges}
+use Rattle.area_drawings.specs.Drawings.{area_tolerance}
+use Rattle.area_drawings.specs.KeptViews.{HasTolerance}
+use Rattle.table_layout.specs.Values.{layout_view}
 use Rattle.area_search.specs.declared.kinds.AreaAnswer.{AreaAnswer as Found}
 use Rattle.area_search.specs.declared.kinds.AreaAnswer.TheVariants as found
 use Rattle.area_search.specs.declared.kinds.AreaFinding.{AreaFinding}
@@ -27,31 +34,58 @@ use Rattle.reports.specs.AreaNames.{HasTitle, topic_name, table_name}
 use Rattle.reports.specs.declared.lines.AreaAnswer.{AreaAnswer}
 
 -- ---- one answer
--- the certificate that a search gives proves the drawing itself, at the least level
-proof_of : (d : Plan) (c : Certificate) → search.IsAnswer d (found.Proved c)
-    → Proves d (claims c) × search.IsLeastLevel d c.level × (c.bent ≡ false)
-proof_of d _ (search.proved c p l n) = (p, l, n.own)
+-- the certificate that a search gives proves the ground of the drawing
+abbrev pub ProofsAreOfGrounds : Type 0
+ProofsAreOfGrounds =
+    (t : ℤ) (d : Plan) (c : Certificate) → IsAnswerBy t d (found.Proved c)
+    → ProvesGround t d c.bent (claims c)
 
-module _ (l : Layout) (a : AreaOf) (d : Plan) (b : Found) (h : search.IsAnswer d b) where
-  pub answer_proved : (c e : Certificate) (topic table attribute : List ℕ) → b ≡ found.Proved c → view e ≡ named topic table attribute (view c)
-      → topic ≡ topic_name l a → table ≡ table_name l a → attribute ≡ a.name → (x : AreaAnswer) → x ≡ proof_answer d c.level → IsAnswer l a d x (certificates_in (Some e))
-  answer_proved c e topic table attribute q v t m n x y =
-      let p = proof_of d c (subst (search.IsAnswer d) q h) in
+module _ (l : Layout) (a : AreaOf) (d : Plan) where
+  -- what it proves under the names of the area
+  proved_named : (c : Certificate) (topic table attribute : List ℕ)
+      → ProvesGround (area_tolerance l a) d c.bent (claims c)
+      → ProvesGround (area_tolerance l a) d c.bent
+      (claims_of (named topic table attribute (view c)))
+  proved_named c topic table attribute h = record {
+    g = h.g;
+    origin = h.origin;
+    right = h.right;
+    clear = h.clear;
+    proves = proved_view h.g c h.proves;
+    least = h.least;
+    area = h.area;
+  }
+
+  pub answer_proved : (c e : Certificate) (topic table attribute : List ℕ)
+      → ProvesGround (area_tolerance l a) d c.bent (claims c)
+      → view e ≡ named topic table attribute (view c)
+      → topic ≡ topic_name l a → table ≡ table_name l a → attribute ≡ a.name
+      → (x : AreaAnswer) → x ≡ proof_answer d c.level → IsAnswer l a d x (certificates_in (Some e))
+  answer_proved c e topic table attribute h v t m n x y =
       let level : c.level ≡ (view e).level = sym (ap (λ (z : Plain). z.level) v) in
       proved (view e)
       (record {
-        named = record { topic = ap (λ (z : Plain). z.topic) v ∙ t; table = ap (λ (z : Plain). z.table) v ∙ m; attribute = ap (λ (z : Plain). z.attribute) v ∙ n };
-        own = ap (λ (z : Plain). z.bent) v ∙ p.2;
-        proves = subst (λ (z : Plain). Proves d (claims_of z)) (sym v) (proved_view d c p.0);
+        topic = ap (λ (z : Plain). z.topic) v ∙ t;
+        table = ap (λ (z : Plain). z.table) v ∙ m;
+        attribute = ap (λ (z : Plain). z.attribute) v ∙ n;
       })
-      (subst (search.IsLeastLevel d) level p.1)
+      (subst (λ (z : Plain). ProvesGround (area_tolerance l a) d z.bent (claims_of z)) (sym v)
+      (proved_named c topic table attribute h))
       (y ∙ ap (proof_answer d) level) refl
 
-  pub answer_faulty : (f : AreaFinding) → b ≡ found.Fault f → (x : AreaAnswer) → x ≡ fault_answer d f → IsAnswer l a d x (certificates_in None)
-  answer_faulty f q x y = faulty f (subst (search.IsAnswer d) q h) y refl
+  pub answer_faulty : (t : ℤ) (b : Found) (f : AreaFinding) → t ≡ area_tolerance l a
+      → IsAnswerBy t d b → b ≡ found.Fault f
+      → (x : AreaAnswer) → x ≡ fault_answer d f → IsAnswer l a d x (certificates_in None)
+  answer_faulty t b f e h q x y =
+      faulty f (subst (λ (s : ℤ). IsAnswerBy s d (found.Fault f)) e
+      (subst (IsAnswerBy t d) q h)) y refl
 
-  pub answer_undecided : (i j : ℕ) → b ≡ found.Undecided i j → (x : AreaAnswer) → x ≡ undecided_answer d i j → IsAnswer l a d x (certificates_in None)
-  answer_undecided i j q x y = undecided i j (subst (search.IsAnswer d) q h) y refl
+  pub answer_undecided : (t : ℤ) (b : Found) (i j : ℕ) → t ≡ area_tolerance l a
+      → IsAnswerBy t d b → b ≡ found.Undecided i j
+      → (x : AreaAnswer) → x ≡ undecided_answer d i j → IsAnswer l a d x (certificates_in None)
+  answer_undecided t b i j e h q x y =
+      undecided i j (subst (λ (s : ℤ). IsAnswerBy s d (found.Undecided i j)) e
+      (subst (IsAnswerBy t d) q h)) y refl
 
 -- ---- a certificate that can be written
 pairs_fewer : (notes : List HalfNote) → length (pairs notes) ≤ length notes
@@ -61,22 +95,38 @@ pairs_fewer (n ∷ m ∷ notes) = omega (arith, pairs_fewer notes)
 
 -- what the checker of certificates says of the counts of claims that prove a drawing
 pub record CountLaws : Type 0 where
-  pub positions : (d : Plan) (c : Claims) → Proves d c → length d.curves ≤ 16000000 → length c.positions < 2 ^ 32
-  pub notes : (d : Plan) (c : Claims) → Proves d c → length d.curves ≤ 16000000 → length c.notes < 2 ^ 32
+  pub positions : (d : Plan) (c : Claims) → Proves d c → HasFewEdges d → length c.positions < 2 ^ 32
+  pub notes : (d : Plan) (c : Claims) → Proves d c → HasFewEdges d → length c.notes < 2 ^ 32
   pub places : (d : Plan) (c : Claims) → Proves d c → length c.places ≡ length d.points
+  pub few : (t : ℤ) (d g : Plan) (is_bent : Bool) (origin : List ℕ) → IsGround t d is_bent g origin
+      → length d.curves ≤ 16000000 → HasFewEdges g
 
-module _ (laws : CountLaws) (l : Layout) (a : AreaOf) (d : Plan) (c : Certificate) (h : search.IsAnswer d (found.Proved c)) (names : HasTitle l a) (small : IsSmallPlan d) where
-  pub can_be_written : (e : Certificate) (topic table attribute : List ℕ) → view e ≡ named topic table attribute (view c) → topic ≡ topic_name l a → table ≡ table_name l a → attribute ≡ a.name → HasNamesAndCounts (view e)
+-- a drawing and what becomes of it have the same points
+same_points : (t : ℤ) (d g : Plan) (is_bent : Bool) (origin : List ℕ)
+    → IsGround t d is_bent g origin → length g.points ≡ length d.points
+same_points t d g is_bent origin (own e q o) = ap (λ (p : Plan). length p.points) q
+same_points t d g is_bent origin (bent e b) = ap length b.points
+
+module _ (laws : CountLaws) (l : Layout) (a : AreaOf) (d : Plan) (c : Certificate)
+    (h : ProvesGround (area_tolerance l a) d c.bent (claims c)) (names : HasTitle l a)
+    (small : IsSmallPlan d) where
+  pub can_be_written : (e : Certificate) (topic table attribute : List ℕ)
+      → view e ≡ named topic table attribute (view c)
+      → topic ≡ topic_name l a → table ≡ table_name l a → attribute ≡ a.name
+      → HasNamesAndCounts (view e)
   can_be_written e topic table attribute v t m n =
-      let p = (proof_of d c h).0 in
+      let few = laws.few (area_tolerance l a) d h.g c.bent h.origin h.right.is_ground
+      small.curves in
+      let points = same_points (area_tolerance l a) d h.g c.bent h.origin h.right.is_ground in
       subst HasNamesAndCounts (sym v)
       (record {
         topic = subst IsName (sym t) names.topic;
         table = subst IsName (sym m) names.table;
         attribute = subst IsName (sym n) names.attribute;
-        position_count = laws.positions d (claims c) p small.curves;
-        edge_count = omega (arith, pairs_fewer c.notes.items, laws.notes d (claims c) p small.curves);
-        place_count = omega (arith, laws.places d (claims c) p, small.points);
+        position_count = laws.positions h.g (claims c) h.proves few;
+        edge_count =
+            omega (arith, pairs_fewer c.notes.items, laws.notes h.g (claims c) h.proves few);
+        place_count = omega (arith, laws.places h.g (claims c) h.proves, points, small.points);
       })
 
 -- ---- one area after the other
@@ -149,3 +199,23 @@ few_first all d rest e h = All-head IsSmallPlan (plan d) (plans rest) (subst (λ
 
 pub few_rest : (all : List Drawing) (d : Drawing) (rest : List Drawing) → all ≡ d ∷ rest → All IsSmallPlan (plans all) → All IsSmallPlan (plans rest)
 few_rest all d rest e h = All-tail IsSmallPlan (plan d) (plans rest) (subst (λ (ds : List Drawing). All IsSmallPlan (plans ds)) e h)
+
+-- ---- drawings with the overlaps of their areas, one after the other
+abbrev pub HaveTolerances : Layout → List CodeArea → List Drawing → Type 0
+HaveTolerances l as_ ds = AllZip (HasTolerance l) (areas_view as_) ds
+
+pub tolerance_first : (l : Layout) (all : List CodeArea) (ds : List Drawing) (a : CodeArea)
+    (rest : List CodeArea)
+    (d : Drawing) (more : List Drawing) → all ≡ a ∷ rest → ds ≡ d ∷ more → HaveTolerances l all ds
+    → d.tolerance ≡ area_tolerance l (area_view a)
+tolerance_first l all ds a rest d more e f h =
+    (subst (HaveTolerances l (a ∷ rest)) f
+    (subst (λ (as_ : List CodeArea). HaveTolerances l as_ ds) e h)).0
+
+pub tolerance_rest : (l : Layout) (all : List CodeArea) (ds : List Drawing) (a : CodeArea)
+    (rest : List CodeArea)
+    (d : Drawing) (more : List Drawing) → all ≡ a ∷ rest → ds ≡ d ∷ more → HaveTolerances l all ds
+    → HaveTolerances l rest more
+tolerance_rest l all ds a rest d more e f h =
+    (subst (HaveTolerances l (a ∷ rest)) f
+    (subst (λ (as_ : List CodeArea). HaveTolerances l as_ ds) e h)).1

@@ -1,5 +1,5 @@
 -- What the outcome of the words and the files says of the answer.
-use Rattle.std.proofs.Common.{◌≡◌, ℕ, Bool, true, false, List, [], ◌∷◌, Option, refl, sym, ◌∙◌, subst, inl, inr}
+use Rattle.std.proofs.Common.{◌≡◌, ℕ, Bool, true, false, ◌||◌, List, [], ◌∷◌, Option, refl, sym, ◌∙◌, subst, inl, inr}
 use Rattle.std.specs.Prelude.{◌≢◌, ⊤}
 use Rattle.ports.specs.Files.{Files}
 use Rattle.itf_reader.specs.Forms.{Row}
@@ -7,18 +7,22 @@ use Rattle.table_layout.specs.Layouts.{Layout}
 use Rattle.reports.specs.declared.status.Status.{Status}
 use Rattle.reports.specs.declared.status.Status.TheVariants.{Accepted, Rejected, Undecided, ModelRefused, Usage, ReadFault, WriteFault, OverLimit, Memory, NotProved}
 use Rattle.delivery.specs.Answers.{HasCause}
-use Rattle.commands.specs.Commands.{Command, Source, Target, Task, lists, judges, verifies, task_of, IsCommand}
+use Rattle.commands.specs.Commands.{Command, Source, Target, Task, lists, judges, verifies, rewrites, task_of, IsCommand}
 use Rattle.delivery.specs.Deciding.{Decides, formless, formed}
 use Rattle.commands.specs.Gathering as gathering
 use Rattle.commands.specs.Gathering.{Gathered, Gathers}
 use Rattle.delivery.specs.Causes.{HasOutcome, HasFault, HasLargeArea, Accepts, Rejects, LeavesUndecided, Unproves, IsOversized}
 use Rattle.delivery.specs.Judging.{findings, objects, HasSoundRows, AreJudged, IsJudgedBy, at_fault, faulty, oversized, sound, IsChecked}
-use Rattle.reports.specs.Outcomes.{Outcome, usage, unread, too_long, area_too_large, refused, compiled, misbuilt, rejected, verified}
+use Rattle.delivery.specs.Rewriting.{canon_of, IsRewritten, misread, without_text, written}
+use Rattle.reports.specs.Outcomes.{Outcome, usage, unread, too_long, area_too_large, refused, compiled, misbuilt, rejected, verified, canonical, canon_refused}
 use Rattle.delivery.specs.FiledTexts.{AreVerified, IsVerified}
 use Rattle.reports.specs.Verifications as verifications
 use Rattle.delivery.specs.Verifying.{IsVerification}
 use Rattle.reports.specs.Verifications.{Verification}
-use Rattle.delivery.proofs.AreaLemmas.{AreaLaws, some_fault, some_undecided, by_answers, outcome_by, faulty_area, left_areas, parted_areas, parted_all}
+use Rattle.reports.specs.Surfaces.{surfaces}
+use Rattle.delivery.specs.Surfaces.{AreRightSurfaces}
+use Rattle.delivery.proofs.SurfaceLemmas.{faulty_surface, right_surfaces}
+use Rattle.delivery.proofs.AreaLemmas.{AreaLaws, some_fault, surface_fault, some_undecided, by_answers, outcome_by, faulty_area, left_areas, parted_areas}
 
 -- ---- the causes
 module _ (laws : AreaLaws) (held : Option Files) (counted : List ℕ → Type 0) (words : List (List ℕ)) where
@@ -45,14 +49,89 @@ module _ (laws : AreaLaws) (held : Option Files) (counted : List ℕ → Type 0)
     by_task : (test : Task → Layout → List (List ℕ) → Type 0) → test (judges s target) l (text ∷ []) → test (task_of c) l (text ∷ [])
     by_task test h = subst (λ (t : Task). test t l (text ∷ [])) (sym e) h
 
-    areas_mean : (o : Outcome) → HasSoundRows l text (λ rows. AreJudged target l rows o) → HasCause held counted words o.status
-    areas_mean o (rows, t, k, b, j) = moved o (outcome_by l (objects rows) target j.answers j.certificates (some_fault j.answers) (some_undecided j.answers)) (j.is ∙ by_answers l (objects rows) target j.drawings j.answers j.certificates j.answered) (by (some_fault j.answers) (some_undecided j.answers) refl refl)
+    areas_mean : (o : Outcome) → HasSoundRows l text (λ rows. AreJudged target l rows o)
+        → HasCause held counted words o.status
+    areas_mean o (rows, t, k, b, j) =
+        moved o (by_kinds (some_fault j.answers || surface_fault l j.surface_answers)
+        (some_undecided j.answers))
+        (j.is ∙ by_answers l (objects rows) target j.surface_answers j.drawings j.answers
+        j.certificates j.polygons j.answered)
+        (by (some_fault j.answers) (surface_fault l j.surface_answers)
+        (some_undecided j.answers) refl refl refl)
       where
-        by : (f g : Bool) → some_fault j.answers ≡ f → some_undecided j.answers ≡ g
-            → HasCause held counted words (outcome_by l (objects rows) target j.answers j.certificates f g).status
-        by true g f h = (c, l, text ∷ [], i, g_, by_task Rejects (inr (rows, t, k, b, faulty_area laws l rows j.drawings j.answers j.certificates j.drawn j.answered f)))
-        by false true f h = (c, l, text ∷ [], i, g_, by_task LeavesUndecided (rows, t, k, b, left_areas laws l rows j.drawings j.answers j.certificates j.drawn j.answered f h))
-        by false false f h = (c, l, text ∷ [], i, g_, by_task Accepts (rows, t, k, b, parted_areas laws l rows j.drawings j.answers j.certificates j.drawn j.answered f h))
+        by_kinds : Bool → Bool → Outcome
+        by_kinds f g =
+            outcome_by l (objects rows) target j.surface_answers j.answers j.certificates
+            j.polygons f g
+
+        right : surface_fault l j.surface_answers ≡ false → AreRightSurfaces l rows
+        right = right_surfaces l rows (surfaces l) j.surface_answers j.surfaces_answered
+
+        by : (f s g : Bool) → some_fault j.answers ≡ f → surface_fault l j.surface_answers ≡ s
+            → some_undecided j.answers ≡ g
+            → HasCause held counted words (by_kinds (f || s) g).status
+        by true s g f e h = (
+          c,
+          l,
+          text ∷ [],
+          i,
+          g_,
+          by_task Rejects (inr (
+            rows,
+            t,
+            k,
+            b,
+            inl (faulty_area laws l rows j.drawings j.answers j.certificates j.drawn j.answered f),
+          )),
+        )
+        by false true g f e h = (
+          c,
+          l,
+          text ∷ [],
+          i,
+          g_,
+          by_task Rejects (inr (
+            rows,
+            t,
+            k,
+            b,
+            inr (faulty_surface l rows (surfaces l) j.surface_answers j.surfaces_answered e),
+          )),
+        )
+        by false false true f e h = (
+          c,
+          l,
+          text ∷ [],
+          i,
+          g_,
+          by_task LeavesUndecided (
+            rows,
+            t,
+            k,
+            b,
+            (
+              left_areas laws l rows j.drawings j.answers j.certificates j.drawn j.answered f h,
+              right e,
+            ),
+          ),
+        )
+        by false false false f e h = (
+          c,
+          l,
+          text ∷ [],
+          i,
+          g_,
+          by_task Accepts (
+            rows,
+            t,
+            k,
+            b,
+            (
+              parted_areas laws l rows j.drawings j.answers j.certificates j.drawn j.answered f h,
+              right e,
+            ),
+          ),
+        )
 
     checked_means : (o : Outcome) → IsChecked target l text o → HasCause held counted words o.status
     checked_means = judged_means c i l text (text ∷ []) g_ (λ h. by_task Rejects (inl h)) (by_task IsOversized) (AreJudged target l) areas_mean
@@ -67,11 +146,20 @@ module _ (laws : AreaLaws) (held : Option Files) (counted : List ℕ → Type 0)
     filed_mean o (rows, t, k, b, j) = moved o (verified l (objects rows) j.drawings j.verification) j.is (by j.verification j.judged)
       where
         by : (v : Verification) → IsVerification l j.drawings filed v → HasCause held counted words (verified l (objects rows) j.drawings v).status
-        by (verifications.proved levels) h = (c, l, text ∷ filed ∷ [], i, g_, with_filed Accepts (rows, t, k, b, ((j.drawings, j.drawn, levels, h), parted_all l rows j.drawings j.drawn (laws.verified l j.drawings filed levels h))))
+        by (verifications.proved levels) h = (c, l, text ∷ filed ∷ [], i, g_, with_filed Accepts (rows, t, k, b, ((j.drawings, j.drawn, levels, h), laws.verified l rows j.drawings filed levels j.drawn h)))
         by (verifications.not_proved a rule place) h = (c, l, text ∷ filed ∷ [], i, g_, with_filed Unproves (rows, t, k, b, (j.drawings, j.drawn, a, rule, place, h)))
 
     verify_means : (o : Outcome) → IsVerified l text filed o → HasCause held counted words o.status
     verify_means = judged_means c i l text (text ∷ filed ∷ []) g_ (with_filed Rejects) (with_filed IsOversized) (AreVerified l filed) filed_mean
+
+  -- a transfer that is written in its canonical text
+  rewrite_means : (c : Command) (s : Source) (name : List ℕ) → task_of c ≡ rewrites s name → IsCommand words c → (l : Layout) (text : List ℕ) → Gathers held counted c (gathering.texts l (text ∷ [])) → (o : Outcome) → IsRewritten name l text o → HasCause held counted words o.status
+  rewrite_means c s name e i l text g o (misread n code h q) =
+      moved o (misbuilt n code) q (c, l, text ∷ [], i, g, subst (λ (t : Task). Rejects t l (text ∷ [])) (sym e) (inl (n, code, h)))
+  rewrite_means c s name e i l text g o (without_text rows t k q) =
+      moved o canon_refused q (c, l, text ∷ [], i, g, subst (λ (t : Task). Rejects t l (text ∷ [])) (sym e) (inr (rows, t, k)))
+  rewrite_means c s name e i l text g o (written rows t k q) =
+      moved o (canonical name (objects rows) (canon_of l rows)) q (c, l, text ∷ [], i, g, subst (λ (t : Task). Accepts t l (text ∷ [])) (sym e) (rows, t, k))
 
   -- a command by its task
   task_means : (c : Command) (t : Task) (g : Gathered) → task_of c ≡ t → IsCommand words c → Gathers held counted c g → (o : Outcome) → HasOutcome t g o → HasCause held counted words o.status
@@ -81,6 +169,7 @@ module _ (laws : AreaLaws) (held : Option Files) (counted : List ℕ → Type 0)
   task_means c lists (gathering.texts l ts) e i h o k = moved o (compiled l) k (c, l, ts, i, h, subst (λ (t : Task). Accepts t l ts) (sym e) tt)
   task_means c (judges s target) (gathering.texts l (text ∷ [])) e i h o k = checked_means c s target e i l text h o k
   task_means c (verifies s r) (gathering.texts l (text ∷ filed ∷ [])) e i h o k = verify_means c s r e i l text filed h o k
+  task_means c (rewrites s name) (gathering.texts l (text ∷ [])) e i h o k = rewrite_means c s name e i l text h o k
   task_means c t (gathering.texts l ts) e i h o k = absurd k
 
   -- the status of the outcome has its cause
@@ -97,10 +186,21 @@ IsFixed _ = ⊤
 fixed_as : (o p : Outcome) → o ≡ p → IsFixed p.status → IsFixed o.status
 fixed_as o p e h = subst (λ (x : Outcome). IsFixed x.status) (sym e) h
 
-areas_fixed : (target : Target) (l : Layout) (rows : List (List Row)) (o : Outcome) → AreJudged target l rows o → IsFixed o.status
-areas_fixed target l rows o j = fixed_as o (outcome_by l (objects rows) target j.answers j.certificates (some_fault j.answers) (some_undecided j.answers)) (j.is ∙ by_answers l (objects rows) target j.drawings j.answers j.certificates j.answered) (by (some_fault j.answers) (some_undecided j.answers))
+areas_fixed : (target : Target) (l : Layout) (rows : List (List Row)) (o : Outcome)
+    → AreJudged target l rows o → IsFixed o.status
+areas_fixed target l rows o j =
+    fixed_as o (by_kinds (some_fault j.answers || surface_fault l j.surface_answers)
+    (some_undecided j.answers))
+    (j.is ∙ by_answers l (objects rows) target j.surface_answers j.drawings j.answers
+    j.certificates j.polygons j.answered)
+    (by (some_fault j.answers || surface_fault l j.surface_answers) (some_undecided j.answers))
   where
-    by : (f g : Bool) → IsFixed (outcome_by l (objects rows) target j.answers j.certificates f g).status
+    by_kinds : Bool → Bool → Outcome
+    by_kinds f g =
+        outcome_by l (objects rows) target j.surface_answers j.answers j.certificates j.polygons
+        f g
+
+    by : (f g : Bool) → IsFixed (by_kinds f g).status
     by true g = tt
     by false true = tt
     by false false = tt
@@ -118,6 +218,11 @@ judged_fixed l text Areas areas o (faulty rows t n e) = fixed_as o (rejected (fi
 judged_fixed l text Areas areas o (oversized rows t k b e) = fixed_as o area_too_large e tt
 judged_fixed l text Areas areas o (sound h) = areas h.0 o h.4
 
+rewrite_fixed : (name : List ℕ) (l : Layout) (text : List ℕ) (o : Outcome) → IsRewritten name l text o → IsFixed o.status
+rewrite_fixed name l text o (misread n code h e) = fixed_as o (misbuilt n code) e tt
+rewrite_fixed name l text o (without_text rows t k e) = fixed_as o canon_refused e tt
+rewrite_fixed name l text o (written rows t k e) = fixed_as o (canonical name (objects rows) (canon_of l rows)) e tt
+
 task_fixed : (t : Task) (g : Gathered) (o : Outcome) → HasOutcome t g o → IsFixed o.status
 task_fixed t (gathering.unread f) o e = fixed_as o (unread f) e tt
 task_fixed t (gathering.too_long f) o e = fixed_as o (too_long f) e tt
@@ -125,6 +230,7 @@ task_fixed t (gathering.refused r) o e = fixed_as o (refused r) e tt
 task_fixed lists (gathering.texts l ts) o e = fixed_as o (compiled l) e tt
 task_fixed (judges s target) (gathering.texts l (text ∷ [])) o k = judged_fixed l text (AreJudged target l) (λ rows p j. areas_fixed target l rows p j) o k
 task_fixed (verifies s r) (gathering.texts l (text ∷ filed ∷ [])) o k = judged_fixed l text (AreVerified l filed) (λ rows p j. verified_fixed l rows filed p j) o k
+task_fixed (rewrites s name) (gathering.texts l (text ∷ [])) o k = rewrite_fixed name l text o k
 task_fixed t (gathering.texts l ts) o k = absurd k
 
 fixed : (held : Option Files) (counted : List ℕ → Type 0) (words : List (List ℕ)) (o : Outcome) → Decides held counted words o → IsFixed o.status

@@ -35,7 +35,7 @@ use Rattle.area_drawings.specs.KeptRows.{Kept}
 use Rattle.area_drawings.specs.KeptViews.{kept_in}
 use Rattle.delivery.specs.KeptRows.{tables_found, all_found, transfer_so_far}
 use Rattle.delivery.specs.KeptViews.{HasTaken, found_in}
-use Rattle.delivery.specs.Pieces.{HasText, AreKept, IsKept}
+use Rattle.delivery.specs.Pieces.{Keeps, HasText, AreKept, IsKept}
 use Rattle.delivery.specs.declared.judging.lines.Judge.{Judge}
 use Rattle.delivery.specs.declared.judging.rows.TransferKept.{TransferKept}
 use Rattle.delivery.proofs.KeptPlaces.{all_large, all_can_be_drawn, all_drawings}
@@ -45,7 +45,7 @@ use Rattle.delivery.proofs.PieceSteps.{after-append, shown-append}
 abbrev lines_to : List LogicalLine → LineEnd → LogicalLines
 lines_to lines end = record { lines = lines; fault = end.fault; total = end.total }
 
-module _ (l : Layout) (text : List ℕ) (j : Judge) (h : HasText l text j) (last : List LogicalLine) (end : LineEnd) (ends : Ends j.lines last end) (law : lines_from_state (opening l.codes.continued) text ≡ logical l.codes.continued text) where
+module _ (K : Type 0) (Has : Keeps K) (l : Layout) (text : List ℕ) (j : Judge K) (h : HasText Has l text j) (last : List LogicalLine) (end : LineEnd) (ends : Ends j.lines last end) (law : lines_from_state (opening l.codes.continued) text ≡ logical l.codes.continued text) where
   abbrev all : List LogicalLine
   all = h.takes.lines ++ last
 
@@ -58,8 +58,8 @@ module _ (l : Layout) (text : List ℕ) (j : Judge) (h : HasText l text j) (last
   pub few_total : (lines_of l text).total ≤ length text → end.total < 4294967295
   few_total k = let t = ap (λ (f : LogicalLines). f.total) found in let n = h.few in omega (arith, k, t, n)
 
-  module _ (at : Standing) (k : TransferKept) (a : at ≡ after_lines (form_of l) j.rows.feed.at last)
-      (t : (came : List (ℕ × Row)) → HasTaken l came j.rows.kept → HasTaken l (came ++ shown_rows (form_of l) j.rows.feed.at last) k) where
+  module _ (at : Standing) (k : K) (a : at ≡ after_lines (form_of l) j.rows.feed.at last)
+      (t : (came : List (ℕ × Row)) → Has l came j.rows.kept → Has l (came ++ shown_rows (form_of l) j.rows.feed.at last) k) where
     abbrev rows : List (ℕ × Row)
     rows = shown_rows (form_of l) (standing start) all
 
@@ -69,8 +69,8 @@ module _ (l : Layout) (text : List ℕ) (j : Judge) (h : HasText l text j) (last
     at_end : at ≡ after_lines (form_of l) (standing start) all
     at_end = a ∙ (ap (λ (s : Standing). after_lines (form_of l) s last) at_front ∙ sym (after-append (form_of l) (standing start) h.takes.lines last))
 
-    rows_end : HasTaken l rows k
-    rows_end = subst (λ (rs : List (ℕ × Row)). HasTaken l rs k)
+    rows_end : Has l rows k
+    rows_end = subst (λ (rs : List (ℕ × Row)). Has l rs k)
         (ap (λ (s : Standing). shown_rows (form_of l) s h.takes.lines ++ shown_rows (form_of l) j.rows.feed.at last) h.opened.at
         ∙ (ap (λ (s : Standing). shown_rows (form_of l) (standing start) h.takes.lines ++ shown_rows (form_of l) s last) at_front
         ∙ sym (shown-append (form_of l) (standing start) h.takes.lines last)))
@@ -86,7 +86,7 @@ module _ (l : Layout) (text : List ℕ) (j : Judge) (h : HasText l text j) (last
     refused_at r n code e = r n code (answered (Some (n, code)) e)
 
     pub are_kept : ((transfer : List (List Row)) → read_from (form_of l) reads.opening (lines_of l text).lines (end_of (lines_of l text)) ≡ read transfer → IsRead (form_of l) (lines_of l text) transfer)
-        → ((lines : List LogicalLine) → shown_rows (form_of l) (standing start) lines ≡ closed_rows (form_of l) lines) → fault_at at end ≡ None → AreKept l text k
+        → ((lines : List LogicalLine) → shown_rows (form_of l) (standing start) lines ≡ closed_rows (form_of l) lines) → fault_at at end ≡ None → AreKept Has l text k
     are_kept r s e = record {
       rows = rows;
       taken = rows_end;
@@ -95,9 +95,9 @@ module _ (l : Layout) (text : List ℕ) (j : Judge) (h : HasText l text j) (last
     }
 
 -- what the code answers to a text that is at fault
-pub kept_err : (l : Layout) (text : List ℕ) (fault : Option (ℕ × Structure)) (e : ReadRefusal) → FindsFault fault (Err e) → ((n : ℕ) (code : Structure) → fault ≡ Some (n, code) → IsRefused (form_of l) (lines_of l text) n code) → IsKept l text (Err e)
-kept_err l text fault (refusals.At line code) h r = r line (fault_of code) h
-kept_err l text fault refusals.Memory h r = tt
+pub kept_err : (K : Type 0) (Has : Keeps K) (l : Layout) (text : List ℕ) (fault : Option (ℕ × Structure)) (e : ReadRefusal) → FindsFault fault (Err e) → ((n : ℕ) (code : Structure) → fault ≡ Some (n, code) → IsRefused (form_of l) (lines_of l text) n code) → IsKept Has l text (Err e)
+kept_err K Has l text fault (refusals.At line code) h r = r line (fault_of code) h
+kept_err K Has l text fault refusals.Memory h r = tt
 
 -- ---- findings
 found_tables : (codes : Codes) (ts : List Table) (transfer : List (List Row)) → all_found (tables_found codes ts transfer) ≡ tables_findings codes ts transfer
@@ -105,7 +105,7 @@ found_tables codes [] transfer = refl
 found_tables codes (t ∷ ts) [] = refl
 found_tables codes (t ∷ ts) (rows ∷ transfer) = ap (λ (fs : List Finding). table_findings codes t rows ++ fs) (found_tables codes ts transfer)
 
-module _ (l : Layout) (text : List ℕ) (k : TransferKept) (h : AreKept l text k) where
+module _ (l : Layout) (text : List ℕ) (k : TransferKept) (h : AreKept HasTaken l text k) where
   abbrev transfer : List (List Row)
   transfer = transfer_so_far l h.rows
 

@@ -21,7 +21,7 @@ use Rattle.itf_reader.specs.Layouts.{wanted_of}
 use Rattle.itf_reader.specs.RowFindings.{widths, is_counted, row_findings, line_findings, lines_findings, columns_findings}
 use Rattle.itf_reader.specs.RowForms.{EachRow, IsCounted}
 use Rattle.itf_reader.specs.RowReadings.{Undefined, cell_by, cell_of, cells_of, sound_vertices, lines_vertices}
-use Rattle.itf_reader.specs.StrokeFindings.{Seen, seen, finding_at, vertex_code, vertex_finding, is_clean, are_clean, all_seen, short_finding, arc_findings, stroke_findings, is_of_area}
+use Rattle.itf_reader.specs.StrokeFindings.{Seen, seen, finding_at, vertex_code, vertex_finding, is_clean, are_clean, all_seen, short_finding, arc_findings, stroke_findings}
 use Rattle.domain_rules.specs.CleanPlaces as clean
 use Rattle.domain_rules.specs.CleanPlaces.{AreSoundVertices, HasPlaces, RowsHavePlaces, HavePlaces}
 use Rattle.domain_rules.specs.ValueFindings.{table_findings, tables_findings, value_findings}
@@ -40,13 +40,13 @@ use Rattle.delivery.specs.Judging.{IsClean}
 use Rattle.area_drawings.specs.KeptDrawings.{seen_curves, cut, total, kept_curves, AreIn, ArePointsIn, vertices_there, is_kept_large, has_kept_large, AreDrawable, AreDrawn, CanBeDrawn, column_points, curves_there, IsDrawnFrom}
 use Rattle.area_drawings.specs.KeptLines.{row_vertices, vertex_count, Lines, lines_kept}
 use Rattle.area_drawings.specs.KeptPoints.{cell_points, row_points, points_in_column}
-use Rattle.area_drawings.specs.KeptRows.{is_area_point, Kept, kept, vertices_in as vertices_of, counts_in}
+use Rattle.area_drawings.specs.KeptRows.{is_area_point, are_lines, Kept, kept, vertices_in as vertices_of, counts_in}
 use Rattle.area_drawings.proofs.RowSteps.{column_asked}
 use Rattle.delivery.specs.KeptRows.{all_kept}
 use Rattle.delivery.proofs.Drawables.{drop_both, area_table, forms as forms_of, in_window, point_in, clean_rows, all_rows, rows_at}
 
 -- ---- lists
-cut_flat : {X : Type 0} (f : X → List Seen) (xs : List X) → cut (map (λ x. length (f x)) xs) (flat_map f xs) ≡ map f xs
+pub cut_flat : {X : Type 0} (f : X → List Seen) (xs : List X) → cut (map (λ x. length (f x)) xs) (flat_map f xs) ≡ map f xs
 cut_flat f [] = refl
 cut_flat f (x ∷ xs) =
     ap (λ (vs : List Seen). vs ∷ cut (map (λ y. length (f y)) xs) (drop (length (f x)) (f x ++ flat_map f xs))) (take_front (f x) (flat_map f xs))
@@ -61,15 +61,15 @@ cut_flat f (x ∷ xs) =
     drop_front [] ys = refl
     drop_front (x ∷ xs) ys = drop_front xs ys
 
-total_flat : {X : Type 0} (f : X → List Seen) (xs : List X) → total (map (λ x. length (f x)) xs) ≡ length (flat_map f xs)
+pub total_flat : {X : Type 0} (f : X → List Seen) (xs : List X) → total (map (λ x. length (f x)) xs) ≡ length (flat_map f xs)
 total_flat f [] = refl
 total_flat f (x ∷ xs) = ap (λ (n : ℕ). length (f x) + n) (total_flat f xs) ∙ sym (length-append (f x) (flat_map f xs))
 
-flat_of_map : {X : Type 0} (g : List Seen → List Curve) (f : X → List Seen) (xs : List X) → flat_map g (map f xs) ≡ flat_map (λ x. g (f x)) xs
+pub flat_of_map : {X : Type 0} (g : List Seen → List Curve) (f : X → List Seen) (xs : List X) → flat_map g (map f xs) ≡ flat_map (λ x. g (f x)) xs
 flat_of_map g f [] = refl
 flat_of_map g f (x ∷ xs) = ap (λ (l : List Curve). g (f x) ++ l) (flat_of_map g f xs)
 
-flat_same : {X Y : Type 0} (f g : X → List Y) (P : X → Type 0) (xs : List X) → ((x : X) → P x → f x ≡ g x) → All P xs → flat_map f xs ≡ flat_map g xs
+pub flat_same : {X Y : Type 0} (f g : X → List Y) (P : X → Type 0) (xs : List X) → ((x : X) → P x → f x ≡ g x) → All P xs → flat_map f xs ≡ flat_map g xs
 flat_same f g P [] h a = refl
 flat_same f g P (x ∷ xs) h a = ap (λ l. l ++ flat_map f xs) (h x (All-head P x xs a)) ∙ ap (λ l. g x ++ l) (flat_same f g P xs h (All-tail P x xs a))
 
@@ -82,13 +82,13 @@ all_flat P Q f [] h a = All-nil P
 all_flat P Q f (x ∷ xs) h a = all_append P (f x) (flat_map f xs) (h x (All-head Q x xs a)) (all_flat P Q f xs h (All-tail Q x xs a))
 
 -- ---- rows without findings
-no_findings : (codes : Codes) (t : Table) (rows : List Row) → table_findings codes t rows ≡ [] → All (λ r. row_findings codes t r ≡ []) rows
+pub no_findings : (codes : Codes) (t : Table) (rows : List Row) → table_findings codes t rows ≡ [] → All (λ r. row_findings codes t r ≡ []) rows
 no_findings codes t [] e = All-nil (λ r. row_findings codes t r ≡ [])
 no_findings codes t (r ∷ rows) e =
     let b = empty_both (row_findings codes t r) (table_findings codes t rows) e in
     All-cons (λ r. row_findings codes t r ≡ []) r rows b.0 (no_findings codes t rows b.1)
 
-none_at : (codes : Codes) (ts : List Table) (transfer : List (List Row)) (n : ℕ) (t : Table) → tables_findings codes ts transfer ≡ [] → slice_get ts n ≡ Some t → table_findings codes t (slice_index_or transfer n []) ≡ []
+pub none_at : (codes : Codes) (ts : List Table) (transfer : List (List Row)) (n : ℕ) (t : Table) → tables_findings codes ts transfer ≡ [] → slice_get ts n ≡ Some t → table_findings codes t (slice_index_or transfer n []) ≡ []
 none_at codes [] transfer n t e g = absurd (cc)
 none_at codes (u ∷ ts) [] n t e g = refl
 none_at codes (u ∷ ts) (rows ∷ transfer) zero t e g =
@@ -98,7 +98,7 @@ none_at codes (u ∷ ts) (rows ∷ transfer) zero t e g =
     same u t e = cc
 none_at codes (u ∷ ts) (rows ∷ transfer) (suc n) t e g = none_at codes ts transfer n t (empty_both (table_findings codes u rows) (tables_findings codes ts transfer) e).1 g
 
-clean_findings : (l : Layout) (rows : List (List Row)) → IsClean l rows → tables_findings l.codes l.tables rows ≡ []
+pub clean_findings : (l : Layout) (rows : List (List Row)) → IsClean l rows → tables_findings l.codes l.tables rows ≡ []
 clean_findings l rows c =
     unsorted is_before (tables_findings l.codes l.tables rows)
     (empty_both (value_findings l rows) (key_findings l rows) (unsorted is_before (value_findings l rows ++ key_findings l rows) c)).0
@@ -108,14 +108,14 @@ pub record IsRight (codes : Codes) (t : Table) (r : Row) : Type 0 where
   pub clean : row_findings codes t r ≡ []
   pub places : HasPlaces codes t r
 
-all_right : (codes : Codes) (t : Table) (rows : List Row) → All (λ r. row_findings codes t r ≡ []) rows → All (HasPlaces codes t) rows → All (IsRight codes t) rows
+pub all_right : (codes : Codes) (t : Table) (rows : List Row) → All (λ r. row_findings codes t r ≡ []) rows → All (HasPlaces codes t) rows → All (IsRight codes t) rows
 all_right codes t [] b c = All-nil (IsRight codes t)
 all_right codes t (r ∷ rows) b c =
     All-cons (IsRight codes t) r rows
     (record { clean = All-head (λ r. row_findings codes t r ≡ []) r rows b; places = All-head (HasPlaces codes t) r rows c })
     (all_right codes t rows (All-tail (λ r. row_findings codes t r ≡ []) r rows b) (All-tail (HasPlaces codes t) r rows c))
 
-counted_at : (ts : List Table) (transfer : List (List Row)) (n : ℕ) (t : Table) → EachRow IsCounted (map wanted_of ts) transfer → slice_get ts n ≡ Some t → All (IsCounted (length t.lines)) (slice_index_or transfer n [])
+pub counted_at : (ts : List Table) (transfer : List (List Row)) (n : ℕ) (t : Table) → EachRow IsCounted (map wanted_of ts) transfer → slice_get ts n ≡ Some t → All (IsCounted (length t.lines)) (slice_index_or transfer n [])
 counted_at [] transfer n t h g = absurd (cc)
 counted_at (u ∷ ts) [] n t h g = absurd h
 counted_at (u ∷ ts) (rows ∷ transfer) zero t h g = subst (λ (v : Table). All (IsCounted (length v.lines)) rows) (same u t g) h.0
@@ -177,14 +177,14 @@ module _ (codes : Codes) (t : Table) (l : LineForm) (one : t.lines ≡ l ∷ [])
   length_of_row : (r : Row) → IsRight codes t r → length (row_vertices t r) ≡ length (slice_index_or r.strokes 0 [])
   length_of_row r h = ap (λ (vs : List Seen). length vs) (line_of_row r h) ∙ length-map (slice_index_or r.strokes 0 []) (seen l)
 
-  curves_of_row : (r : Row) → IsRight codes t r → seen_curves (row_vertices t r) ≡ row_curves l r
+  pub curves_of_row : (r : Row) → IsRight codes t r → seen_curves (row_vertices t r) ≡ row_curves l r
   curves_of_row r h = ap seen_curves (line_of_row r h) ∙ by (slice_index_or r.strokes 0 [])
     where
       by : (vs : List Vertex) → seen_curves (all_seen l vs) ≡ line_curves l vs
       by [] = refl
       by (v ∷ vs) = refl
 
-  inside_of_row : (w : Window2) → IsWindowOf l.window w → (r : Row) → IsRight codes t r → AreIn w (row_vertices t r)
+  pub inside_of_row : (w : Window2) → IsWindowOf l.window w → (r : Row) → IsRight codes t r → AreIn w (row_vertices t r)
   inside_of_row w i r h = subst (AreIn w) (sym (line_of_row r h)) (by (slice_index_or r.strokes 0 []) (sound r h))
     where
       sound : (r : Row) → IsRight codes t r → AreSoundVertices l (slice_index_or r.strokes 0 [])
@@ -303,7 +303,7 @@ module _ (codes : Codes) (t : Table) (k : ℕ) (c : Column) (v : Window) (at : s
       (HasPlaces codes t) rows points_of_row h
 
 -- ---- an area
-kept_there : (codes : Codes) (ts : List Table) (transfer : List (List Row)) (n : ℕ) (t : Table) → EachRow IsCounted (map wanted_of ts) transfer → slice_get ts n ≡ Some t
+pub kept_there : (codes : Codes) (ts : List Table) (transfer : List (List Row)) (n : ℕ) (t : Table) → EachRow IsCounted (map wanted_of ts) transfer → slice_get ts n ≡ Some t
     → slice_get (all_kept codes ts transfer) n ≡ Some (kept codes t (slice_index_or transfer n []))
 kept_there codes [] transfer n t h e = absurd (cc)
 kept_there codes (u ∷ ts) [] n t h e = absurd h
@@ -330,8 +330,8 @@ module _ (l : Layout) (rows : List (List Row)) (v : IsValid l) (c : IsClean l ro
       let rs = slice_index_or rows k [] in
       all_right l.codes t rs (no_findings l.codes t rs (none_at l.codes l.tables rows k t (clean_findings l rows c) e)) (all_rows l.codes t rs (rows_at l.codes l.tables rows k t places e))
 
-  of_area : is_of_area h.helper.role ≡ true
-  of_area = ap is_of_area h.role
+  of_area : are_lines h.helper.role ≡ true
+  of_area = ap are_lines h.role
 
   abbrev line_rows : List Row
   line_rows = slice_index_or rows a.lines []

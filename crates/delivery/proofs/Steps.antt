@@ -17,7 +17,8 @@ use Rattle.reports.specs.Outcomes.{Outcome}
 use Rattle.commands.specs.Reading.{IsLonger}
 use Rattle.reports.specs.FileRefusals.{IsNotRead}
 use Rattle.commands.specs.declared.files.File.{File}
-use Rattle.delivery.specs.Pieces.{IsTransfer}
+use Rattle.delivery.specs.Pieces.{AreFileRows, IsTransfer, Keeps}
+use Rattle.delivery.specs.declared.transfers.RowsReading.TheVariants as rows_reading
 use Rattle.commands.specs.declared.files.File.TheVariants.{Transfer}
 use Rattle.delivery.specs.declared.transfers.TransferReading.TheVariants as reading
 use Rattle.commands.specs.declared.files.FileRefusal.{FileRefusal}
@@ -90,3 +91,9 @@ ended_for l text Areas o (at_fault n code h e) = at_fault n code h e
 ended_for l text Areas o (faulty rows t n e) = faulty rows t n e
 ended_for l text Areas o (oversized rows t k b e) = oversized rows t k b e
 ended_for l text Areas o (sound h) = absurd h.4
+
+-- the rows of a file that was not read are a transfer that was not read
+pub rows_unread : (K : Type 0) (Has : Keeps K) (held : Option Files) (name : List ℕ) (l : Layout) (rose : Type 0) (r : FileRefusal) → AreFileRows Has held name l rose (rows_reading.Unread r) → IsTransfer held name l rose (reading.Unread r)
+rows_unread K Has held name l rose Failed h = h
+rows_unread K Has held name l rose TooLong h = h
+rows_unread K Has held name l rose Memory h = absurd h

@@ -16,7 +16,7 @@ use Rattle.delivery.proofs.Agreement.{both_pass}
 use Rattle.delivery.proofs.AreaLemmas.{straights_decided}
 
 none_in : (t : Task) (l : Layout) (ts : List (List ℕ)) → HasStraightAreas t l ts → LeavesUndecided t l ts → ⊥
-none_in (judges s target) l (text ∷ []) k h = straights_decided l h.0 (subst (HaveStraightLines l) (one_transfer (form_of l) (lines_of l text).lines k.0 h.0 k.1.1 h.1.1) k.2) h.4
+none_in (judges s target) l (text ∷ []) k h = straights_decided l h.0 (subst (HaveStraightLines l) (one_transfer (form_of l) (lines_of l text).lines k.0 h.0 k.1.1 h.1.1) k.2) h.4.0
 none_in t l ts k h = h
 
 pub none_left : (files : Files) (far near : List ℕ → Type 0) (words : List (List ℕ)) → Passes (Some files) far words HasStraightAreas → Passes (Some files) near words LeavesUndecided → ⊥

@@ -1,7 +1,7 @@
 -- Filed certificates of the code, by their texts.
-use Rattle.std.proofs.Common.{◌≡◌, ℕ, zero, suc, ◌+◌, ◌<◌, ◌≤◌, List, [], ◌∷◌, ◌++◌, length, map, take, get_or, Some, Ok, slice_get, refl, sym, ap, ◌∙◌, subst, arith}
+use Rattle.std.proofs.Common.{◌≡◌, ℕ, ℤ, zero, suc, ◌+◌, ◌<◌, ◌≤◌, List, [], ◌∷◌, ◌++◌, length, map, take, get_or, Some, Ok, slice_get, refl, sym, ap, ◌∙◌, subst, arith}
 use Rattle.std.specs.Option.{option_map}
-use Rattle.std.specs.List.{AllByRecursion}
+use Rattle.std.specs.List.{All, AllByRecursion, AllZip}
 use Rattle.std.proofs.lemmas.List.{map-append, take_more}
 use Rattle.std.proofs.lemmas.Option.{slice_get-map, slice_get_read}
 use Rattle.straight_predicates.proofs.Orders.{by_lt}
@@ -14,11 +14,15 @@ use Rattle.certificate.specs.declared.notes.Certificate.{Certificate}
 use Rattle.certificate_checker.specs.Verdicts.{IsBrokenBy, ProvesBy}
 use Rattle.plane.specs.Rule.Plans.{Plan, plan}
 use Rattle.plane.specs.declared.drawing.Drawing.{Drawing}
-use Rattle.table_layout.specs.Layouts.{Layout}
+use Rattle.table_layout.specs.Layouts.{AreaOf, Layout}
+use Rattle.area_drawings.specs.AreaLimits.{IsSmallPlan}
+use Rattle.area_drawings.specs.Drawings.{area_tolerance}
+use Rattle.area_drawings.specs.KeptViews.{HasTolerance}
 use Rattle.reports.specs.AreaKinds.{plans}
 use Rattle.delivery.specs.AreaCertificates.{claims_of}
 use Rattle.delivery.specs.Verifying.{AreChecked, AreNamed, IsBadLine, IsBrokenAt, IsLineOf, IsProvedAt, IsVerification, AreFiledIn, all_proved, bad, broken, levels_of, missing}
 use Rattle.reports.specs.Verifications.{Verification, proved, not_proved}
+use Rattle.delivery.proofs.Drawables.{all_at}
 use Rattle.delivery.proofs.Verifications.{certificates_of}
 
 -- an element of a list and of its view
@@ -45,12 +49,55 @@ no_list (faults.Short k) line list q h = absurd (cc)
 no_list faults.Memory line list q h = absurd q
 
 -- ---- drawings
-module _ (ds : List Drawing) (cs : List Certificate) (k : ℕ) (d : Drawing) (c : Certificate) (v : k < length ds) (e : d ≡ get_or ds k d) (w : k < length cs) (f : c ≡ get_or cs k c) where
-  pub proved_here : ProvesBy (plan d) c.bent (claims_of (view c)) → IsProvedAt (plans ds) (views cs) k
-  proved_here p = record { drawing = plan d; certificate = view c; drawing_there = mapped_there plan ds k d v e; certificate_there = mapped_there view cs k c w f; own = p.own; proves = p.proves }
+pub small_at : (ds : List Drawing) (k : ℕ) (d : Drawing) → All IsSmallPlan (plans ds)
+    → k < length ds → d ≡ get_or ds k d → IsSmallPlan (plan d)
+small_at ds k d h w e = all_at IsSmallPlan (plans ds) k (plan d) h (mapped_there plan ds k d w e)
 
-  pub broken_here : (rule place : ℕ) → ((j : ℕ) → j < k → IsProvedAt (plans ds) (views cs) j) → IsBrokenBy (plan d) c.bent (claims_of (view c)) rule place → IsBrokenAt (plans ds) (views cs) k rule place
-  broken_here rule place h b = record { before = h; drawing = plan d; certificate = view c; drawing_there = mapped_there plan ds k d v e; certificate_there = mapped_there view cs k c w f; broken = b }
+-- the area of a drawing's number permits the overlap of the drawing
+permits_at : (l : Layout) (as_ : List AreaOf) (ds : List Drawing) (k : ℕ) (d : Drawing)
+    → AllZip (HasTolerance l) as_ ds → k < length ds → d ≡ get_or ds k d
+    → (a : AreaOf) × (slice_get as_ k ≡ Some a) × (d.tolerance ≡ area_tolerance l a)
+permits_at l [] [] k d h w e = absurd (omega (arith, w))
+permits_at l [] (x ∷ ds) k d h w e = absurd h
+permits_at l (a ∷ as_) [] k d h w e = absurd h
+permits_at l (a ∷ as_) (x ∷ ds) zero d h w e =
+    (a, refl, ap (λ (y : Drawing). y.tolerance) e ∙ h.0)
+permits_at l (a ∷ as_) (x ∷ ds) (suc k) d h w e =
+    permits_at l as_ ds k d h.1 (omega (arith, w)) e
+
+module _ (l : Layout) (ds : List Drawing) (cs : List Certificate) (k : ℕ) (d : Drawing)
+    (c : Certificate) (t : AllZip (HasTolerance l) l.areas ds) (v : k < length ds)
+    (e : d ≡ get_or ds k d) (w : k < length cs) (f : c ≡ get_or cs k c) where
+  pub proved_here : ProvesBy d.tolerance (plan d) c.bent (claims_of (view c))
+      → IsProvedAt l (plans ds) (views cs) k
+  proved_here p =
+      let a = permits_at l l.areas ds k d t v e in
+      record {
+        area = a.0;
+        drawing = plan d;
+        certificate = view c;
+        area_there = a.1;
+        drawing_there = mapped_there plan ds k d v e;
+        certificate_there = mapped_there view cs k c w f;
+        proves = subst (λ (n : ℤ). ProvesBy n (plan d) c.bent (claims_of (view c))) a.2 p;
+      }
+
+  pub broken_here : (rule place : ℕ) → ((j : ℕ) → j < k → IsProvedAt l (plans ds) (views cs) j)
+      → IsBrokenBy d.tolerance (plan d) c.bent (claims_of (view c)) rule place
+      → IsBrokenAt l (plans ds) (views cs) k rule place
+  broken_here rule place h b =
+      let a = permits_at l l.areas ds k d t v e in
+      record {
+        before = h;
+        area = a.0;
+        drawing = plan d;
+        certificate = view c;
+        area_there = a.1;
+        drawing_there = mapped_there plan ds k d v e;
+        certificate_there = mapped_there view cs k c w f;
+        broken =
+            subst (λ (n : ℤ). IsBrokenBy n (plan d) c.bent (claims_of (view c)) rule place) a.2 b;
+      }
 
 -- what holds before a number and at it
 pub one_further : (P : ℕ → Type 0) (n : ℕ) → ((j : ℕ) → j < n → P j) → P n → (j : ℕ) → j < n + 1 → P j
@@ -74,6 +121,8 @@ pub levels_view : (cs : List Certificate) → map (λ (c : Certificate). c.level
 levels_view [] = refl
 levels_view (c ∷ cs) = ap (λ (ns : List ℕ). c.level ∷ ns) (levels_view cs)
 
-pub checked_list : (l : Layout) (ds : List Plan) (cs : List Plain) (v : Verification) → length ds ≡ length l.areas → AreNamed l cs → AreChecked ds cs v → (text : List ℕ) → AreFiledIn text cs → IsVerification l ds text v
+pub checked_list : (l : Layout) (ds : List Plan) (cs : List Plain) (v : Verification)
+    → length ds ≡ length l.areas → AreNamed l cs → AreChecked l ds cs v → (text : List ℕ)
+    → AreFiledIn text cs → IsVerification l ds text v
 checked_list l ds cs (proved levels) m n h text s = all_proved cs s (certificates_of l ds cs m n h.1) (ap proved h.0)
 checked_list l ds cs (not_proved k rule place) m n h text s = broken cs k rule place s n h refl

@@ -10,13 +10,19 @@ use Rattle.domain_rules.specs.ValueFindings.{value_findings}
 use Rattle.ident_refs.specs.KeyFindings.{key_findings}
 use Rattle.certificate.specs.Spelling.{Plain, AreSpelt}
 use Rattle.delivery.specs.AreaAnswers.{AreAnswers}
+use Rattle.delivery.specs.AreaPolygons.{ArePolygonsFor}
 use Rattle.area_drawings.specs.AreaLimits.{has_too_large}
 use Rattle.area_drawings.specs.Drawings.{AreDrawings}
 use Rattle.plane.specs.Rule.Plans.{Plan}
+use Rattle.polygons.specs.Text as polygons
 use Rattle.commands.specs.Commands.{Target}
 use Rattle.reports.specs.Outcomes.{Outcome, area_too_large, misbuilt, rejected}
 use Rattle.reports.specs.Outcomes.{areas_outcome}
+use Rattle.reports.specs.Surfaces.{surfaces}
 use Rattle.reports.specs.declared.lines.AreaAnswer.{AreaAnswer}
+use Rattle.reports.specs.declared.lines.SurfaceAnswer.{SurfaceAnswer}
+use Rattle.reports.specs.declared.status.Status.TheVariants.{Accepted}
+use Rattle.delivery.specs.Surfaces.{AreSurfaceAnswers}
 
 -- the logical lines of a transfer, by the codes of its layout
 abbrev pub lines_of : Layout → List ℕ → LogicalLines
@@ -67,17 +73,23 @@ pub data IsJudgedBy (l : Layout) (text : List ℕ) (Areas : List (List Row) → 
   -- they meet the declarations, and no area is over its limit
   sound : HasSoundRows l text (λ rows. Areas rows o) → IsJudgedBy l text Areas o
 
--- the areas of rows are drawn, and the outcome has the answers to their drawings
+-- The areas of rows are drawn, and the outcome has the answers to the SURFACEs and to the drawings.
+-- Where it is accepted and polygons are to be filed, these are those of the drawings.
 pub record AreJudged (target : Target) (l : Layout) (rows : List (List Row))
     (o : Outcome) : Type 0 where
+  pub surface_answers : List SurfaceAnswer
+  pub surfaces_answered : AreSurfaceAnswers l rows (surfaces l) surface_answers
   pub drawings : List Plan
   pub answers : List AreaAnswer
   pub certificates : List Plain
   pub drawn : AreDrawings l rows drawings
   pub answered : AreAnswers l l.areas drawings answers certificates
   pub spelt : AreSpelt certificates
-  pub is : o ≡ areas_outcome l (objects rows) target answers certificates
+  pub polygons : List polygons.Plain
+  pub bounded : o.status ≡ Accepted → ArePolygonsFor target.filed l drawings polygons
+  pub is : o ≡ areas_outcome l (objects rows) target surface_answers answers certificates
+      polygons
 
--- the outcome of a transfer's text, whose certificates go to that target
+-- the outcome of a transfer's text, whose certificates or polygons go to that target
 abbrev pub IsChecked : Target → Layout → List ℕ → Outcome → Type 0
 IsChecked target l text o = IsJudgedBy l text (AreJudged target l) o

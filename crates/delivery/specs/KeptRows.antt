@@ -54,12 +54,6 @@ changed_at place change [] = []
 changed_at zero change (k ∷ ks) = change k ∷ ks
 changed_at (suc place) change (k ∷ ks) = k ∷ changed_at place change ks
 
--- one more row of the table at a place, if there is one
-abbrev pub with_row_at : ℕ → Row → List (List Row) → List (List Row)
-with_row_at place r [] = []
-with_row_at zero r (rows ∷ transfer) = (rows ++ r ∷ []) ∷ transfer
-with_row_at (suc place) r (rows ∷ transfer) = rows ∷ with_row_at place r transfer
-
 -- the rows so far, each with the number of its table, as a transfer
 abbrev pub transfer_so_far : Layout → List (ℕ × Row) → List (List Row)
 transfer_so_far l rows = by_table (form_of l) rows

@@ -1,11 +1,16 @@
 -- What a filed text of certificates proves of the drawings of a layout's areas.
-use Rattle.std.specs.Prelude.{◌≡◌, ◌⊎◌, ℕ, suc, ◌<◌, false, List, length, map, Option, Some, None}
+use Rattle.std.specs.Prelude.{◌≡◌, ◌⊎◌, ℕ, suc, ◌<◌, List, length, map, Option, Some, None}
 use Rattle.std.specs.Prelude.{slice_get}
+use Rattle.std.specs.List.{AllZip}
+use Rattle.area_drawings.specs.Drawings.{IsDrawing, area_tolerance}
 use Rattle.certificate.specs.FirstBad.{IsFirstBad, IsTooShort}
 use Rattle.certificate.specs.Spelling.{Plain, AreSpelt, Spells}
 use Rattle.certificate.specs.declared.fault.CertFault.{CertFault}
 use Rattle.certificate.specs.declared.fault.CertFault.TheVariants as faults
-use Rattle.certificate_checker.specs.Verdicts.{IsBrokenBy, Proves}
+use Rattle.certificate_checker.specs.Verdicts.{IsBrokenBy, ProvesBy}
+use Rattle.forks.specs.Grounds.{IsGround}
+use Rattle.itf_reader.specs.Forms.{Row}
+use Rattle.plane.specs.Rule.Cuts.{IsArea}
 use Rattle.plane.specs.Rule.Plans.{Plan}
 use Rattle.table_layout.specs.Layouts.{AreaOf, Layout}
 use Rattle.reports.specs.Verifications.{Verification, proved, not_proved}
@@ -44,24 +49,30 @@ pub record IsMisnamedAt (l : Layout) (cs : List Plain) (k : ℕ) : Type 0 where
   pub misnamed : IsNamedAt l cs k → ⊥
 
 -- ---- the other rules: each certificate proves the drawing of its area
--- certificate k is of the drawing of area k itself, and proves it
-pub record IsProvedAt (ds : List Plan) (cs : List Plain) (k : ℕ) : Type 0 where
+-- certificate k proves the drawing of area k, or what becomes of it by the overlap that the area
+-- permits, as it says
+pub record IsProvedAt (l : Layout) (ds : List Plan) (cs : List Plain) (k : ℕ) : Type 0 where
+  pub area : AreaOf
   pub drawing : Plan
   pub certificate : Plain
+  pub area_there : slice_get l.areas k ≡ Some area
   pub drawing_there : slice_get ds k ≡ Some drawing
   pub certificate_there : slice_get cs k ≡ Some certificate
-  pub own : certificate.bent ≡ false
-  pub proves : Proves drawing (claims_of certificate)
+  pub proves : ProvesBy (area_tolerance l area) drawing certificate.bent (claims_of certificate)
 
 -- the certificates before k prove their drawings, and the rule is the first that certificate k
 -- breaks, at that place
-pub record IsBrokenAt (ds : List Plan) (cs : List Plain) (k rule place : ℕ) : Type 0 where
-  pub before : (j : ℕ) → j < k → IsProvedAt ds cs j
+pub record IsBrokenAt (l : Layout) (ds : List Plan) (cs : List Plain)
+    (k rule place : ℕ) : Type 0 where
+  pub before : (j : ℕ) → j < k → IsProvedAt l ds cs j
+  pub area : AreaOf
   pub drawing : Plan
   pub certificate : Plain
+  pub area_there : slice_get l.areas k ≡ Some area
   pub drawing_there : slice_get ds k ≡ Some drawing
   pub certificate_there : slice_get cs k ≡ Some certificate
-  pub broken : IsBrokenBy drawing certificate.bent (claims_of certificate) rule place
+  pub broken :
+      IsBrokenBy (area_tolerance l area) drawing certificate.bent (claims_of certificate) rule place
 
 -- ---- all rules, in their order
 -- the levels of certificates
@@ -76,9 +87,26 @@ pub data IsVerification (l : Layout) (ds : List Plan) (text : List ℕ)
   misnamed : (cs : List Plain) (k : ℕ) → AreFiledIn text cs → IsMisnamedAt l cs k → v ≡ not_proved k 1 k
       → IsVerification l ds text v
   broken : (cs : List Plain) (k rule place : ℕ) → AreFiledIn text cs → AreNamed l cs
-      → IsBrokenAt ds cs k rule place → v ≡ not_proved k rule place → IsVerification l ds text v
+      → IsBrokenAt l ds cs k rule place → v ≡ not_proved k rule place → IsVerification l ds text v
   all_proved : (cs : List Plain) → AreFiledIn text cs → AreCertificatesOf l l.areas ds cs
       → v ≡ proved (levels_of cs) → IsVerification l ds text v
+
+-- ---- what a text that proves all areas says of each
+-- the drawing that the certificate is of, that of the area itself or what becomes of it, parts the
+-- plane, each bounded region holds exactly one object's point, and no line has one region on both
+-- sides
+pub record IsFiledArea (l : Layout) (rows : List (List Row)) (a : AreaOf) (c : Plain) : Type 0 where
+  pub drawing : Plan
+  pub drawn : IsDrawing l rows a drawing
+  pub of : Plan
+  pub origin : List ℕ
+  pub is_ground : IsGround (area_tolerance l a) drawing c.bent of origin
+  pub area : IsArea of
+
+-- the text spells certificates for all areas, and this holds of each
+abbrev pub AreFiledAreas : Layout → List (List Row) → List ℕ → Type 0
+AreFiledAreas l rows text =
+    (cs : List Plain) × AreFiledIn text cs × AllZip (IsFiledArea l rows) l.areas cs
 
 -- ---- what the parts of a verification answer
 -- the first certificate that is missing, surplus or of another name, if there is one
@@ -87,10 +115,10 @@ IsFirstMisnamed l cs None = AreNamed l cs
 IsFirstMisnamed l cs (Some k) = IsMisnamedAt l cs k
 
 -- the certificates against their drawings
-abbrev pub AreChecked : List Plan → List Plain → Verification → Type 0
-AreChecked ds cs (proved levels) =
-    (levels ≡ levels_of cs) × ((k : ℕ) → k < length cs → IsProvedAt ds cs k)
-AreChecked ds cs (not_proved k rule place) = IsBrokenAt ds cs k rule place
+abbrev pub AreChecked : Layout → List Plan → List Plain → Verification → Type 0
+AreChecked l ds cs (proved levels) =
+    (levels ≡ levels_of cs) × ((k : ℕ) → k < length cs → IsProvedAt l ds cs k)
+AreChecked l ds cs (not_proved k rule place) = IsBrokenAt l ds cs k rule place
 
 -- the line of a fault
 abbrev pub IsLineOf : CertFault → ℕ → Type 0

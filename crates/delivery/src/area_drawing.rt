@@ -5,13 +5,13 @@ ghost use Rattle.ili_grammar.specs.Values.{codes_of};
 ghost use Rattle.itf_reader.specs.Few.{HasFew};
 ghost use Rattle.itf_reader.specs.Views.{rows_of, tables_rows_of, transfer_of};
 ghost use Rattle.plane.specs.Rule.Plans.{plan};
-ghost use Rattle.table_layout.specs.Layouts.{Table as GivenTable};
+ghost use Rattle.table_layout.specs.Layouts.{AreaOf as GivenArea, Table as GivenTable};
 ghost use Rattle.table_layout.specs.Valid.{IsValid};
 ghost use Rattle.table_layout.specs.Values.{areas_view, layout_view, table_view};
 ghost use Rattle.area_drawings.specs.AreaLimits.{IsWithinLimits};
 ghost use Rattle.area_drawings.specs.Drawings.{IsDrawingAt};
 ghost use Rattle.area_drawings.specs.KeptRows.{kept};
-ghost use Rattle.area_drawings.specs.KeptViews.{kept_of};
+ghost use Rattle.area_drawings.specs.KeptViews.{HasTolerance, kept_of};
 ghost use Rattle.delivery.specs.Judging.{IsClean};
 
 use crate::judging::TableFound;
@@ -78,8 +78,9 @@ fn places_at(
 /// A vertex at the place before it is left out. A straight has the line of its end. An arc is two
 /// half arcs, with the lines of the vertex that it leads over and of its end; where the three
 /// places lie on one straight it is the straights between them, without those of no length. An
-/// object whose AREA value is undefined has no point. The only error is out of memory. It takes
-/// time linear in the rows of the area's two tables, and keeps their places while it draws.
+/// object whose AREA value is undefined has no point. The drawing permits the overlap of the lines'
+/// form. The only error is out of memory. It takes time linear in the rows of the area's two
+/// tables, and keeps their places while it draws.
 pub fn drawing(
     alloc: Global,
     layout: &Layout,
@@ -91,8 +92,11 @@ pub fn drawing(
     requires clean { IsClean (layout_view layout.now) (transfer_of transfer.now) }
     requires small { IsWithinLimits (transfer_of transfer.now)
         (areas_view layout.now.areas.items) area }
-    ensures { IfOk result (λ d. IsDrawingAt (layout_view layout.now) (transfer_of transfer.now)
-        area (plan d)) }
+    ensures drawn { IfOk result (λ d. IsDrawingAt (layout_view layout.now)
+        (transfer_of transfer.now) area (plan d)) }
+    ensures tolerance { IfOk result (λ d. (a : GivenArea)
+        → slice_get (layout_view layout.now).areas area ≡ Some a
+        → HasTolerance (layout_view layout.now) a d) }
 {
     let found = &layout.areas[area as usize];
     let form = line_form(layout, found);

@@ -5,6 +5,7 @@ ghost use Rattle.ports.specs.Reading.{OnlyReads};
 ghost use Rattle.table_layout.specs.Valid.{IsValid};
 ghost use Rattle.table_layout.specs.Values.{layout_view};
 ghost use Rattle.commands.specs.Commands.{further_files, IsWithin, from_file, judges, verifies};
+ghost use Rattle.commands.specs.Commands.{rewrites};
 ghost use Rattle.commands.specs.Commands.{Command as AnyCommand, IsCommand, made, model_of};
 ghost use Rattle.commands.specs.Commands.{Source, task_of};
 ghost use Rattle.commands.specs.CommandViews.{command_of as command_view, target_of, task_view};
@@ -18,15 +19,16 @@ ghost use Rattle.commands.specs.TrialFiles.{model_text as the_model};
 ghost use Rattle.commands.specs.TrialFiles.{transfer_text as the_transfer};
 
 use crate::judging::Judged;
-use crate::rows::{checked, verified_by};
-use crate::transfers::{TransferReading, judge_text, read_transfer};
+use crate::rows::{checked, rewritten, verified_by};
+use crate::transfers::{RowsReading, TransferReading, judge_text, read_for, read_transfer};
 use commands::trial::{files_are_short, model_text, transfer_text};
 use commands::{
     Command, File, ModelReading, Target, Task, TransferSource, Word, command_of, read_file,
     read_model,
 };
+use itf_writer::CanonFeed;
 use ports::{Memory, Shelf};
-use reports::outcome::{Outcome, compiled, not_read, refused, usage};
+use reports::outcome::{Outcome, compiled, misbuilt, not_read, refused, usage};
 use std::alloc::Global;
 use table_layout::Layout;
 
@@ -149,6 +151,33 @@ fn decide_verified<'a, S: Shelf>(
     }
 }
 
+// The outcome of a transfer that is written in its canonical text.
+fn decide_rewritten<'a, S: Shelf>(
+    alloc: Global,
+    transfer: &str,
+    file: &'a str,
+    layout: &Layout,
+    shelf: &mut S,
+) -> Result<Outcome<'a>, Memory>
+    requires valid { IsValid (layout_view layout.now) }
+    ensures outcome { IfOk result (λ o. Ends (S.held shelf.old)
+        (ReadRose (S.read_faults shelf.old) (S.read_faults shelf.new))
+        (rewrites (from_file File.Transfer transfer.now) file.now) (layout_view layout.now)
+        (outcome_of o)) }
+    ensures reads { OnlyReads (S.readable shelf.old transfer.now)
+        (S.held shelf.old) (S.read_faults shelf.old)
+        (S.write_faults shelf.old) (S.readable shelf.old) (S.space shelf.old)
+        (S.held shelf.new) (S.read_faults shelf.new) (S.write_faults shelf.new)
+        (S.readable shelf.new) (S.space shelf.new) }
+{
+    let kept = CanonFeed::new(alloc, layout)?;
+    match read_for(alloc, shelf, transfer, layout, kept)? {
+        RowsReading::Rows(kept) => rewritten(alloc, layout, file, kept),
+        RowsReading::Misbuilt(line, code) => misbuilt(alloc, line, code),
+        RowsReading::Unread(refusal) => not_read(alloc, File::Transfer, refusal),
+    }
+}
+
 // The outcome of a task once its model is compiled.
 fn by_task<'a, S: Shelf>(
     alloc: Global,
@@ -177,6 +206,9 @@ fn by_task<'a, S: Shelf>(
             transfer,
             certificates,
         } => decide_verified(alloc, *transfer, certificates, layout, shelf),
+        Task::Rewrites { transfer, file } => {
+            decide_rewritten(alloc, transfer, file, layout, shelf)
+        }
     }
 }
 

@@ -1,9 +1,12 @@
 // How a transfer is judged whose bytes come in pieces.
 mod closing;
 mod found;
+mod keeping;
 mod lines;
 mod rows;
 
-pub use closing::Judged;
+pub use closing::{Judged, judge_end, judge_rows};
 pub use found::TableFound;
+pub use keeping::{RowKeeper, count_objects};
 pub use lines::Judge;
+pub use rows::TransferKept;

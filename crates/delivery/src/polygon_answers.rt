@@ -1,17 +1,24 @@
-// The polygons of an area.
-ghost use Rattle.std.specs.Prelude.{◌≡◌, ◌⊎◌, ◌<◌, ◌≤◌, ℕ, IfOk, false, length, true};
+// The polygons of areas.
+ghost use Rattle.std.specs.Prelude.{◌≡◌, ◌<◌, ◌≤◌, ℕ, IfOk, false, length, true};
+ghost use Rattle.std.specs.List.{All};
 ghost use Rattle.plane.specs.declared.kinds.CurveKind.TheVariants as kind;
-ghost use Rattle.plane.specs.Rule.Cuts.{HasNoCut};
-ghost use Rattle.plane.specs.Rule.Partition.{IsPartition};
 ghost use Rattle.plane.specs.Rule.Plans.{plan};
+ghost use Rattle.polygons.specs.Text.{objects_view, view, views};
+ghost use Rattle.reports.specs.AreaKinds.{plans};
+ghost use Rattle.table_layout.specs.Values.{area_view, areas_view, layout_view};
 ghost use Rattle.tubes.specs.DrawnEdges.{AreAllStraight, nth_curve};
-ghost use Rattle.delivery.specs.AreaPolygons.{HasHalfArc, IsPolygonAnswer};
+ghost use Rattle.area_drawings.specs.AreaLimits.{IsSmallPlan};
+ghost use Rattle.delivery.specs.AreaPolygons.{AreWrittenAreas, IsPolygonAnswer};
+ghost use Rattle.delivery.specs.AreaPolygons.{IsSkippedOrArea, IsWrittenArea, objects_of};
+ghost use Rattle.delivery.specs.declared.polygon_answers.PolygonAnswer.{PolygonAnswer as Answer};
 
 use area_search::faces_of_straights;
 use plane::{Curve, CurveKind, Drawing};
-use polygons::{Polygon, polygons_of};
+use polygons::{AreaObjects, AreaPolygons, Polygon, polygons_of, with_lines};
 use ports::Memory;
+use reports::names_of;
 use std::alloc::Global;
+use table_layout::{AreaOf, Layout};
 
 /// The polygons of an area.
 #[derive(Drop)]
@@ -28,8 +35,7 @@ pub enum PolygonAnswer {
 /// what `faces_of_straights` and `polygons_of` take; 16 bytes a corner stay.
 pub fn area_polygons(alloc: Global, drawing: &Drawing) -> Result<PolygonAnswer, Memory>
     requires curves { length (plan drawing.now).curves ≤ 16000000 }
-    requires area { HasHalfArc (plan drawing.now)
-        ⊎ (IsPartition (plan drawing.now) × HasNoCut (plan drawing.now)) }
+    requires area { IsSkippedOrArea (plan drawing.now) }
     ensures { IfOk result (IsPolygonAnswer (plan drawing.now)) }
 {
     if has_half_arc(&drawing.curves) {
@@ -40,8 +46,8 @@ pub fn area_polygons(alloc: Global, drawing: &Drawing) -> Result<PolygonAnswer, 
     Ok(PolygonAnswer::Rings(polygons))
 }
 
-// Whether a half arc is among the curves.
-fn has_half_arc(curves: &[Curve]) -> bool
+/// Whether a half arc is among the curves.
+pub fn has_half_arc(curves: &[Curve]) -> bool
     ensures some { result ≡ true → (i : ℕ) × (i < length curves.now)
         × ((nth_curve curves.now i).kind ≡ kind.HalfArc) }
     ensures none { result ≡ false → AreAllStraight curves.now }
@@ -62,4 +68,62 @@ fn is_half_arc(curve: &Curve) -> bool
         CurveKind::HalfArc => true,
         CurveKind::Straight => false,
     }
+}
+
+// The objects of an area that are written, or that it is skipped.
+fn area_objects(alloc: Global, drawing: &Drawing) -> Result<AreaObjects, Memory>
+    requires curves { length (plan drawing.now).curves ≤ 16000000 }
+    requires area { IsSkippedOrArea (plan drawing.now) }
+    ensures { IfOk result (λ objects. (answer : Answer) × IsPolygonAnswer (plan drawing.now) answer
+        × (objects_view objects ≡ objects_of (plan drawing.now) answer)) }
+{
+    match area_polygons(alloc, drawing)? {
+        PolygonAnswer::Skipped => Ok(AreaObjects::Skipped),
+        PolygonAnswer::Rings(polygons) => {
+            let objects = with_lines(alloc, &drawing.points, polygons)?;
+            Ok(AreaObjects::Polygons(objects))
+        }
+    }
+}
+
+// The polygons of an area under its names.
+fn written_area(
+    alloc: Global,
+    layout: &Layout,
+    area: &AreaOf,
+    drawing: &Drawing,
+) -> Result<AreaPolygons, Memory>
+    requires curves { length (plan drawing.now).curves ≤ 16000000 }
+    requires area { IsSkippedOrArea (plan drawing.now) }
+    ensures { IfOk result (λ p. IsWrittenArea (layout_view layout.now) (area_view area.now)
+        (plan drawing.now) (view p)) }
+{
+    let names = names_of(alloc, layout, area)?;
+    let objects = area_objects(alloc, drawing)?;
+    Ok(AreaPolygons {
+        topic: names.topic,
+        table: names.table,
+        attribute: names.attribute,
+        objects,
+    })
+}
+
+/// The polygons of the areas of a layout by their drawings, one area after the other, each at the
+/// cost of `area_polygons`. The only error is out of memory.
+pub fn written_areas(
+    alloc: Global,
+    layout: &Layout,
+    drawings: &[Drawing],
+) -> Result<Vec<AreaPolygons>, Memory>
+    requires drawn { length drawings.now ≡ length layout.now.areas.items }
+    requires few { All IsSmallPlan (plans drawings.now) }
+    requires areas { All IsSkippedOrArea (plans drawings.now) }
+    ensures { IfOk result (λ ps. AreWrittenAreas (layout_view layout.now)
+        (areas_view layout.now.areas.items) (plans drawings.now) (views ps.items)) }
+{
+    let mut written = Vec::new(alloc);
+    for (area, drawing) in layout.areas.iter().zip(drawings) {
+        written.push(written_area(alloc, layout, area, drawing)?)?;
+    }
+    Ok(written)
 }

@@ -1,34 +1,52 @@
 // The outcome of a transfer that was judged.
-ghost use Rattle.std.specs.Prelude.{◌≡◌, ◌≤◌, ◌^◌, ℕ, List, length, IfOk};
-ghost use Rattle.std.specs.List.{All};
+ghost use Rattle.std.specs.Prelude.{◌≡◌, ◌≤◌, ◌^◌, ℕ, List, length, true, IfOk};
+ghost use Rattle.std.specs.List.{All, AllZip};
 ghost use Rattle.itf_reader.specs.Forms.{Row as GivenRow};
 ghost use Rattle.table_layout.specs.Layouts.{Layout as GivenLayout};
 ghost use Rattle.table_layout.specs.Valid.{IsValid};
-ghost use Rattle.table_layout.specs.Values.{layout_view};
+ghost use Rattle.table_layout.specs.Values.{areas_view, layout_view};
+ghost use Rattle.certificate.specs.Spelling.{AreSpelt, views};
 ghost use Rattle.reports.specs.AreaKinds.{plans};
 ghost use Rattle.area_drawings.specs.AreaLimits.{IsSmallPlan};
 ghost use Rattle.area_drawings.specs.Drawings.{AreDrawings};
+ghost use Rattle.delivery.specs.AreaAnswers.{AreAnswers};
+ghost use Rattle.delivery.specs.AreaPolygons.{AreWrittenAreas, IsSkippedOrArea};
+ghost use Rattle.polygons.specs.Text.{views as polygons_in};
+ghost use Rattle.reports.specs.Kinds.{are_fine};
+ghost use Rattle.area_drawings.specs.KeptViews.{HasTolerance};
 ghost use Rattle.delivery.specs.FiledTexts.{AreVerified, IsVerified};
 ghost use Rattle.delivery.specs.Judging.{AreJudged, IsChecked, objects};
 ghost use Rattle.commands.specs.CommandViews.{target_of};
 ghost use Rattle.reports.specs.OutcomeViews.{outcome_of};
-ghost use Rattle.delivery.specs.Pieces.{IsJudged, IsSound};
+ghost use Rattle.delivery.specs.Pieces.{AreKept, IsJudged, IsSound};
+ghost use Rattle.delivery.specs.Surfaces.{AreSurfaceAnswers};
+ghost use Rattle.reports.specs.Surfaces.{surfaces as surfaces_in};
+ghost use Rattle.delivery.specs.Rewriting.{IsRewritten};
+ghost use Rattle.itf_writer.specs.Feeds.{HoldsRows};
 
 use crate::area_answers::answers_of;
-use crate::judging::Judged;
+use crate::judging::{Judged, count_objects};
+use crate::polygon_answers::written_areas;
 use crate::verifying::verify_areas;
-use commands::Target;
+use area_search::laws::one_right_ground;
+use commands::{Filed, Target};
+use itf_writer::CanonFeed;
 use plane::Drawing;
+use polygons::AreaPolygons;
 use ports::Memory;
-use reports::outcome::{Outcome, area_too_large, areas_outcome, misbuilt, rejected, verified};
+use reports::outcome::{
+    Outcome, area_too_large, areas_outcome, canon_refused, canonical, misbuilt, rejected, verified,
+};
+use reports::{Answers, AreaAnswer, SurfaceAnswer, are_fine};
 use std::alloc::Global;
 use table_layout::Layout;
 
 // A transfer that was judged: what its areas are drawn from, or an outcome before that.
 #[derive(Drop)]
 enum Sound<'a> {
-    // No finding: the number of objects, and the drawings of all areas.
-    Drawn(u128, Vec<Drawing>),
+    // No finding: the number of objects, the drawings of all areas, and the answers to all
+    // SURFACEs.
+    Drawn(u128, Vec<Drawing>, Vec<SurfaceAnswer>),
     Ended(Outcome<'a>),
 }
 
@@ -41,31 +59,106 @@ fn sound_rows<'a>(alloc: Global, judged: Judged) -> Result<Sound<'a>, Memory>
         Judged::Misbuilt(line, code) => Ok(Sound::Ended(misbuilt(alloc, line, code)?)),
         Judged::Faulty(found) => Ok(Sound::Ended(rejected(alloc, found)?)),
         Judged::Oversized => Ok(Sound::Ended(area_too_large(alloc)?)),
-        Judged::Clean(count, drawings) => Ok(Sound::Drawn(count, drawings)),
+        Judged::Clean(count, drawings, surfaces) => Ok(Sound::Drawn(count, drawings, surfaces)),
     }
 }
 
-// The outcome of a number of objects without a finding and of the drawings of all areas.
+// The polygons of all areas where no answer names a fault or what is undecided; else none.
+fn polygons_if_fine(
+    alloc: Global,
+    layout: &Layout,
+    drawings: &[Drawing],
+    answers: &[AreaAnswer],
+) -> Result<Vec<AreaPolygons>, Memory>
+    requires drawn { length drawings.now ≡ length layout.now.areas.items }
+    requires few { All IsSmallPlan (plans drawings.now) }
+    requires fine { are_fine answers.now ≡ true → All IsSkippedOrArea (plans drawings.now) }
+    ensures { IfOk result (λ ps. are_fine answers.now ≡ true
+        → AreWrittenAreas (layout_view layout.now) (areas_view layout.now.areas.items)
+        (plans drawings.now) (polygons_in ps.items)) }
+{
+    if are_fine(answers) {
+        return written_areas(alloc, layout, drawings);
+    }
+    Ok(Vec::new(alloc))
+}
+
+// The outcome of a number of objects without a finding, of the answers to all SURFACEs and of those
+// to the drawings of all areas, where polygons are to be filed. The certificates are let go before
+// any is made.
+fn bound_areas<'a>(
+    alloc: Global,
+    target: &Target<'a>,
+    layout: &Layout,
+    count: u128,
+    surfaces: &[SurfaceAnswer],
+    drawings: &[Drawing],
+    answers: Answers,
+) -> Result<Outcome<'a>, Memory>
+    requires valid { IsValid (layout_view layout.now) }
+    requires filed { target.now.filed ≡ Filed.Polygons }
+    requires drawn { length drawings.now ≡ length layout.now.areas.items }
+    requires few { All IsSmallPlan (plans drawings.now) }
+    requires answered { AreAnswers (layout_view layout.now) (areas_view layout.now.areas.items)
+        (plans drawings.now) answers.areas.items (views answers.certificates.items) }
+    requires spelt { AreSpelt (views answers.certificates.items) }
+    ensures { (rows : List (List GivenRow)) → count ≡ objects rows
+        → AreSurfaceAnswers (layout_view layout.now) rows (surfaces_in (layout_view layout.now))
+        surfaces.now
+        → AreDrawings (layout_view layout.now) rows (plans drawings.now)
+        → IfOk result (λ o. AreJudged (target_of target.now) (layout_view layout.now) rows
+        (outcome_of o)) }
+{
+    one_right_ground();
+    let mut answers = answers;
+    answers.certificates = Vec::new(alloc);
+    let polygons = polygons_if_fine(alloc, layout, drawings, &answers.areas)?;
+    areas_outcome(alloc, layout, count, target, surfaces, answers, polygons)
+}
+
+// The outcome of a number of objects without a finding, of the answers to all SURFACEs and of the
+// drawings of all areas.
 fn check_areas<'a>(
     alloc: Global,
     target: &Target<'a>,
     layout: &Layout,
     count: u128,
+    surfaces: &[SurfaceAnswer],
     drawings: &[Drawing],
 ) -> Result<Outcome<'a>, Memory>
     requires valid { IsValid (layout_view layout.now) }
     requires drawn { length drawings.now ≡ length layout.now.areas.items }
     requires few { All IsSmallPlan (plans drawings.now) }
+    requires tolerances { AllZip (HasTolerance (layout_view layout.now))
+        (areas_view layout.now.areas.items) drawings.now }
     ensures { (rows : List (List GivenRow)) → count ≡ objects rows
+        → AreSurfaceAnswers (layout_view layout.now) rows (surfaces_in (layout_view layout.now))
+        surfaces.now
         → AreDrawings (layout_view layout.now) rows (plans drawings.now)
         → IfOk result (λ o. AreJudged (target_of target.now) (layout_view layout.now) rows
         (outcome_of o)) }
 {
     let answers = answers_of(alloc, layout, drawings)?;
-    areas_outcome(alloc, layout, count, target, answers)
+    match target.filed {
+        Filed::Polygons => {
+            bound_areas(alloc, target, layout, count, surfaces, drawings, answers)
+        }
+        Filed::Certificates | Filed::Trial(_) => {
+            areas_outcome(
+                alloc,
+                layout,
+                count,
+                target,
+                surfaces,
+                answers,
+                Vec::new(alloc),
+            )
+        }
+    }
 }
 
-/// The outcome of a check or a trial, from the judged transfer. The certificates go to the target.
+/// The outcome of a check, a trial or of polygons, from the judged transfer. What is filed goes to
+/// the target.
 pub fn checked<'a>(
     alloc: Global,
     target: &Target<'a>,
@@ -79,7 +172,9 @@ pub fn checked<'a>(
         (outcome_of o)) }
 {
     match sound_rows(alloc, judged)? {
-        Sound::Drawn(count, drawings) => check_areas(alloc, target, layout, count, &drawings),
+        Sound::Drawn(count, drawings, surfaces) => {
+            check_areas(alloc, target, layout, count, &surfaces, &drawings)
+        }
         Sound::Ended(outcome) => Ok(outcome),
     }
 }
@@ -93,6 +188,9 @@ fn verify_drawn<'a>(
     filed: &[u8],
 ) -> Result<Outcome<'a>, Memory>
     requires drawn { length drawings.now ≡ length layout.now.areas.items }
+    requires small { All IsSmallPlan (plans drawings.now) }
+    requires tolerances { AllZip (HasTolerance (layout_view layout.now))
+        (areas_view layout.now.areas.items) drawings.now }
     requires short { length filed.now ≤ 2 ^ 30 }
     ensures { (rows : List (List GivenRow)) → count ≡ objects rows
         → AreDrawings (layout_view layout.now) rows (plans drawings.now)
@@ -115,7 +213,30 @@ pub fn verified_by<'a>(
         → IfOk result (λ o. IsVerified (layout_view layout.now) text filed.now (outcome_of o)) }
 {
     match sound_rows(alloc, judged)? {
-        Sound::Drawn(count, drawings) => verify_drawn(alloc, layout, count, &drawings, filed),
+        Sound::Drawn(count, drawings, _surfaces) => {
+            verify_drawn(alloc, layout, count, &drawings, filed)
+        }
         Sound::Ended(outcome) => Ok(outcome),
     }
+}
+
+/// The outcome of the rows of a transfer whose canonical text goes to the file of that name.
+pub fn rewritten<'a>(
+    alloc: Global,
+    layout: &Layout,
+    file: &'a str,
+    kept: CanonFeed,
+) -> Result<Outcome<'a>, Memory>
+    requires valid { IsValid (layout_view layout.now) }
+    requires text { (text : List ℕ) × AreKept HoldsRows (layout_view layout.now) text kept }
+    ensures { (text : List ℕ) → AreKept HoldsRows (layout_view layout.now) text kept
+        → IfOk result (λ o. IsRewritten file.now (layout_view layout.now) text (outcome_of o)) }
+{
+    // A line CONT would go on.
+    if layout.codes.continued == b'T' {
+        return canon_refused(alloc);
+    }
+    let objects = count_objects(layout, &kept);
+    let text = kept.finish(alloc, layout)?;
+    canonical(alloc, file, objects, text)
 }

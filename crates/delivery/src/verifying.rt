@@ -1,10 +1,12 @@
 // Filed certificates, judged against the drawings of a layout's areas.
 ghost use Rattle.std.specs.Prelude.{◌≡◌, ◌↔◌, ℕ, List, ◌<◌, ◌≤◌, ◌^◌, length, IfOk, IsTrue};
-ghost use Rattle.std.specs.List.{AllByRecursion};
+ghost use Rattle.std.specs.List.{All, AllByRecursion, AllZip};
+ghost use Rattle.area_drawings.specs.AreaLimits.{IsSmallPlan};
+ghost use Rattle.area_drawings.specs.KeptViews.{HasTolerance};
 ghost use Rattle.certificate.specs.Spelling.{ArePaired, view, views};
 ghost use Rattle.certificate_checker.specs.Verdicts.{IsVerdictBy};
 ghost use Rattle.plane.specs.Rule.Plans.{plan};
-ghost use Rattle.table_layout.specs.Values.{area_view, layout_view};
+ghost use Rattle.table_layout.specs.Values.{area_view, areas_view, layout_view};
 ghost use Rattle.reports.specs.AreaKinds.{plans};
 ghost use Rattle.delivery.specs.AreaCertificates.{IsNamedFor, claims_of};
 ghost use Rattle.reports.specs.VerificationViews.{verification_of};
@@ -70,9 +72,10 @@ fn first_misnamed(layout: &Layout, certificates: &[Certificate]) -> Option<u32>
 
 // The verdict on a certificate, by its text.
 fn check_one(alloc: Global, drawing: &Drawing, certificate: &Certificate) -> Result<Verdict, Memory>
-    requires { ArePaired certificate.now.notes.items }
-    ensures { IfOk result (IsVerdictBy (plan drawing.now) certificate.now.bent
-        (claims_of (view certificate.now))) }
+    requires small { IsSmallPlan (plan drawing.now) }
+    requires paired { ArePaired certificate.now.notes.items }
+    ensures { IfOk result (IsVerdictBy drawing.now.tolerance (plan drawing.now)
+        certificate.now.bent (claims_of (view certificate.now))) }
 {
     check(alloc, drawing, certificate)
 }
@@ -80,15 +83,20 @@ fn check_one(alloc: Global, drawing: &Drawing, certificate: &Certificate) -> Res
 // Checks each certificate against its drawing.
 fn check_all(
     alloc: Global,
+    layout: &Layout,
     drawings: &[Drawing],
     certificates: &[Certificate],
 ) -> Result<Verification, Memory>
     requires count { length drawings.now ≡ length certificates.now }
+    requires small { All IsSmallPlan (plans drawings.now) }
+    requires tolerances { AllZip (HasTolerance (layout_view layout.now))
+        (areas_view layout.now.areas.items) drawings.now }
     requires few { length certificates.now < 2 ^ 32 }
     requires paired { AllByRecursion (λ c. ArePaired c.notes.items) certificates.now }
-    ensures { IfOk result (λ v. AreChecked (plans drawings.now) (views certificates.now)
-        (verification_of v)) }
+    ensures { IfOk result (λ v. AreChecked (layout_view layout.now) (plans drawings.now)
+        (views certificates.now) (verification_of v)) }
 {
+    let _ = layout;
     let mut levels = Vec::new(alloc);
     for number in 0..certificates.len() {
         match check_one(alloc, &drawings[number], &certificates[number])? {
@@ -113,6 +121,9 @@ fn verify_list(
     certificates: &[Certificate],
 ) -> Result<Verification, Memory>
     requires drawn { length drawings.now ≡ length layout.now.areas.items }
+    requires small { All IsSmallPlan (plans drawings.now) }
+    requires tolerances { AllZip (HasTolerance (layout_view layout.now))
+        (areas_view layout.now.areas.items) drawings.now }
     requires few { length certificates.now < 2 ^ 32 }
     requires paired { AllByRecursion (λ c. ArePaired c.notes.items) certificates.now }
     ensures { IfOk result (λ v. (text : List ℕ) → AreFiledIn text (views certificates.now)
@@ -124,13 +135,14 @@ fn verify_list(
             rule: 1,
             place: area,
         }),
-        None => check_all(alloc, drawings, certificates),
+        None => check_all(alloc, layout, drawings, certificates),
     }
 }
 
 /// Judges a text of certificates against the drawings of all areas, in order: the text spells a
-/// list, which has a certificate for each area by its names, and each proves its drawing. The
-/// first rule that is broken counts. The only error is out of memory.
+/// list, which has a certificate for each area by its names, and each proves its drawing or what
+/// becomes of it when its forks are bent, as it says. The first rule that is broken counts. The
+/// only error is out of memory.
 ///
 /// The text is read once, in time and memory linear in its length; then the drawings are checked
 /// one after the other, each at the cost that `certificate_checker` says.
@@ -141,6 +153,9 @@ pub fn verify_areas(
     text: &[u8],
 ) -> Result<Verification, Memory>
     requires drawn { length drawings.now ≡ length layout.now.areas.items }
+    requires small { All IsSmallPlan (plans drawings.now) }
+    requires tolerances { AllZip (HasTolerance (layout_view layout.now))
+        (areas_view layout.now.areas.items) drawings.now }
     requires short { length text.now ≤ 2 ^ 30 }
     ensures { IfOk result (λ v. IsVerification (layout_view layout.now) (plans drawings.now)
         text.now (verification_of v)) }

@@ -13,7 +13,10 @@ ghost use Rattle.table_layout.specs.Valid.{IsValid};
 ghost use Rattle.table_layout.specs.Values.{area_view, areas_view, layout_view};
 ghost use Rattle.ident_refs.specs.FedRows.{fed_keys};
 ghost use Rattle.ident_refs.specs.KeptViews.{HasRows};
-ghost use Rattle.delivery.specs.Judging.{objects};
+ghost use Rattle.ident_refs.specs.KeysOfRows.{HasKeys};
+ghost use Rattle.area_drawings.specs.AreaLimits.{has_too_large as has_large};
+ghost use Rattle.delivery.specs.Judging.{IsTextOf, objects as objects_in};
+ghost use Rattle.delivery.specs.ObjectLines.{AreKeptClean};
 ghost use Rattle.area_drawings.specs.KeptDrawings.{has_kept_large, is_kept_large, kept_vertices};
 ghost use Rattle.area_drawings.specs.KeptViews.{kept_in};
 ghost use Rattle.delivery.specs.KeptRows.{all_found, transfer_so_far};
@@ -21,14 +24,17 @@ ghost use Rattle.delivery.specs.KeptViews.{HasTaken, found_in, found_of};
 ghost use Rattle.delivery.specs.Pieces.{AreKept, HasText, IsJudged, IsKept};
 
 use super::found::TableFound;
+use super::keeping::{RowKeeper, count_objects};
 use super::lines::Judge;
 use super::rows::{RowJudge, TransferKept};
+use crate::surfaces::surface_answers;
 use area_drawings::{AREA_LIMIT, TablePlaces, drawings_from};
-use ident_refs::{KeyFeed, fed_transfer};
+use ident_refs::{Keys, fed_transfer};
 use itf_lines::{Line, from_the_opening, numbers_rise};
 use itf_reader::{Finding, Names, ReadRefusal, Structure, sort_findings, strokes_counted};
 use plane::Drawing;
 use ports::Memory;
+use reports::{SurfaceAnswer, surfaces_of};
 use std::alloc::Global;
 use std::mem::swap;
 use table_layout::{AreaOf, Layout, TableId};
@@ -42,27 +48,27 @@ pub enum Judged {
     Faulty(Vec<Finding>),
     /// No finding, and an area that is over its limit.
     Oversized,
-    /// No finding: the number of objects, and the drawings of all areas.
-    Clean(u128, Vec<Drawing>),
+    /// No finding: the number of objects, the drawings of all areas, and the answers to all
+    /// SURFACEs.
+    Clean(u128, Vec<Drawing>, Vec<SurfaceAnswer>),
 }
 
 // Takes the last line, where there is one.
-fn take_last(
-    rows: &mut RowJudge,
+fn take_last<K: RowKeeper>(
+    rows: &mut RowJudge<K>,
     layout: &Layout,
     names: &Names,
     whole: bool,
     line: &mut Line,
 ) -> Result<(), Memory>
-    requires valid { IsValid (layout_view layout.now) }
     requires named { form_in names.now ≡ form_of (layout_view layout.now) }
     ensures at { OnOk result (rows.new.feed.at ≡ after_lines (form_of (layout_view layout.now))
         rows.old.feed.at (line_if whole (line_view line.old))) }
     ensures sound { OnOk result (rows.old.feed.failed ≡ false
         → rows.new.feed.failed ≡ false) }
     ensures taken { OnOk result ((came : List (ℕ × GivenRow))
-        → HasTaken (layout_view layout.now) came rows.old.kept
-        → HasTaken (layout_view layout.now) (came ++ shown_rows
+        → K.has_rows (layout_view layout.now) came rows.old.kept
+        → K.has_rows (layout_view layout.now) (came ++ shown_rows
         (form_of (layout_view layout.now)) rows.old.feed.at (line_if whole (line_view line.old)))
         rows.new.kept) }
 {
@@ -72,14 +78,13 @@ fn take_last(
     Ok(())
 }
 
-impl<'a> Judge<'a> {
-    // The text ends here: what is kept of its rows, or the line at fault.
-    fn end(self, layout: &Layout, names: &Names) -> Result<TransferKept<'a>, ReadRefusal>
-        requires valid { IsValid (layout_view layout.now) }
+impl<K: RowKeeper> Judge<K> {
+    /// The text ends here: what is kept of its rows, or the line at fault.
+    pub fn end(self, layout: &Layout, names: &Names) -> Result<K, ReadRefusal>
         requires named { form_in names.now ≡ form_of (layout_view layout.now) }
-        requires text { (text : List ℕ) × HasText (layout_view layout.now) text self }
-        ensures { (text : List ℕ) → HasText (layout_view layout.now) text self.entry
-            → IsKept (layout_view layout.now) text result }
+        requires text { (text : List ℕ) × HasText K.has_rows (layout_view layout.now) text self }
+        ensures { (text : List ℕ) → HasText K.has_rows (layout_view layout.now) text self
+            → IsKept K.has_rows (layout_view layout.now) text result }
     {
         let Judge {
             lines,
@@ -94,44 +99,17 @@ impl<'a> Judge<'a> {
         rows.feed.finish(end)?;
         Ok(rows.kept)
     }
-
-    /// The text ends here: what it comes to.
-    pub fn finish(self, alloc: Global, layout: &Layout, names: &Names) -> Result<Judged, Memory>
-        requires valid { IsValid (layout_view layout.now) }
-        requires named { form_in names.now ≡ form_of (layout_view layout.now) }
-        requires text { (text : List ℕ) × HasText (layout_view layout.now) text self }
-        ensures { (text : List ℕ) → HasText (layout_view layout.now) text self.entry
-            → IfOk result (IsJudged (layout_view layout.now) text) }
-    {
-        match self.end(layout, names) {
-            Ok(kept) => judge_rows(alloc, layout, kept),
-            Err(refusal) => misbuilt(refusal),
-        }
-    }
 }
 
 // What a text comes to that is no transfer.
 fn misbuilt(refusal: ReadRefusal) -> Result<Judged, Memory>
-    ensures { (l : GivenLayout) (text : List ℕ) → IsKept l text (Err refusal)
+    ensures { (l : GivenLayout) (text : List ℕ) → IsKept HasTaken l text (Err refusal)
         → IfOk result (IsJudged l text) }
 {
     match refusal {
         ReadRefusal::At { line, code } => Ok(Judged::Misbuilt(line, code)),
         ReadRefusal::Memory => Err(Memory),
     }
-}
-
-// The number of objects, those of helper tables included.
-fn count_objects(layout: &Layout, keys: &KeyFeed) -> u128
-    requires { length layout.now.tables.items ≤ 4194304 }
-    ensures { (rows : List (ℕ × GivenRow)) → HasRows (layout_view layout.now) keys.now rows
-        → result ≡ objects (transfer_so_far (layout_view layout.now) rows) }
-{
-    let mut count: u128 = 0;
-    for number in 0..layout.tables.len() {
-        count += keys.row_count(TableId(number as u32)) as u128;
-    }
-    count
 }
 
 // How many vertices are kept of the rows of that table, none where there is no such table.
@@ -203,12 +181,12 @@ fn row_findings(alloc: Global, tables: &mut [TableFound]) -> Result<Vec<Finding>
 }
 
 // The findings of the keys, in order.
-fn key_findings(alloc: Global, keys: KeyFeed) -> Result<Vec<Finding>, Memory>
-    ensures { (l : GivenLayout) (rows : List (ℕ × GivenRow)) → HasRows l keys.entry rows
+fn key_findings(alloc: Global, keys: &Keys) -> Result<Vec<Finding>, Memory>
+    ensures { (l : GivenLayout) (rows : List (ℕ × GivenRow)) → HasKeys l keys.now rows
         → IfOk result (λ found. findings_of found.items ≡ in_order (fed_keys l rows)) }
 {
     let mut found = Vec::new(alloc);
-    keys.sorted()?.add_findings(&mut found)?;
+    keys.add_findings(&mut found)?;
     sort_findings(&mut found)?;
     Ok(found)
 }
@@ -217,9 +195,9 @@ fn key_findings(alloc: Global, keys: KeyFeed) -> Result<Vec<Finding>, Memory>
 fn all_findings(
     alloc: Global,
     tables: &mut [TableFound],
-    keys: KeyFeed,
+    keys: &Keys,
 ) -> Result<Vec<Finding>, Memory>
-    ensures { (l : GivenLayout) (rows : List (ℕ × GivenRow)) → HasRows l keys.entry rows
+    ensures { (l : GivenLayout) (rows : List (ℕ × GivenRow)) → HasKeys l keys.now rows
         → IfOk result (λ found. findings_of found.items ≡ in_order (in_order (all_found
         (found_in tables.old)) ++ in_order (fed_keys l rows))) }
 {
@@ -241,29 +219,74 @@ fn has_any(found: &[Finding]) -> bool
     }
 }
 
-// What the rows of a text come to.
-fn judge_rows(alloc: Global, layout: &Layout, kept: TransferKept) -> Result<Judged, Memory>
+/// What the rows of a text come to.
+pub fn judge_rows(alloc: Global, layout: &Layout, kept: TransferKept) -> Result<Judged, Memory>
     requires valid { IsValid (layout_view layout.now) }
-    requires text { (text : List ℕ) × AreKept (layout_view layout.now) text kept }
-    ensures { (text : List ℕ) → AreKept (layout_view layout.now) text kept.entry
+    requires text { (text : List ℕ) × AreKept HasTaken (layout_view layout.now) text kept }
+    ensures { (text : List ℕ) → AreKept HasTaken (layout_view layout.now) text kept.entry
         → IfOk result (IsJudged (layout_view layout.now) text) }
 {
     strokes_counted();
     fed_transfer();
-    let objects = count_objects(layout, &kept.keys);
+    let objects = count_objects(layout, &kept);
     let oversized = has_too_large(&kept, &layout.areas);
     let TransferKept {
         mut tables,
         places,
         keys,
+        ..
     } = kept;
-    let found = all_findings(alloc, &mut tables, keys)?;
+    let sorted = keys.sorted()?;
+    let found = all_findings(alloc, &mut tables, &sorted)?;
     if has_any(&found) {
         return Ok(Judged::Faulty(found));
     }
     if oversized {
         return Ok(Judged::Oversized);
     }
-    let drawings = drawings_from(alloc, layout, &places)?;
-    Ok(Judged::Clean(objects, drawings))
+    judge_clean(alloc, layout, objects, &places, &sorted)
+}
+
+// What rows come to that have no finding, by what is kept of them and by their keys.
+fn judge_clean(
+    alloc: Global,
+    layout: &Layout,
+    objects: u128,
+    places: &[TablePlaces],
+    keys: &Keys,
+) -> Result<Judged, Memory>
+    requires valid { IsValid (layout_view layout.now) }
+    requires rows { (rows : List (ℕ × GivenRow))
+        × AreKeptClean (layout_view layout.now) rows (kept_in places.now) keys.now
+        × (has_large (transfer_so_far (layout_view layout.now) rows)
+        (layout_view layout.now).areas ≡ false) }
+    ensures { (text : List ℕ) (rows : List (ℕ × GivenRow))
+        → IsTextOf (layout_view layout.now) text (transfer_so_far (layout_view layout.now) rows)
+        → AreKeptClean (layout_view layout.now) rows (kept_in places.now) keys.now
+        → has_large (transfer_so_far (layout_view layout.now) rows)
+        (layout_view layout.now).areas ≡ false
+        → objects ≡ objects_in (transfer_so_far (layout_view layout.now) rows)
+        → IfOk result (IsJudged (layout_view layout.now) text) }
+{
+    let all = surfaces_of(alloc, layout)?;
+    let surfaces = surface_answers(alloc, layout, places, keys, &all)?;
+    let drawings = drawings_from(alloc, layout, places)?;
+    Ok(Judged::Clean(objects, drawings, surfaces))
+}
+
+/// What a text comes to whose lines were all taken: what is kept of its rows, or the line at fault.
+pub fn judge_end(
+    alloc: Global,
+    layout: &Layout,
+    kept: Result<TransferKept, ReadRefusal>,
+) -> Result<Judged, Memory>
+    requires valid { IsValid (layout_view layout.now) }
+    requires text { (text : List ℕ) × IsKept HasTaken (layout_view layout.now) text kept }
+    ensures { (text : List ℕ) → IsKept HasTaken (layout_view layout.now) text kept.entry
+        → IfOk result (IsJudged (layout_view layout.now) text) }
+{
+    match kept {
+        Ok(kept) => judge_rows(alloc, layout, kept),
+        Err(refusal) => misbuilt(refusal),
+    }
 }

@@ -21,6 +21,7 @@ ghost use Rattle.delivery.specs.KeptRows.{changed_at, rows_found, with_found};
 ghost use Rattle.delivery.specs.KeptViews.{AreReadAs, HasTaken, found_in};
 
 use super::found::TableFound;
+use super::keeping::RowKeeper;
 use area_drawings::TablePlaces;
 use ident_refs::KeyFeed;
 use ili_grammar::Codes;
@@ -30,22 +31,22 @@ use ports::Memory;
 use std::alloc::Global;
 use table_layout::{Layout, Table, TableId};
 
-/// What is kept of the rows of a transfer: table by table their findings and what areas are drawn
-/// from, and their keys.
+/// What is kept of the rows of a transfer that is judged: table by table their findings and what
+/// areas are drawn from, and their keys.
 #[derive(Drop)]
 pub struct TransferKept<'a> {
     pub tables: Vec<TableFound<'a>>,
     pub places: Vec<TablePlaces>,
     pub keys: KeyFeed<'a>,
+    values: RowValues,
 }
 
-/// The rows of a transfer, judged one after another: where its lines have come to, and what is
-/// kept of the rows that they closed.
+/// The rows of a transfer, one after another: where its lines have come to, and what is kept of
+/// the rows that they closed.
 #[derive(Drop)]
-pub struct RowJudge<'a> {
+pub struct RowJudge<K: RowKeeper> {
     pub feed: RowFeed,
-    values: RowValues,
-    pub kept: TransferKept<'a>,
+    pub kept: K,
 }
 
 // The findings of the tables of a layout, without rows.
@@ -109,59 +110,67 @@ fn keep_at(
     places[place].add_row(line, values)
 }
 
-impl<'a> RowJudge<'a> {
-    /// Before the first line of a text.
-    pub fn new(alloc: Global, layout: &'a Layout) -> Result<RowJudge<'a>, Memory>
+impl<'a> TransferKept<'a> {
+    /// Before the first row of a transfer of that layout.
+    pub fn new(alloc: Global, layout: &'a Layout) -> Result<TransferKept<'a>, Memory>
         requires { IsValid (layout_view layout.now) }
-        ensures at { IfOk result (λ j. j.feed.at ≡ standing start) }
-        ensures sound { IfOk result (λ j. j.feed.failed ≡ false) }
-        ensures none { IfOk result (λ j. HasTaken (layout_view layout.now) [] j.kept) }
+        ensures { IfOk result (HasTaken (layout_view layout.now) []) }
     {
         let tables = empty_tables(alloc, &layout.tables)?;
         let places = empty_places(alloc, &layout.tables)?;
         let keys = KeyFeed::new(alloc, layout)?;
-        Ok(RowJudge {
-            feed: RowFeed::new(alloc),
+        Ok(TransferKept {
+            tables,
+            places,
+            keys,
             values: RowValues::new(alloc),
-            kept: TransferKept {
-                tables,
-                places,
-                keys,
-            },
         })
     }
+}
 
-    // Judges the row that was closed last, which is one of that table.
-    fn judge(&mut self, layout: &Layout, table: TableId) -> Result<(), Memory>
-        ensures taken { OnOk result ((rows : List (ℕ × GivenRow))
-            → HasTaken (layout_view layout.now) rows self.old.kept
-            → HasTaken (layout_view layout.now)
-            (rows ++ (table.0, self.old.feed.closed) ∷ []) self.new.kept) }
-        ensures feed { self.new.feed ≡ self.old.feed }
-    {
-        let row = self.feed.closed();
+impl<'a> RowKeeper for TransferKept<'a> {
+    ghost has_rows = { HasTaken };
+
+    fn add_row(&mut self, layout: &Layout, table: TableId, row: &Row) -> Result<(), Memory> {
         let place = table.0 as usize;
         let values = &mut self.values;
-        read_at(&mut self.kept.tables, &layout.codes, place, row, values)?;
-        keep_at(&mut self.kept.places, place, row.line, values)?;
-        self.kept.keys.add_row(table, row)
+        read_at(&mut self.tables, &layout.codes, place, row, values)?;
+        keep_at(&mut self.places, place, row.line, values)?;
+        self.keys.add_row(table, row)
     }
 
-    /// Takes a line by the names of a layout, and judges the row that it closes. After the first
-    /// line at fault nothing is taken.
+    fn row_count(&self, table: TableId) -> usize {
+        self.keys.row_count(table)
+    }
+}
+
+impl<K: RowKeeper> RowJudge<K> {
+    /// Before the first line of a text.
+    pub fn new(alloc: Global, kept: K) -> RowJudge<K>
+        ensures at { result.feed.at ≡ standing start }
+        ensures sound { result.feed.failed ≡ false }
+        ensures kept { result.kept ≡ kept }
+    {
+        RowJudge {
+            feed: RowFeed::new(alloc),
+            kept,
+        }
+    }
+
+    /// Takes a line by the names of a layout, and the row that it closes. After the first line at
+    /// fault nothing is taken.
     pub fn take(&mut self, layout: &Layout, names: &Names, line: &mut Line) -> Result<(), Memory>
-        requires valid { IsValid (layout_view layout.now) }
         requires named { form_in names.now ≡ form_of (layout_view layout.now) }
         ensures at { OnOk result (self.new.feed.at ≡ next (form_of (layout_view layout.now))
             self.old.feed.at (line_view line.old)) }
         ensures sound { OnOk result (self.new.feed.failed ≡ false) }
         ensures taken { OnOk result ((rows : List (ℕ × GivenRow))
-            → HasTaken (layout_view layout.now) rows self.old.kept
-            → HasTaken (layout_view layout.now)
+            → K.has_rows (layout_view layout.now) rows self.old.kept
+            → K.has_rows (layout_view layout.now)
             (rows ++ shows self.old.feed.at line.old.word) self.new.kept) }
     {
         match self.feed.take(names, line)? {
-            Some(table) => self.judge(layout, table),
+            Some(table) => self.kept.add_row(layout, table, self.feed.closed()),
             None => Ok(()),
         }
     }

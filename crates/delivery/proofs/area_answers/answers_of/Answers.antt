@@ -12,7 +12,7 @@ use Rattle.plane.specs.Rule.Plans.{plan}
 use Rattle.table_layout.specs.Values.{area_view, areas_view, layout_view}
 use Rattle.reports.specs.AreaKinds.{plans}
 use Rattle.delivery.specs.AnswerViews.{certificates_in}
-use Rattle.delivery.proofs.AnswerLemmas.{both_ended, shorter_both, few_first, few_rest, named_first, named_rest, fit_more, count_more, go_on, all_answered}
+use Rattle.delivery.proofs.AnswerLemmas.{both_ended, shorter_both, few_first, few_rest, named_first, named_rest, fit_more, count_more, go_on, all_answered, tolerance_first, tolerance_rest}
 use Rattle.delivery.proofs.NamedAreas.{all_titled, areas_few}
 use Rattle.delivery.proofs.area_answers.answers_of.Goals as goal
 
@@ -32,6 +32,7 @@ loop-area-init c =
       same = search rules;
       names = subst (λ (as_ : List CodeArea). All (HasTitle l) (areas_view as_)) (sym all) (all_titled l (λ k a e. c.area_names.ensures l k a c.requires.valid e));
       few = search rules;
+      tolerances = search rules;
       goes_on = search rules;
       spelt = subst (λ (cs : List Certificate). AllByRecursion Fits (views cs)) (sym c.new-2.ensures.items) tt;
       count = omega (arith, none, many);
@@ -47,6 +48,11 @@ answer_of-requires-clause-small c =
     let more = Zip-more c.loop-area.area-iterator c.next.new.self c.next.result _ c.in-Some.is c.next.ensures.steps in
     few_first _ _ _ more.1 c.loop-area.invariant.few
 
+pub answer_of-requires-clause-tolerance : goal.answer_of-requires-clause-tolerance
+answer_of-requires-clause-tolerance c =
+    let more = Zip-more c.loop-area.area-iterator c.next.new.self c.next.result _ c.in-Some.is c.next.ensures.steps in
+    tolerance_first (layout_view c.args.layout.now) _ _ _ _ _ _ more.0 more.1 c.loop-area.invariant.tolerances
+
 pub loop-area-preserved : goal.loop-area-preserved
 loop-area-preserved c =
     let more = Zip-more c.loop-area.area-iterator c.next.new.self c.next.result _ c.in-Some.is c.next.ensures.steps in
@@ -56,6 +62,7 @@ loop-area-preserved c =
       same = shorter_both _ _ _ _ _ _ more.0 more.1 c.loop-area.invariant.same;
       names = named_rest (layout_view c.args.layout.now) _ c.in-Some.area.now (iter_rest (zip_first c.next.new.self)) more.0 c.loop-area.invariant.names;
       few = few_rest _ _ _ more.1 c.loop-area.invariant.few;
+      tolerances = tolerance_rest (layout_view c.args.layout.now) _ _ _ _ _ _ more.0 more.1 c.loop-area.invariant.tolerances;
       goes_on = go_on (layout_view c.args.layout.now) (areas_view c.args.layout.now.areas.items) (areas_view (iter_rest (zip_first c.loop-area.area-iterator))) (plans c.args.drawings.now) (plans (iter_rest (zip_second c.loop-area.area-iterator)))
           (area_view c.in-Some.area.now) (plan c.in-Some.drawing.now) (areas_view (iter_rest (zip_first c.next.new.self))) (plans (iter_rest (zip_second c.next.new.self)))
           c.loop-area.answers.areas.items (views c.loop-area.answers.certificates.items) c.in_ok-answer_of.field-0.area (certificates_in c.in_ok-answer_of.field-0.certificate)

@@ -7,7 +7,7 @@ use Rattle.table_layout.specs.Values.{areas_view, layout_view}
 use Rattle.reports.specs.AreaKinds.{plans}
 use Rattle.area_drawings.specs.AreaLimits.{IsSmallPlan}
 use Rattle.reports.specs.AreaNames.{HasTitle}
-use Rattle.delivery.proofs.AnswerLemmas.{GoesOn}
+use Rattle.delivery.proofs.AnswerLemmas.{GoesOn, HaveTolerances}
 use Rattle.delivery.proofs.area_answers.answers_of.Given as goal
 
 abbrev pub invariant-loop-area : goal.invariant-loop-area
@@ -17,6 +17,7 @@ invariant-loop-area l = record {
   same : length (iter_rest (zip_second l.area-iterator)) ≡ length (iter_rest (zip_first l.area-iterator));
   names : All (HasTitle (layout_view l.layout)) (areas_view (iter_rest (zip_first l.area-iterator)));
   few : All IsSmallPlan (plans (iter_rest (zip_second l.area-iterator)));
+  tolerances : HaveTolerances (layout_view l.layout) (iter_rest (zip_first l.area-iterator)) (iter_rest (zip_second l.area-iterator));
   goes_on : GoesOn (layout_view l.layout) (areas_view l.layout.areas.items) (plans l.drawings) (areas_view (iter_rest (zip_first l.area-iterator))) (plans (iter_rest (zip_second l.area-iterator))) l.answers.areas.items (views l.answers.certificates.items);
   spelt : AllByRecursion Fits (views l.answers.certificates.items);
   count : length (views l.answers.certificates.items) + length (iter_rest (zip_first l.area-iterator)) ≤ length l.layout.areas.items;

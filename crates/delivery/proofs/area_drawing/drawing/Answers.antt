@@ -1,9 +1,12 @@
-use Rattle.std.proofs.Common.{refl}
+use Rattle.std.proofs.Common.{refl, ap, sym, ◌∙◌, subst}
+use Rattle.std.proofs.lemmas.Option.{same_Some}
 use Rattle.resolver.specs.Values.{line_of}
 use Rattle.itf_reader.specs.Views.{transfer_of}
 use Rattle.plane.specs.Rule.Plans.{plan}
+use Rattle.table_layout.specs.Layouts.{AreaOf}
 use Rattle.table_layout.specs.Values.{area_view, layout_view}
-use Rattle.area_drawings.specs.KeptViews.{kept_of}
+use Rattle.area_drawings.specs.Drawings.{tolerance_by}
+use Rattle.area_drawings.specs.KeptViews.{HasTolerance, kept_of}
 use Rattle.delivery.proofs.Drawables.{area_is, area_table, forms, there}
 use Rattle.delivery.proofs.KeptPlaces.{drawable_as, drawing_as}
 use Rattle.delivery.proofs.KeptSteps.{table_within}
@@ -44,8 +47,8 @@ draw-requires-clause-drawable c =
     (c.in_ok-lines.ensures h.helper h.lines) (c.in_ok-objects.ensures a.owner a.main) c.points.result.now c.points.ensures
     (c.requires.small (area_view x) (there l areas c.args.area x c.requires.area c.index-found.ensures refl))
 
-pub returns : goal.returns
-returns c =
+pub returns-clause-drawn : goal.returns-clause-drawn
+returns-clause-drawn c =
     let l = layout_view c.args.layout.now in
     let rows = transfer_of c.args.transfer.now in
     let areas = c.args.layout.now.areas.items in
@@ -63,3 +66,14 @@ returns c =
           (plan d) w,
     ))
     c.draw.ensures.drawn
+
+pub returns-clause-tolerance : goal.returns-clause-tolerance
+returns-clause-tolerance c =
+    let l = layout_view c.args.layout.now in
+    let x = c.index-found.result.now in
+    let areas = c.args.layout.now.areas.items in
+    let at = there l areas c.args.area x c.requires.area c.index-found.ensures refl in
+    if_ok _ _ c.draw.result
+    (λ d w a e. subst (λ (b : AreaOf). HasTolerance l b d) (same_Some (area_view x) a (sym at ∙ e))
+    (w ∙ sym (ap tolerance_by c.line_form-form.ensures.lines)))
+    c.draw.ensures.tolerance

@@ -50,3 +50,21 @@ returns-in-Verifies-clause-outcome g c =
 
 pub returns-in-Verifies-clause-reads : goal.returns-in-Verifies-clause-reads
 returns-in-Verifies-clause-reads g c = reads_by (λ r. subst (λ (t : Task). AreReadable (g.S.Shelf.readable c.args.shelf.now) (further_files (task_view t))) c.in-Verifies.is r) c.decide_verified.ensures.reads
+
+pub returns-in-Rewrites-clause-outcome : goal.returns-in-Rewrites-clause-outcome
+returns-in-Rewrites-clause-outcome g c =
+    let held = g.S.Shelf.held c.args.shelf.now in
+    let counted : List ℕ → Type 0 =
+    ReadRose (g.S.Shelf.read_faults c.args.shelf.now)
+    (g.S.Shelf.read_faults c.decide_rewritten.new.shelf) in
+    let l = layout_view c.args.layout.now in
+    if_ok _ _ c.decide_rewritten.result
+    (λ o e. subst (λ (t : Task). Ends held counted (task_view t) l (outcome_of o))
+    (sym c.in-Rewrites.is) e)
+    c.decide_rewritten.ensures.outcome
+
+pub returns-in-Rewrites-clause-reads : goal.returns-in-Rewrites-clause-reads
+returns-in-Rewrites-clause-reads g c =
+    reads_by (λ r. (subst (λ (t : Task). AreReadable (g.S.Shelf.readable c.args.shelf.now)
+    (further_files (task_view t))) c.in-Rewrites.is r).0)
+    c.decide_rewritten.ensures.reads

@@ -42,6 +42,7 @@ returns c =
     let no : c.has_half_arc.result ≡ false = search rules in
     let straights = subst AreAllStraight c.deref.ensures.value (c.has_half_arc.ensures.none no) in (
       straights,
+      (c.in_ok-faced.ensures.steps, c.in_ok-faced.ensures.run),
       object_polygons d c.in_ok-faced.faced c.deref-2.result.now c.deref-3.result.now _ (is_area d straights c.requires.area).1 c.in_ok-faced.ensures
           c.deref-2.ensures.value c.deref-3.ensures.value c.in_ok-polygons.ensures,
     )

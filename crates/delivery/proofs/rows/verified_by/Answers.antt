@@ -1,9 +1,13 @@
 use Rattle.std.proofs.Common.{List, ap, ◌∙◌, sym, subst, length}
+use Rattle.std.specs.List.{All, AllZip}
 use Rattle.plane.specs.declared.drawing.Drawing.{Drawing}
 use Rattle.table_layout.specs.Values.{layout_view}
 use Rattle.reports.specs.AreaKinds.{plans}
 use Rattle.reports.specs.OutcomeViews.{outcome_of}
+use Rattle.area_drawings.specs.AreaLimits.{IsSmallPlan}
 use Rattle.area_drawings.specs.Drawings.{AreDrawings}
+use Rattle.area_drawings.specs.KeptViews.{HasTolerance}
+use Rattle.area_drawings.proofs.FewCurves.{few_curves}
 use Rattle.area_drawings.proofs.Zips.{drawn_count}
 use Rattle.delivery.specs.FiledTexts.{AreVerified}
 use Rattle.delivery.specs.Judging.{sound}
@@ -19,6 +23,26 @@ verify_drawn-requires-clause-drawn c =
     let text = c.requires.text.0 in
     let j = subst (λ (x : Sound). IsSound l text x) c.in-Drawn.is (c.in_ok-count.ensures l text c.requires.text.1) in
     ap length c.deref.ensures.value ∙ drawn_count l j.0 c.args.layout.now.areas.items c.in-Drawn.drawings.items j.5
+
+pub verify_drawn-requires-clause-small : goal.verify_drawn-requires-clause-small
+verify_drawn-requires-clause-small c =
+    let l = layout_view c.args.layout.now in
+    let text = c.requires.text.0 in
+    let j =
+    subst (λ (x : Sound). IsSound l text x) c.in-Drawn.is
+    (c.in_ok-count.ensures l text c.requires.text.1) in
+    subst (λ (ds : List Drawing). All IsSmallPlan (plans ds)) (sym c.deref.ensures.value)
+    (few_curves l j.0 (plans c.in-Drawn.drawings.items) j.3 j.5)
+
+pub verify_drawn-requires-clause-tolerances : goal.verify_drawn-requires-clause-tolerances
+verify_drawn-requires-clause-tolerances c =
+    let l = layout_view c.args.layout.now in
+    let text = c.requires.text.0 in
+    let j =
+    subst (λ (x : Sound). IsSound l text x) c.in-Drawn.is
+    (c.in_ok-count.ensures l text c.requires.text.1) in
+    subst (λ (ds : List Drawing). AllZip (HasTolerance l) l.areas ds)
+    (sym c.deref.ensures.value) j.6
 
 pub returns-in-Drawn : goal.returns-in-Drawn
 returns-in-Drawn c text h =

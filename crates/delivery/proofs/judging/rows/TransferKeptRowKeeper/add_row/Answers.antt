@@ -1,27 +1,24 @@
-use Rattle.std.proofs.Common.{List, sym, ap, ◌∙◌, [], ◌∷◌, ◌++◌, subst}
+use Rattle.std.proofs.Common.{List, sym, ap, ◌∙◌, subst}
 use Rattle.std.specs.Prelude.{slice_get, IfSome}
 use Rattle.std.proofs.lemmas.List.{with_items_is}
 use Rattle.table_layout.specs.Values.{layout_view}
-use Rattle.itf_reader.specs.Forms.{Row}
 use Rattle.itf_reader.specs.RowReadings.{cells_view, vertices_view}
 use Rattle.itf_reader.specs.Views.{row_of}
-use Rattle.ident_refs.specs.KeptViews.{HasRows}
 use Rattle.area_drawings.specs.KeptRows.{with_row}
 use Rattle.area_drawings.specs.KeptViews.{kept_in}
 use Rattle.delivery.specs.KeptRows.{Found, with_found, changed_at, tables_found, all_kept}
-use Rattle.delivery.specs.KeptRows.{transfer_so_far, with_row_at}
+use Rattle.delivery.specs.KeptRows.{transfer_so_far}
 use Rattle.delivery.specs.KeptViews.{AreReadAs, found_in}
 use Rattle.delivery.proofs.KeptSteps.{on_ok, row_came, found_more, kept_more}
-use Rattle.delivery.proofs.judging.rows.RowJudge.judge.Goals as goal
+use Rattle.delivery.proofs.judging.rows.TransferKeptRowKeeper.add_row.Goals as goal
 
-pub returns-clause-taken : goal.returns-clause-taken
-returns-clause-taken c =
+pub returns : goal.returns
+returns c =
     let l = layout_view c.args.layout.now in
     let n = c.args.table.0 in
-    let closed = c.args.self.now.feed.closed in
-    let r = row_of c.closed-row.result.now in
+    let r = row_of c.args.row.now in
     let values = c.read_at.new.values in
-    let old = c.args.self.now.kept in
+    let old = c.args.self.now in
     on_ok c.add_row.result
     (λ k rows h.
     let t = transfer_so_far l rows in
@@ -33,8 +30,7 @@ returns-clause-taken c =
           ∙ c.in_ok-read_at.ensures.found
           ∙ ap (changed_at n (with_found l.codes r)) before
           ∙ found_more l.codes l.tables t n r
-          ∙ ap (λ (x : Row). tables_found l.codes l.tables (with_row_at n x t)) c.closed-row.ensures
-          ∙ ap (tables_found l.codes l.tables) (sym (row_came l n rows closed));
+          ∙ ap (tables_found l.codes l.tables) (sym (row_came l n rows r));
       kept =
           ap kept_in (with_items_is old.places c.keep_at.new.places
           (c.keep_at.auto.places ∙ c.deref_mut-2.ensures.len))
@@ -44,10 +40,7 @@ returns-clause-taken c =
           ∙ kept_more l.codes l.tables t n r values
           (subst (λ (fs : List Found). IfSome (slice_get fs n)
           (λ f. AreReadAs l.codes f.table r values)) before c.in_ok-read_at.ensures.read)
-          ∙ ap (λ (x : Row). all_kept l.codes l.tables (with_row_at n x t)) c.closed-row.ensures
-          ∙ ap (all_kept l.codes l.tables) (sym (row_came l n rows closed));
-      keys =
-          subst (λ (x : Row). HasRows l c.add_row.new.self (rows ++ (n, x) ∷ []))
-          c.closed-row.ensures (k l rows h.keys);
+          ∙ ap (all_kept l.codes l.tables) (sym (row_came l n rows r));
+      keys = k l rows h.keys;
     })
     c.add_row.ensures

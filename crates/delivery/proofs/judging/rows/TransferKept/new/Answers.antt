@@ -4,10 +4,10 @@ use Rattle.table_layout.specs.declared.layouts.Table.{Table as CodeTable}
 use Rattle.area_drawings.specs.KeptRows.{kept}
 use Rattle.delivery.specs.KeptRows.{rows_found}
 use Rattle.delivery.proofs.KeptSteps.{none_kept}
-use Rattle.delivery.proofs.judging.rows.RowJudge.new.Goals as goal
+use Rattle.delivery.proofs.judging.rows.TransferKept.new.Goals as goal
 
-pub returns-clause-none : goal.returns-clause-none
-returns-clause-none c =
+pub returns : goal.returns
+returns c =
     let l = layout_view c.args.layout.now in
     record {
       found =
