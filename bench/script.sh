@@ -153,6 +153,28 @@ for name, words in (("a second delivery", ["check", "M", "T", "delivery.itf"]),
     held(name + " is replaced where the caller says so", ["--replace", *words], 0, "ran " + " ".join(words), "")
 os.symlink("delivery.itf", "link.cert")
 held("a link to a delivery", ["check", "M", "T", "link.cert"], 73, "", "status 73")
+
+# Files that a canonical text replaces: an empty one, and the transfer itself.
+for name, held_bytes, kept in [("certs", b"ITFCERT 1\n", True), ("other.itf", b"SCNT\n////\n", True),
+                               ("T", b"SCNT\n////\n", False), ("nothing", b"", False)]:
+    with open(name, "wb") as file:
+        file.write(held_bytes)
+    words = ["canonical", "M", "T", name]
+    if kept:
+        held(name + " is kept from a text", words, 73, "", "is not the transfer itself")
+        held(name + " is replaced where the caller says so", ["--replace", *words], 0, "ran " + " ".join(words), "")
+    else:
+        held(name + " is replaced by a text", words, 0, "ran " + " ".join(words), "")
+
+# Files that polygons replace.
+for name, held_bytes, kept in [("certs", b"ITFCERT 1\n", True), ("polygons", b"ITFPOLY 1\n", False)]:
+    with open(name, "wb") as file:
+        file.write(held_bytes)
+    words = ["polygons", "M", "T", name]
+    if kept:
+        held(name + " is kept from polygons", words, 73, "", "holds no polygons")
+    else:
+        held(name + " is replaced by polygons", words, 0, "ran " + " ".join(words), "")
 for name in ("empty", "filed.cert", "new.cert", "folder", "/dev/null", "-x"):
     held(f"certificates to {name}", ["check", "M", "T", name], 0, f"ran check M T {name}", "")
 held("verify reads any file", ["verify", "M", "T", "delivery.itf"], 0, "ran verify", "")
