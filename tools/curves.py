@@ -3,8 +3,9 @@
 
 usage: curves.py MODEL TRANSFER
 
-Each area is a line `AREA topic table attribute`, then a line for each of its curves, `S` for a
-straight and `H` for a half arc, and one for each point, `P`, in units of the last decimal. It reads
+Each area is a line `AREA topic table attribute` and a line `W` with the window of its vertices and
+the overlap that it permits; then a line for each of its curves, `S` for a straight and `H` for a
+half arc, and one for each point, `P`, all in units of the last decimal. It reads
 the model and the transfer in its own plain way, as draw.py does, and checks neither: a transfer
 that itfcheck rejects may be read as if it were good.
 
@@ -20,6 +21,7 @@ from areas import Form, Model, Refusal, logical_lines
 def parts(area):
     """The lines of an area."""
     yield " ".join(("AREA",) + area.words)
+    yield "W %d %d %d %d %d" % (*area.window, area.overlap)
     for index in range(len(area.lines)):
         start, end, third = area.curve(index)
         places = (start, end) if third is None else (start, end, third)
