@@ -5,9 +5,9 @@
 # over the straights, whose own reading of binary numbers is taken away. Neither proves anything,
 # names an object or writes a certificate. Then it runs on strokes that are live at once all but two,
 # at two sizes, and on areas with arcs: 883,957 curves, of which 33,286 are half arcs, and 234,252
-# with 72,300, beside the sweep over their straights and chords, and the same with a bad pair and
-# with an undecided half arc. The programs run in turn, the best of five counts, of the bad and the
-# undecided ones the best of three. Prints ratios, no absolute times.
+# with 72,300, beside the sweep over their straights and chords, and the same with a bad pair, with
+# an undecided half arc and with 500 forks that are bent. The programs run in turn, the best of five
+# counts, of these three the best of three. Prints ratios, no absolute times.
 #
 # usage: bench/check.sh [ITFCHECK]      (crates/itfcheck/out/itfcheck where none is given)
 . "$(dirname "${BASH_SOURCE[0]}")/begin.sh"
@@ -127,4 +127,9 @@ for drawing in 'cover 100000' 'arcs 30000'; do
         }'
         status=2
     done
+    python3 "$top/bench/drawings.py" ${drawing/ /-forks } "$work"
+    read -r slow slow_peak <<< "$(measure 0 "$itfcheck" check $files)"
+    awk -v b="$slow" -v c="$check" -v m="$slow_peak" -v t="$(stat -c %s transfer)" 'BEGIN {
+        printf "forks: %.1f times as long as the good delivery (aim 3), %.1f times the transfer\n", b / c, m * 1024 / t
+    }'
 done

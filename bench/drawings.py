@@ -14,6 +14,9 @@ usage: drawings.py grid N FOLDER        N by N squares, two N (N + 1) straights
        drawings.py arcs-undecided N FOLDER    the same as arcs, and cover-undecided as cover, and one
                                         ring more with a half arc of more than half a turn, which
                                         has a tube at no level
+       drawings.py arcs-forks N FOLDER    the same as arcs, and cover-forks as cover, and 500 circles
+                                        more, from each of which a straight leaves along its tangent;
+                                        the model permits an overlap, without which they are undecided
        drawings.py fan N FOLDER         N straights in triangles that share one vertex, all round: two
                                         of three straights end there
        drawings.py uprights N FOLDER    about N straights, upright but for two of each pair of columns
@@ -143,6 +146,18 @@ def with_undecided(lines):
     return lines + [[(x + 1000, y), (x + 960, y + 280, "arc"), (x, y - 1000), (x + 1000, y)]]
 
 
+def with_forks(lines, points):
+    """The lines, and 500 circles beside them, each with a corner of two straights on it."""
+    lines, points = list(lines), list(points)
+    for number in range(500):
+        x, y = 50_000_000, 100_000 * (number + 1)
+        right, top = (x + 10000, y), (x, y + 10000)
+        lines.append([right, (*top, "arc"), (x - 10000, y), (x, y - 10000, "arc"), right])
+        lines.append([right, (x + 9900, y + 20000), top])
+        points += [(x, y), (x + 7000, y + 14000)]
+    return lines, points
+
+
 def fan(count):
     """Triangles from one vertex to neighbouring places on a square about it."""
     middle, half = 50_000_000, 40_000_000
@@ -226,11 +241,16 @@ def main():
     }
     kind, _, fault = kind.partition("-")
     lines, points = kinds[kind](count)
-    lines = {"": list, "bad": with_bad, "undecided": with_undecided}[fault](lines)
+    model = MODEL
+    if fault == "forks":
+        lines, points = with_forks(lines, points)
+        model = MODEL.replace("VERTEX Koord;", "VERTEX Koord WITHOUT OVERLAPS > 0.050;")
+    else:
+        lines = {"": list, "bad": with_bad, "undecided": with_undecided}[fault](lines)
     curves = [curve for line in lines for curve in curves_of(line)]
     os.makedirs(folder, exist_ok=True)
     with open(f"{folder}/model", "w") as file:
-        file.write(MODEL)
+        file.write(model)
     with open(f"{folder}/straights", "wb") as file:
         for curve in curves:
             if len(curve) == 2:

@@ -117,6 +117,13 @@ ARCP 512.000 504.000
 LIPT 520.000 520.000
 ELIN
 """
+# a corner of two straights on the circle, of which one leaves it along its tangent
+FORK = """OBJE 2
+STPT 510.000 500.000
+LIPT 509.900 520.000
+LIPT 500.000 510.000
+ELIN
+"""
 # a spiral of half turns, each 2 wider than the one before
 SPIRAL = "OBJE 9\nSTPT 510.000 500.000\n"
 for radius in range(11, 91, 2):
@@ -145,6 +152,30 @@ OTHER = RING.replace("OBJE 1", "OBJE 2").replace("STPT 100", "STPT 300")
 CROSSED = transfer(RING + OTHER, "OBJE 1 77 o1 110.000 150.000\n")
 ROUND = transfer(CIRCLE, "OBJE 1 77 o1 500.000 500.000\n")
 NEAR = transfer(CIRCLE + SMALL, "OBJE 1 77 o1 500.000 500.000\nOBJE 2 78 o2 508.870 503.670\n")
+BENT = transfer(CIRCLE + FORK, "OBJE 1 77 o1 500.000 500.000\nOBJE 2 78 o2 507.000 514.000\n")
+SURFACES = """TRANSFER Rows; DOMAIN Koord = COORD2 0.000 0.000 1000.000 1000.000;
+MODEL Land TOPIC Cover =
+TABLE House = Nr: TEXT*12; Form: SURFACE WITH (STRAIGHTS, ARCS) VERTEX Koord; IDENT Nr; END House;
+END Cover. END Land.
+FORMAT FREE; CODE BLANK = DEFAULT, UNDEFINED = DEFAULT, CONTINUE = DEFAULT; TID = ANY; END.
+"""
+
+
+def houses(lines):
+    """Two objects, and their lines."""
+    return ("SCNT\n////\nMTID Rows\nMODL Land\nTOPI Cover\nTABL House\nOBJE 1 a\nOBJE 2 b\nETAB\n"
+            "TABL House_Form\n" + lines + "ETAB\nETOP\nEMOD\nENDE\n")
+
+
+def owned(line, owner):
+    """The line as one of the object."""
+    return line.replace("\n", " %d\n" % owner, 1)
+
+
+HELD = houses(owned(RING, 1) + owned(HOLE, 1) + owned(OTHER, 2).replace("OBJE 2", "OBJE 3")
+              .replace("STPT 300", "STPT 100"))
+PARTED = houses(owned(RING, 1) + owned(CIRCLE, 2).replace("OBJE 1", "OBJE 3") + owned(RING, 1)
+                .replace("OBJE 1", "OBJE 4").replace("200.000", "220.000").replace("100.000", "210.000"))
 WRONG = transfer(RING, "OBJE 1 77 o3 110.000 150.000\nOBJE 2 77 o1 x 1.000\n")
 
 # the command, the model, the transfer, the certificates filed before, and the status
@@ -160,6 +191,15 @@ CHECKS = [
               .replace("510.000 510.000", "310.000 110.000").replace("512.000 504.000", "312.000 104.000")
               .replace("520.000 520.000", "320.000 120.000"), ""), None, 2),
     ("circles near each other round the spiral, which is alone", "check", MODEL, transfer(SPIRAL + RINGED, ""), None, 2),
+    ("a circle, and a straight that forks from it", "check", MODEL, BENT, None, 0),
+    ("two surfaces, of which one has a hole", "check", SURFACES, HELD, None, 0),
+    ("a surface of two parts, and one with arcs", "check", SURFACES, PARTED, None, 1),
+    ("a ring with a hole", "polygons", MODEL, HOLED, b"as it was", 0),
+    ("a circle of two arcs", "polygons", MODEL, ROUND, None, 0),
+    ("two lines that meet", "polygons", MODEL, CROSSED, b"as it was", 1),
+    ("a ring with a hole", "canonical", MODEL, HOLED, b"as it was", 0),
+    ("a ring with a hole, the code T", "canonical", MODEL.replace("CONTINUE = DEFAULT", "CONTINUE = 84"), HOLED, None, 1),
+    ("a transfer that ends too soon", "canonical", MODEL, SQUARE[:150], b"as it was", 1),
     ("two lines that meet", "check", MODEL, CROSSED, None, 1),
     ("a ring with a hole and a line that ends inside", "check", MODEL, CUT, None, 1),
     ("wrong rows", "check", MODEL, WRONG, None, 1),
@@ -220,6 +260,8 @@ name, _, model, text, _, _ = CHECKS[2]
 refuse_all(name, "verify", model, text, made[2], 0)
 name, _, model, text, _, _ = CHECKS[4]
 refuse_all(name, "verify", model, text, made[4], 0)
+name, _, model, text, _, _ = CHECKS[8]
+refuse_all(name, "verify", model, text, made[8], 0)
 name, _, model, text, _, _ = CHECKS[0]
 refuse_all(name, "verify", model, text, made[0], 0)
 refuse_all("a square, a label changed", "verify", model, text, made[0].replace(b"R 0 1 R", b"R 0 2 R", 1), 9)

@@ -152,6 +152,39 @@ wide("an arc of a SURFACE", b"ARCP 60 70\n", b"ARCP 99 60\n", "FINDING 19 arc 3"
      "at 70 60")
 wide("an attribute of the lines of an AREA", b"3 20200101\n", b"3 20201301\n", "FINDING 23 date 1",
      "Cover.Parcel_Form, object 3, attribute Datum: this is no date (eight digits, year, month, day): 20201301", "at 0 0")
+# SURFACEs.
+HOUSES = b"""TRANSFER Rows; DOMAIN Koord = COORD2 0.00 0.00 1000.00 1000.00;
+MODEL Land TOPIC Cover = TABLE House = Form: SURFACE WITH (STRAIGHTS) VERTEX Koord; NO IDENT END House;
+END Cover. END Land.
+FORMAT FREE; CODE BLANK = DEFAULT, UNDEFINED = DEFAULT, CONTINUE = DEFAULT; TID = ANY; END.
+"""
+HOUSE = b"""SCNT
+////
+MTID Rows
+MODL Land
+TOPI Cover
+TABL House
+OBJE 1
+ETAB
+TABL House_Form
+OBJE 9 1
+STPT 100 100
+LIPT 200 100
+LIPT 200 200
+LIPT 100 100
+ELIN
+ETAB
+ETOP
+EMOD
+ENDE
+"""
+told("a surface", HOUSES, HOUSE, "SURFACE Cover House Form PROVED 1 0",
+     "objects that are judged: 1; skipped, since they have an arc: 0")
+told("an open surface", HOUSES, swapped(HOUSE, b"LIPT 100 100\n", b""), "SURFACE Cover House Form ODD 12",
+     "object 9 of Cover.House_Form, at 200 100", "line 12: LIPT 200 100")
+told("a surface of two parts", HOUSES, swapped(HOUSE, b"ELIN\nETAB", b"ELIN\nOBJE 8 1\nSTPT 300 100\nLIPT 400 100\n"
+     b"LIPT 400 200\nLIPT 300 100\nELIN\nETAB"), "SURFACE Cover House Form PARTS 7", "object 1 of Cover.House",
+     "line 7: OBJE 1")
 wide("an arc where there may be none", b"LIPT 9 9\n", b"ARCP 9 8\nLIPT 9 9\n", "FINDING 25 arcs 2",
      "Cover.Parcel_Form, object 3, attribute Form: an arc, where the model allows straights alone", "at 9 8")
 # Structures, and what the first line may be.

@@ -16,7 +16,7 @@
 . "$top/bench/scratch.sh"
 itfcheck=${1:+$(realpath "$1")}
 scratch_crate verify_bench 'ports plane certificate certificate_checker' \
-    ports file_pages plane half_edges straight_predicates arc_predicates event_mesh tubes \
+    ports file_pages plane half_edges straight_predicates arc_predicates near_pairs forks event_mesh tubes \
     certificate certificate_checker
 cat > "$crate/src/main.rt" <<'END'
 // Reads straights and points as 32-bit numbers and a certificate, and checks it. With a word that
@@ -90,6 +90,9 @@ fn main(rt: HostRuntime) {
     };
     if word[0] == b'r' {
         let _ = println!(rt; "{} straights", drawing.curves.len());
+        return;
+    }
+    if drawing.curves.len() > 16_000_000 {
         return;
     }
     if word[0] == b'w' {

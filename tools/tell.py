@@ -59,6 +59,12 @@ AREAS = {
     "CUT": "a boundary line with one region on both its sides",
     "UNDECIDED": "not decided: two boundary lines, one of them an arc, cross or come near each other",
 }
+SURFACES = {
+    "PROVED": "the boundary of each object that is judged is that of one region",
+    "MEETING": "two edges of one object cross, overlap, or meet where one of them has no vertex",
+    "ODD": "an odd number of edges of one object end in an end of this edge: the boundary is open there",
+    "PARTS": "the edges of this object bound more than one region",
+}
 VERDICTS = {
     "ACCEPTED": "accepted; compare the number of objects with what was ordered",
     "REJECTED": "rejected; what is named above is wrong, and more may be",
@@ -88,7 +94,7 @@ class Teller:
         self.model = self.rows = None
         self.areas = {}
         kinds = {words[0] for words in self.report}
-        if kinds & {"FINDING", "AREA", "NOTPROVED"} and "TRIAL" not in kinds:
+        if kinds & {"FINDING", "AREA", "SURFACE", "NOTPROVED"} and "TRIAL" not in kinds:
             with open(model_file, "rb") as file:
                 self.model = Model(file.read().decode("latin-1"))
             self.read(report)
@@ -101,7 +107,7 @@ class Teller:
             if words[2] in ("tid", "ident"):
                 wanted.add(int(words[4]))
         for words in self.report:
-            if words[0] == "AREA" and words[4:5] not in (["PROVED"], ["NOTPROVED"]):
+            if words[0] in ("AREA", "SURFACE") and words[4:5] not in (["PROVED"], ["NOTPROVED"]):
                 wanted.update(int(word) for word in words[5:] if word.isdecimal())
         rows = Rows(self.model, wanted)
         with open(self.transfer_file, "rb") as file:
@@ -115,7 +121,7 @@ class Teller:
     def told(self):
         """The lines of the report, each with those that tell what it names."""
         kinds = {"FINDING": self.finding, "STRUCTURE": self.structure, "AREA": self.area,
-                 "NOTPROVED": self.not_proved, "FAULT": self.fault, "TABLE": self.table,
+                 "SURFACE": self.surface, "CANONICAL": self.canonical, "NOTPROVED": self.not_proved, "FAULT": self.fault, "TABLE": self.table,
                  "TRIAL": self.trial}
         for words in self.report:
             yield " ".join(words)
@@ -212,6 +218,21 @@ class Teller:
                 told += (f"; the nearest other end is {self.place(area, (math.dist(end.place, end.next),))}"
                          f" from it, at {self.place(area, end.next)}")
             yield told
+
+    def surface(self, words):
+        yield SURFACES[words[4]]
+        if words[4] == "PROVED":
+            yield f"objects that are judged: {words[5]}; skipped, since they have an arc: {words[6]}"
+            return
+        for number in dict.fromkeys(map(int, words[5:])):
+            row = self.rows[number]
+            place = f", at {' '.join(row.place)}" if row.place else ""
+            yield f"object {row.object} of {row.topic}.{row.table}{place}"
+            yield self.line(number)
+
+    @staticmethod
+    def canonical(words):
+        yield "the continue code of the model is the letter T, with which no transfer has such a text"
 
     @staticmethod
     def place(area, place, offset=(0, 0)):
