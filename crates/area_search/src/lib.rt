@@ -16,9 +16,9 @@
 //!   is a half arc.
 //! - **The rule that it serves.** The lines of an area part the plane, and each bounded region
 //!   holds exactly one object's point; and no curve has one region on both sides. Of a drawing
-//!   whose ground a level settles, as each drawing of straights is, a certificate is answered exactly
-//!   where that is so of the ground and no two curves of the drawing meet badly and no point is on
-//!   one; and each fault contradicts it (`laws`).
+//!   whose ground a level settles, as each drawing of straights is, a certificate is answered
+//!   exactly where that is so of the ground and no two curves of the drawing meet badly and no
+//!   point is on one; and each fault contradicts it (`laws`).
 //! - **How.** The levels are tried in turn by a sweep of their edges, which shows whether a level
 //!   settles the drawing (`level`, with what `find_area` calls). Of a drawing that a level settles
 //!   the sweep's run is kept, and the fault or the certificate is read off it (`settled`). Where no
