@@ -3,7 +3,7 @@ use Rattle.std.specs.Prelude.{codes}
 use Rattle.std.proofs.Common.{◌≡◌, List, ℕ, ap, refl, sym, subst}
 use Rattle.commands.specs.Commands.{FileNames, Command, compile, on_files, trial, IsCommand, IsSpelled, verb_word}
 use Rattle.commands.specs.declared.command.Verb.{Verb}
-use Rattle.commands.specs.declared.command.Verb.TheVariants.{Check, Verify, Polygons, Canonical}
+use Rattle.commands.specs.declared.command.Verb.TheVariants.{Check, Verify, Polygons, Canonical, Points}
 use Rattle.commands.proofs.CommandLemmas.{one_spelling, one_word, one_compile, not_both}
 use Rattle.commands.proofs.TrialWords.{one_trial, no_compile, no_names}
 
@@ -12,18 +12,27 @@ one_verb Check Check e = refl
 one_verb Check Verify e = absurd (cc)
 one_verb Check Polygons e = absurd (cc)
 one_verb Check Canonical e = absurd (cc)
+one_verb Check Points e = absurd (cc)
 one_verb Verify Check e = absurd (cc)
 one_verb Verify Verify e = refl
 one_verb Verify Polygons e = absurd (cc)
 one_verb Verify Canonical e = absurd (cc)
+one_verb Verify Points e = absurd (cc)
 one_verb Polygons Check e = absurd (cc)
 one_verb Polygons Verify e = absurd (cc)
 one_verb Polygons Polygons e = refl
 one_verb Polygons Canonical e = absurd (cc)
+one_verb Polygons Points e = absurd (cc)
 one_verb Canonical Check e = absurd (cc)
 one_verb Canonical Verify e = absurd (cc)
 one_verb Canonical Polygons e = absurd (cc)
 one_verb Canonical Canonical e = refl
+one_verb Canonical Points e = absurd (cc)
+one_verb Points Check e = absurd (cc)
+one_verb Points Verify e = absurd (cc)
+one_verb Points Polygons e = absurd (cc)
+one_verb Points Canonical e = absurd (cc)
+one_verb Points Points e = refl
 
 same_files : (words : List (List ℕ)) (v w : Verb) (c d : FileNames) → IsSpelled (verb_word v) words c → IsSpelled (verb_word w) words d → on_files v c ≡ on_files w d
 same_files words v w c d h k =

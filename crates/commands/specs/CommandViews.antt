@@ -2,11 +2,12 @@
 use Rattle.std.specs.Prelude.{◌≤◌, ⊤}
 use Rattle.commands.specs.Commands.{FileNames, Command, compile, on_files, trial, Source, from_file}
 use Rattle.commands.specs.Commands.{made, Target, Task, lists, judges, verifies, rewrites}
+use Rattle.commands.specs.Commands.{tests_points}
 use Rattle.commands.specs.TrialFiles.{transfer_text}
 use Rattle.commands.specs.declared.command.FileNames.{FileNames as CodeNames}
 use Rattle.commands.specs.declared.command.Command.{Command as CodeCommand}
 use Rattle.commands.specs.declared.command.Command.TheVariants as commands
-use Rattle.commands.specs.declared.files.File.TheVariants.{Transfer, Certificate}
+use Rattle.commands.specs.declared.files.File.TheVariants.{Transfer, Certificate, Links}
 use Rattle.commands.specs.declared.task.Target.{Target as CodeTarget}
 use Rattle.commands.specs.declared.task.Task.{Task as CodeTask}
 use Rattle.commands.specs.declared.task.Task.TheVariants as tasks
@@ -35,6 +36,8 @@ task_view (tasks.Judges transfer target) = judges (transfer_of transfer) (target
 task_view (tasks.Verifies transfer certificates) =
     verifies (transfer_of transfer) (from_file Certificate certificates.now)
 task_view (tasks.Rewrites transfer file) = rewrites (from_file Transfer transfer.now) file.now
+task_view (tasks.TestsPoints transfer links) =
+    tests_points (from_file Transfer transfer.now) (from_file Links links.now)
 
 -- a grid that is made has no more cells than a size allows
 abbrev pub IsSmallSource : TransferSource → Type 0
@@ -46,3 +49,4 @@ IsSmallTask tasks.Lists = ⊤
 IsSmallTask (tasks.Judges transfer target) = IsSmallSource transfer
 IsSmallTask (tasks.Verifies transfer certificates) = IsSmallSource transfer
 IsSmallTask (tasks.Rewrites transfer file) = ⊤
+IsSmallTask (tasks.TestsPoints transfer links) = ⊤

@@ -4,8 +4,9 @@ use Rattle.std.specs.Prelude.{Some, None, ⊤, codes}
 use Rattle.commands.specs.TrialFiles.{IsSize, model_text, transfer_text}
 use Rattle.commands.specs.declared.command.Verb.{Verb}
 use Rattle.commands.specs.declared.command.Verb.TheVariants.{Check, Verify, Polygons, Canonical}
+use Rattle.commands.specs.declared.command.Verb.TheVariants.{Points}
 use Rattle.commands.specs.declared.files.File.{File}
-use Rattle.commands.specs.declared.files.File.TheVariants.{Model, Transfer, Certificate}
+use Rattle.commands.specs.declared.files.File.TheVariants.{Model, Transfer, Certificate, Links}
 use Rattle.commands.specs.declared.task.Filed.{Filed}
 use Rattle.commands.specs.declared.task.Filed.TheVariants as filed
 
@@ -21,7 +22,7 @@ pub data Command : Type 0 where
   compile : List ℕ → Command
   -- check M T C: the certificates are written to their file; verify M T C: they are read from it;
   -- polygons M T P: the polygons of the areas are written to their file; canonical M T O: the
-  -- transfer is written to its file
+  -- transfer is written to its file; points M T L: the links are read from their file
   on_files : Verb → FileNames → Command
   -- trial N C: so many cells a side, and the file that the certificates are written to
   trial : ℕ → List ℕ → Command
@@ -37,6 +38,7 @@ verb_word Check = codes "check"
 verb_word Verify = codes "verify"
 verb_word Polygons = codes "polygons"
 verb_word Canonical = codes "canonical"
+verb_word Points = codes "points"
 
 -- the words spell this command
 pub record IsCompile (words : List (List ℕ)) (model : List ℕ) : Type 0 where
@@ -86,6 +88,7 @@ abbrev pub limit_of : File → ℕ
 limit_of Model = 4194304
 limit_of Transfer = 268435456
 limit_of Certificate = 1073741824
+limit_of Links = 65536
 
 -- the model, which comes first and is compiled
 abbrev pub model_of : Command → Source
@@ -121,6 +124,8 @@ pub data Task : Type 0 where
   verifies : Source → Source → Task
   -- a transfer is written to the file of that name, in its canonical text
   rewrites : Source → List ℕ → Task
+  -- a transfer is judged, and whether the points that the links state lie in their areas
+  tests_points : Source → Source → Task
 
 -- the task of a command on three files
 abbrev pub verb_task : Verb → FileNames → Task
@@ -128,6 +133,7 @@ verb_task Check c = judges (from_file Transfer c.transfer) (check_target c.third
 verb_task Verify c = verifies (from_file Transfer c.transfer) (from_file Certificate c.third)
 verb_task Polygons c = judges (from_file Transfer c.transfer) (polygons_target c.third)
 verb_task Canonical c = rewrites (from_file Transfer c.transfer) c.third
+verb_task Points c = tests_points (from_file Transfer c.transfer) (from_file Links c.third)
 
 -- the task of a command
 abbrev pub task_of : Command → Task
@@ -141,6 +147,7 @@ further_files lists = []
 further_files (judges transfer target) = transfer ∷ []
 further_files (verifies transfer certificates) = transfer ∷ certificates ∷ []
 further_files (rewrites transfer name) = transfer ∷ []
+further_files (tests_points transfer links) = transfer ∷ links ∷ []
 
 -- the file that is written
 abbrev pub writes_to : Task → Option (List ℕ)
@@ -148,3 +155,4 @@ writes_to lists = None
 writes_to (judges transfer target) = Some target.name
 writes_to (verifies transfer certificates) = None
 writes_to (rewrites transfer name) = Some name
+writes_to (tests_points transfer links) = None

@@ -27,6 +27,8 @@ pub enum Verb {
     Polygons,
     /// `canonical M T O`: the transfer is written to a file in its canonical text.
     Canonical,
+    /// `points M T L`: the links are read from their file.
+    Points,
 }
 
 /// What the words ask for.
@@ -82,6 +84,9 @@ fn verb_of(word: &str) -> Option<Verb>
     }
     if word == "canonical" {
         return Some(Verb::Canonical);
+    }
+    if word == "points" {
+        return Some(Verb::Points);
     }
     None
 }

@@ -16,6 +16,8 @@ pub enum File {
     Transfer,
     /// The certificates that `verify` reads.
     Certificate,
+    /// The links that `points` reads.
+    Links,
 }
 
 impl File {
@@ -28,6 +30,7 @@ impl File {
             File::Model => 4_194_304,
             File::Transfer => 268_435_456,
             File::Certificate => 1_073_741_824,
+            File::Links => 65_536,
         }
     }
 }

@@ -2,14 +2,15 @@
 //! and the files of a trial, which are made in memory.
 //!
 //! - **Words.** `command_of` gives the one command that the words spell: `compile M`,
-//!   `check M T C`, `verify M T C`, `trial N C`, `polygons M T P` or `canonical M T O`. Names of
-//!   files are not empty and do not begin with a minus, and N is a number from 1 to 500 without
-//!   sign or leading zero. All other words spell none. A command has one `Task`: what is done once
-//!   its model is compiled, where the transfer comes from, and which file is read or written
-//!   besides.
+//!   `check M T C`, `verify M T C`, `trial N C`, `polygons M T P`, `canonical M T O` or
+//!   `points M T L`. Names of files are not empty and do not begin with a minus, and N is a number
+//!   from 1 to 500 without sign or leading zero. All other words spell none. A command has one
+//!   `Task`: what is done once its model is compiled, where the transfer comes from, and which file
+//!   is read or written besides.
 //! - **Files.** `read_file` reads a file whole, in pieces of 65,536 bytes, and refuses one past its
 //!   limit: 4,194,304 bytes for a model, 268,435,456 for a transfer, 1,073,741,824 for
-//!   certificates. It fails only where a count of faults rose, and not where the file is readable.
+//!   certificates, 65,536 for links. It fails only where a count of faults rose, and not where the
+//!   file is readable.
 //!   `read_pieces` hands the pieces of one, as they come, to whoever takes them (`Taker`).
 //! - **Models.** `read_model` turns a text into the layout of its tables, or names the first fault,
 //!   of its tokens, of its grammar or of its names and types, with code, line, column and word.

@@ -57,6 +57,12 @@ pub enum Task<'a> {
         transfer: &'a str,
         file: &'a str,
     },
+    /// The transfer of the file of that name is judged, and whether the points that the other file
+    /// states lie in their areas.
+    TestsPoints {
+        transfer: &'a str,
+        links: &'a str,
+    },
 }
 
 // The task of a command on three files.
@@ -87,6 +93,10 @@ fn verb_task<'a>(verb: Verb, names: &FileNames<'a>) -> Task<'a>
         Verb::Canonical => Task::Rewrites {
             transfer: names.transfer,
             file: names.third,
+        },
+        Verb::Points => Task::TestsPoints {
+            transfer: names.transfer,
+            links: names.third,
         },
     }
 }

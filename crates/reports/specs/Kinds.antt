@@ -2,7 +2,7 @@
 -- neither.
 use Rattle.std.specs.Prelude.{Bool, true, false, List}
 use Rattle.std.specs.List.{list_all, list_any}
-use Rattle.reports.specs.Lines.{Line, area, surface, canon_refused}
+use Rattle.reports.specs.Lines.{Line, area, surface, canon_refused, link_line, link}
 use Rattle.reports.specs.declared.kinds.Kind.{Kind}
 use Rattle.reports.specs.declared.kinds.Kind.TheVariants.{Fault, Undecided, Fine}
 use Rattle.reports.specs.declared.lines.AreaAnswer.{AreaAnswer}
@@ -26,6 +26,8 @@ abbrev pub kind_of : Line → Kind
 kind_of (area a) = answer_kind a.answer
 kind_of (surface s) = surface_kind s.answer
 kind_of canon_refused = Fault
+kind_of (link_line n) = Fault
+kind_of (link rule object) = Fault
 kind_of other = Fine
 
 -- the kind is a fault

@@ -16,7 +16,7 @@ use Rattle.reports.specs.declared.lines.Line.TheVariants.{UsageFault, UsageWords
 use Rattle.reports.specs.declared.lines.Line.TheVariants.{TooLong, AreaLimit, ModelFault}
 use Rattle.reports.specs.declared.lines.Line.TheVariants.{Model, Table, Structure, Area}
 use Rattle.reports.specs.declared.lines.Line.TheVariants.{Surface, CanonRefused, NotProved, Trial}
-use Rattle.reports.specs.declared.lines.Line.TheVariants.{Verdict}
+use Rattle.reports.specs.declared.lines.Line.TheVariants.{LinkLine, Link, Links, Verdict}
 
 abbrev pub table_of : table.TableLine → TableLine
 table_of t =
@@ -52,6 +52,9 @@ line_of (Surface s) = lines.surface (surface_of s)
 line_of CanonRefused = lines.canon_refused
 line_of (NotProved a rule place) = lines.not_proved a rule place
 line_of (Trial n curves events points) = lines.trial n curves events points
+line_of (LinkLine n) = lines.link_line n
+line_of (Link rule object) = lines.link rule object
+line_of (Links rules pairs) = lines.links rules pairs
 line_of (Verdict v) = lines.verdict v
 
 abbrev pub lines_of : List code.Line → List Line

@@ -98,6 +98,11 @@ abbrev pub canon_refused : Outcome
 canon_refused =
     reported status.Rejected (lines.canon_refused ∷ lines.verdict verdict.Rejected ∷ [])
 
+-- the first line of the links that states no rule
+abbrev pub bad_link : ℕ → Outcome
+bad_link n =
+    reported status.Rejected (lines.link_line n ∷ lines.verdict verdict.Rejected ∷ [])
+
 -- the transfer has these findings
 abbrev pub rejected : List Finding → Outcome
 rejected found =
@@ -149,14 +154,18 @@ trial_lines other xs cs = []
 abbrev pub with_verdict : List Line → verdicts.Verdict → List Line
 with_verdict ls v = ls ++ (lines.verdict v ∷ [])
 
--- accepted, with the lines of the areas and the number of objects, and what is to be written
-abbrev pub accepted : List Line → ℕ → Filing → Outcome
-accepted ls objects filing =
+-- accepted, with lines and a number of objects, and what is to be written, if something is
+abbrev pub accepted_with : List Line → ℕ → Option Filing → Outcome
+accepted_with ls objects filing =
     record {
       status = status.Accepted;
       lines = with_verdict ls (verdict.Accepted objects);
-      filing = Some filing;
+      filing = filing;
     }
+
+-- accepted, with the lines of the areas and the number of objects, and what is to be written
+abbrev pub accepted : List Line → ℕ → Filing → Outcome
+accepted ls objects filing = accepted_with ls objects (Some filing)
 
 -- the canonical text of a number of objects, which goes to the file of that name
 abbrev pub canonical : List ℕ → ℕ → List ℕ → Outcome
@@ -172,15 +181,23 @@ abbrev pub filing_for : Target → List Plain → List polygons.Plain → Filing
 filing_for target cs ps = record { name = target.name; text = filed_text target.filed cs ps }
 
 -- The outcome of the lines on what was judged, by their kinds: one fault rejects the transfer, else
--- one that is undecided leaves it so, else it is accepted, with these lines more, a number of
--- objects and what is to be written.
-abbrev pub lines_outcome : List Line → List Line → ℕ → Filing → Outcome
-lines_outcome ls more objects filing =
+-- one that is undecided leaves it so, else it is that other outcome.
+abbrev pub by_kinds : List Line → Outcome → Outcome
+by_kinds ls other =
     if has_fault ls
     then reported status.Rejected (with_verdict ls verdict.Rejected)
     else if has_undecided ls
     then reported status.Undecided (with_verdict ls verdict.Undecided)
-    else accepted (ls ++ more) objects filing
+    else other
+
+-- the outcome of lines by their kinds; without a fault and what is undecided the transfer is
+-- accepted, with these lines more, a number of objects and what is to be written
+abbrev pub lines_outcome : List Line → List Line → ℕ → Filing → Outcome
+lines_outcome ls more objects filing = by_kinds ls (accepted (ls ++ more) objects filing)
+
+-- the outcome of lines by their kinds, where nothing is written
+abbrev pub unfiled_outcome : List Line → ℕ → Outcome
+unfiled_outcome ls objects = by_kinds ls (accepted_with ls objects None)
 
 -- the lines of the areas of a layout and the answers to them, and behind them those of its SURFACEs
 abbrev pub judged_lines : Layout → List SurfaceAnswer → List AreaAnswer → List Line
@@ -193,6 +210,29 @@ abbrev pub areas_outcome : Layout → ℕ → Target → List SurfaceAnswer → 
 areas_outcome l objects target ss xs cs ps =
     lines_outcome (judged_lines l ss xs) (trial_lines target.filed xs cs) objects
     (filing_for target cs ps)
+
+-- ---- links: which points must lie in the area of the object to which their row refers
+-- a rule, by its line in the links, and an object, by its line in the transfer, whose point does
+-- not lie in that area
+pub record Misplaced : Type 0 where
+  pub rule : ℕ
+  pub line : ℕ
+
+-- the line of a rule and an object
+abbrev pub misplaced_line : Misplaced → Line
+misplaced_line m = lines.link m.rule m.line
+
+-- the lines of the links: the misplaced points, then how many rules and pairs there are
+abbrev pub link_lines : List Misplaced → ℕ → ℕ → List Line
+link_lines ms rules pairs = map misplaced_line ms ++ (lines.links rules pairs ∷ [])
+
+-- the outcome of a number of objects without a finding, of the answers to the SURFACEs and the areas
+-- of the layout, and, where none of these is a fault and none undecided, of the links
+abbrev pub linked : Layout → ℕ → List SurfaceAnswer → List AreaAnswer → List Misplaced → ℕ → ℕ
+    → Outcome
+linked l objects ss xs ms rules pairs =
+    by_kinds (judged_lines l ss xs)
+    (unfiled_outcome (judged_lines l ss xs ++ link_lines ms rules pairs) objects)
 
 -- the answers to drawings that are shown to be partitions at these levels
 abbrev pub proof_answers : List Plan → List ℕ → List AreaAnswer

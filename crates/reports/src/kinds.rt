@@ -69,7 +69,7 @@ fn kind_of(line: &Line) -> Kind
     match line {
         Line::Area(area) => answer_kind(area.answer),
         Line::Surface(surface) => surface_kind(surface.answer),
-        Line::CanonRefused => Kind::Fault,
+        Line::CanonRefused | Line::LinkLine(_) | Line::Link { .. } => Kind::Fault,
         _ => Kind::Fine,
     }
 }

@@ -1,5 +1,6 @@
 // Outcomes of a call, fixed before anything is written.
 ghost use Rattle.std.specs.Prelude.{◌≡◌, ◌≤◌, ◌++◌, length, map, IfOk, OnOk, Some, None};
+ghost use Rattle.std.specs.Option.{option_map};
 ghost use Rattle.certificate.specs.Spelling.{view, views};
 ghost use Rattle.itf_reader.specs.Findings.{findings_of};
 ghost use Rattle.itf_reader.specs.Refusals.{fault_of};
@@ -8,15 +9,16 @@ ghost use Rattle.table_layout.specs.Values.{tables_view};
 ghost use Rattle.reports.specs.Outcomes.{reported, usage, area_too_large};
 ghost use Rattle.reports.specs.Outcomes.{canonical, canon_refused};
 ghost use Rattle.reports.specs.Outcomes.{refused, compiled, misbuilt, rejected, areas_outcome};
-ghost use Rattle.reports.specs.Outcomes.{judged_lines, lines_outcome};
-ghost use Rattle.reports.specs.Outcomes.{accepted, area_line, area_lines, table_line};
+ghost use Rattle.reports.specs.Outcomes.{judged_lines, by_kinds, lines_outcome, unfiled_outcome};
+ghost use Rattle.reports.specs.Outcomes.{bad_link, linked};
+ghost use Rattle.reports.specs.Outcomes.{accepted_with, area_line, area_lines, table_line};
 ghost use Rattle.reports.specs.Outcomes.{with_verdict, trial_line, size_lines, trial_lines};
 ghost use Rattle.reports.specs.Outcomes.{filed_text};
 ghost use Rattle.polygons.specs.Text.{views as polygons_in};
 ghost use Rattle.reports.specs.Outcomes.{proof_answers, verified};
 ghost use Rattle.reports.specs.AreaKinds.{plans};
 ghost use Rattle.reports.specs.LineViews.{line_of, lines_of};
-ghost use Rattle.reports.specs.OutcomeViews.{filing_of, outcome_of, text_of};
+ghost use Rattle.reports.specs.OutcomeViews.{filing_of, misplaced_view, outcome_of, text_of};
 ghost use Rattle.commands.specs.CommandViews.{target_of};
 ghost use Rattle.reports.specs.FileRefusals.{IsNotRead};
 ghost use Rattle.commands.specs.RefusalViews.{refusal_of};
@@ -25,6 +27,7 @@ ghost use Rattle.reports.specs.VerificationViews.{verification_of};
 use crate::area_answers::{Answers, proof_answer};
 use crate::area_names::{names_of, topic_text};
 use crate::kinds::{has_fault, has_undecided};
+use crate::links::{Misplaced, add_link_lines};
 use crate::lines::{AreaAnswer, AreaLine, Line, SurfaceAnswer, TableLine, Verdict};
 use crate::status::Status;
 use crate::surfaces::{add_surface_lines, surfaces_of};
@@ -192,7 +195,15 @@ pub fn canonical(
         name,
         content: Content::Text(text),
     };
-    accepted(alloc, Vec::new(alloc), objects, filing)
+    accepted(alloc, Vec::new(alloc), objects, Some(filing))
+}
+
+/// The first line of the links that states no rule.
+pub fn bad_link<'a>(alloc: Global, line: u32) -> Result<Outcome<'a>, Memory>
+    ensures { IfOk result (λ o. outcome_of o ≡ bad_link line) }
+{
+    let lines = vec![in alloc; Line::LinkLine(line), Line::Verdict(Verdict::Rejected)]?;
+    Ok(reported(alloc, Status::Rejected, lines))
 }
 
 /// The transfer has findings.
@@ -294,15 +305,15 @@ fn content_of(filed: Filed, certificates: Vec<Certificate>, polygons: Vec<AreaPo
     }
 }
 
-// Accepted, with the number of objects and what is written.
+// Accepted, with the number of objects and what is written, if something is.
 fn accepted(
     alloc: Global,
     lines: Vec<Line>,
     objects: u128,
-    filing: Filing<'_>,
+    filing: Option<Filing<'_>>,
 ) -> Result<Outcome<'_>, Memory>
-    ensures { IfOk result (λ o. outcome_of o ≡ accepted (lines_of lines.items) objects
-        (filing_of filing.entry)) }
+    ensures { IfOk result (λ o. outcome_of o ≡ accepted_with (lines_of lines.items) objects
+        (option_map filing_of filing.entry)) }
 {
     let mut lines = lines;
     lines.push(Line::Verdict(Verdict::Accepted(objects)))?;
@@ -310,7 +321,7 @@ fn accepted(
         status: Status::Accepted,
         findings: Vec::new(alloc),
         lines,
-        filing: Some(filing),
+        filing,
     })
 }
 
@@ -329,6 +340,32 @@ fn ended<'a>(
     Ok(reported(alloc, status, lines))
 }
 
+// The outcome of the lines on what was judged, by their kinds: one fault rejects the transfer,
+// else one that is undecided leaves it so, else it is accepted, with these lines more, a number of
+// objects and what is written, if something is.
+fn by_kinds(
+    alloc: Global,
+    lines: Vec<Line>,
+    more: Vec<Line>,
+    objects: u128,
+    filing: Option<Filing<'_>>,
+) -> Result<Outcome<'_>, Memory>
+    ensures { IfOk result (λ o. outcome_of o ≡ by_kinds (lines_of lines.items)
+        (accepted_with (lines_of lines.items ++ lines_of more.items) objects
+        (option_map filing_of filing.entry))) }
+{
+    if has_fault(&lines) {
+        return ended(alloc, Status::Rejected, lines, Verdict::Rejected);
+    }
+    if has_undecided(&lines) {
+        return ended(alloc, Status::Undecided, lines, Verdict::Undecided);
+    }
+    let mut lines = lines;
+    let mut more = more;
+    lines.append(&mut more)?;
+    accepted(alloc, lines, objects, filing)
+}
+
 /// The outcome of the lines on what was judged, by their kinds: one fault rejects the transfer,
 /// else one that is undecided leaves it so, else it is accepted, with these lines more, a number of
 /// objects and what is written.
@@ -342,16 +379,18 @@ pub fn lines_outcome(
     ensures { IfOk result (λ o. outcome_of o ≡ lines_outcome (lines_of lines.items)
         (lines_of more.items) objects (filing_of filing.entry)) }
 {
-    if has_fault(&lines) {
-        return ended(alloc, Status::Rejected, lines, Verdict::Rejected);
-    }
-    if has_undecided(&lines) {
-        return ended(alloc, Status::Undecided, lines, Verdict::Undecided);
-    }
-    let mut lines = lines;
-    let mut more = more;
-    lines.append(&mut more)?;
-    accepted(alloc, lines, objects, filing)
+    by_kinds(alloc, lines, more, objects, Some(filing))
+}
+
+// The outcome of lines by their kinds, where nothing is written.
+fn unfiled_outcome<'a>(
+    alloc: Global,
+    lines: Vec<Line>,
+    objects: u128,
+) -> Result<Outcome<'a>, Memory>
+    ensures { IfOk result (λ o. outcome_of o ≡ unfiled_outcome (lines_of lines.items) objects) }
+{
+    by_kinds(alloc, lines, Vec::new(alloc), objects, None)
 }
 
 // The lines for areas, and behind them those for SURFACEs.
@@ -395,6 +434,31 @@ pub fn areas_outcome<'a>(
         content: content_of(target.filed, answers.certificates, polygons),
     };
     lines_outcome(alloc, lines, more, objects, filing)
+}
+
+/// The outcome of a number of objects without a finding, of the answers to the SURFACEs and the
+/// areas of the layout, and, where none of these is a fault and none undecided, of the links: one
+/// misplaced point rejects the transfer, and else it is accepted. Nothing is written.
+pub fn linked<'a>(
+    alloc: Global,
+    layout: &Layout,
+    objects: u128,
+    surfaces: &[SurfaceAnswer],
+    answers: &[AreaAnswer],
+    misplaced: &[Misplaced],
+    rules: u64,
+    pairs: u64,
+) -> Result<Outcome<'a>, Memory>
+    requires { length layout.now.tables.items ≤ 4194304 }
+    ensures { IfOk result (λ o. outcome_of o ≡ linked (layout_view layout.now) objects
+        surfaces.now answers.now (misplaced_view misplaced.now) rules pairs) }
+{
+    let mut lines = judged_lines(alloc, layout, surfaces, answers)?;
+    if has_fault(&lines) || has_undecided(&lines) {
+        return unfiled_outcome(alloc, lines, objects);
+    }
+    add_link_lines(misplaced, rules, pairs, &mut lines)?;
+    unfiled_outcome(alloc, lines, objects)
 }
 
 // The answers to drawings that are proved at these levels.

@@ -9,5 +9,5 @@ two_parts old mid new first last e f = f ∙ ap (λ (s : List ℕ). s ++ last) e
 
 pub returns : goal.returns
 returns c = on_ok_weaker c.add-2.result
-    (two_parts c.args.text.now c.add.new.self c.add-2.new.self (codes "usage: itfcheck compile M, check M T C, verify M T C, trial N C, polygons M T P, ") (codes "canonical M T O") c.in_ok-add.ensures)
+    (two_parts c.args.text.now c.add.new.self c.add-2.new.self (codes "usage: itfcheck compile M, check M T C, verify M T C, trial N C, polygons M T P, ") (codes "canonical M T O, points M T L") c.in_ok-add.ensures)
     c.add-2.ensures
