@@ -278,4 +278,5 @@ def main():
         file.write("ETAB\nETOP\nEMOD\nENDE\n")
 
 
-main()
+if __name__ == "__main__":
+    main()

@@ -98,6 +98,7 @@ held("--version", ["--version"], 0, f"itfcheck {commit.stdout.strip()}", "", 0)
 held("the logic of the version", ["--version"], 0, KIT, "", 0)
 held("no command", ["chek", "M"], 4, "", "--help", 0)
 held("too few words", ["check", "M", "T"], 4, "", "--help", 0)
+held("too few words for points", ["points", "M", "T"], 4, "", "--help", 0)
 
 # What a build needs.
 held("another kit", ["compile", "M"], 70, "", "rattle-kit-1 logic 00", 0, RT_SAYS="rattle-kit-1 logic 00")
@@ -178,5 +179,6 @@ for name, held_bytes, kept in [("certs", b"ITFCERT 1\n", True), ("polygons", b"I
 for name in ("empty", "filed.cert", "new.cert", "folder", "/dev/null", "-x"):
     held(f"certificates to {name}", ["check", "M", "T", name], 0, f"ran check M T {name}", "")
 held("verify reads any file", ["verify", "M", "T", "delivery.itf"], 0, "ran verify", "")
+held("points reads any file", ["points", "M", "T", "delivery.itf"], 0, "ran points M T delivery.itf", "")
 print(f"{DONE} answers")
 PY

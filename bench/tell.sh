@@ -66,9 +66,9 @@ def put(name, text):
         file.write(text)
 
 
-def tell(model, transfer, report):
+def tell(model, transfer, report, *links):
     put("R", report)
-    return subprocess.run(["python3", TELL, model, transfer, "R"], capture_output=True, text=True)
+    return subprocess.run(["python3", TELL, model, transfer, "R", *links], capture_output=True, text=True)
 
 
 def told(what, model, transfer, first, *wanted):
@@ -83,6 +83,21 @@ def told(what, model, transfer, first, *wanted):
         sys.exit(f"{what}: {report.decode()}{done.stdout}{done.stderr}wanted {first}, {wanted}")
     DONE += 1
     print(f"{what}: {first}")
+
+
+def linked(what, transfer, links, line, *wanted):
+    """The report of `points` has a line, and the words hold each text."""
+    global DONE
+    put("M", LINKED)
+    put("T", transfer)
+    put("L", links)
+    report = subprocess.run([PROGRAM, "points", "M", "T", "L"], capture_output=True).stdout
+    done = tell("M", "T", report, "L")
+    lines = done.stdout.split("\n")
+    if done.returncode or line not in lines or not all(f"    {one}" in lines for one in wanted):
+        sys.exit(f"{what}: {report.decode()}{done.stdout}{done.stderr}wanted {line}, {wanted}")
+    DONE += 1
+    print(f"{what}: {line}")
 
 
 def swapped(text, old, new):
@@ -187,6 +202,67 @@ told("a surface of two parts", HOUSES, swapped(HOUSE, b"ELIN\nETAB", b"ELIN\nOBJ
      "line 7: OBJE 1")
 wide("an arc where there may be none", b"LIPT 9 9\n", b"ARCP 9 8\nLIPT 9 9\n", "FINDING 25 arcs 2",
      "Cover.Parcel_Form, object 3, attribute Form: an arc, where the model allows straights alone", "at 9 8")
+# Links: which points must lie in the area of the object to which their row refers.
+LINKED = b"""TRANSFER Rows; DOMAIN Koord = COORD2 0.00 0.00 1000.00 1000.00; Rough = COORD2 0.0 0.0 1000.0 1000.0;
+MODEL Land TOPIC Cover = TABLE Parcel = Form: OPTIONAL AREA WITH (STRAIGHTS, ARCS) VERTEX Koord; NO IDENT END Parcel;
+TABLE Number = Of: -> Parcel; Nr: TEXT*9; Place: Koord; Near: OPTIONAL Rough; NO IDENT END Number; END Cover. END Land.
+FORMAT FREE; CODE BLANK = DEFAULT, UNDEFINED = DEFAULT, CONTINUE = DEFAULT; TID = ANY; END.
+"""
+NUMBERS = b"""SCNT
+////
+MTID Rows
+MODL Land
+TOPI Cover
+TABL Parcel_Form
+OBJE 1
+STPT 100 100
+LIPT 200 100
+LIPT 200 200
+LIPT 100 200
+LIPT 100 100
+ELIN
+OBJE 2
+STPT 120 120
+ARCP 130 130
+LIPT 120 140
+ARCP 110 130
+LIPT 120 120
+ELIN
+ETAB
+TABL Parcel
+OBJE 1 150 150
+OBJE 2 120 130
+OBJE 3 @ @
+ETAB
+TABL Number
+OBJE 7 1 n 160 160 @ @
+ETAB
+ETOP
+EMOD
+ENDE
+"""
+RULE = b"LINK Cover Number Place Of Form\n"
+linked("a point in its area", NUMBERS, RULE, "LINKS 1 1", "rules: 1; points that were looked at: 1")
+for place, words in ((b"127 137", "in the region of the object of line 24"), (b"113 123", "in the region of the object of line 24"),
+                     (b"200 160", "on the straight or half arc of line 10"), (b"126 138", "on the straight or half arc of line 17"),
+                     (b"201 160", "in no region"), (b"0 0", "in no region")):
+    text = swapped(NUMBERS, b"n 160 160", b"n " + place)
+    linked(place.decode(), text, b"\n" + RULE, "LINK 2 28",
+           "line 2 of the links: LINK Cover Number Place Of Form",
+           f"object 7 of Cover.Number, Place at {place.decode()}", f"line 28: OBJE 7 1 n {place.decode()} @ @",
+           "it refers, by Of, to object 1 of Cover.Parcel", "line 23: OBJE 1 150 150", f"the point lies {words}")
+linked("an object without a point", swapped(NUMBERS, b"OBJE 7 1", b"OBJE 7 3"), RULE, "LINK 1 28",
+       "it refers, by Of, to object 3 of Cover.Parcel", "the object referred to has no point in Form")
+for rule, words in ((b"LINK Cover Number Place Of", "5 words, the first LINK: six are needed, the first LINK"),
+                    (b"LINKS Cover Number Place Of Form", "6 words, the first LINKS: six are needed, the first LINK"),
+                    (b"LINK Land Number Place Of Form", "Land is no topic"),
+                    (b"LINK Cover Parcel_Form Place Of Form", "Parcel_Form is no declared table of Cover"),
+                    (b"LINK Cover Number Nr Of Form", "Nr is no coordinate of two axes of Number"),
+                    (b"LINK Cover Number Place Nr Form", "Nr is no reference of Number"),
+                    (b"LINK Cover Number Place Of Place", "Place is no AREA of Parcel"),
+                    (b"LINK Cover Number Near Of Form", "Near has 1 decimals, and Form has 2")):
+    linked("no rule", NUMBERS, RULE + b" \r\n" + rule, "LINKLINE 3", words, f"line 3 of the links: {rule.decode()}",
+           "this line of the links states no rule, which is LINK topic table point reference area")
 # Structures, and what the first line may be.
 small("a byte order mark", b"SCNT", b"\xef\xbb\xbfSCNT", "STRUCTURE 1 word",
       "the file begins with a byte order mark of UTF-8: save it without")

@@ -8,7 +8,7 @@ places on arcs are floats.
 import math
 from collections import defaultdict
 
-from areas import along, bend, box_of, extent, hull, trace
+from areas import along, bend, box_of, extent, hull, trace, turn
 
 ENDS = 3                # free ends that are told of a fault
 AT_ONCE = 200000        # of larger areas the ends are counted in parts, to save memory
@@ -252,6 +252,37 @@ def holes(part, outer, box):
                 candidates.remove(cycle)
                 grew = True
     return found
+
+
+def is_at(curve, place):
+    """Whether a place lies on a curve, in whole numbers."""
+    start, end, third = curve
+    if third is None:
+        left, low, right, high = hull(start * 2, end * 2)
+        return (turn(start, end, place) == 0 and left <= place[0] <= right
+                and low <= place[1] <= high)
+    corners = [(x - place[0], y - place[1]) for x, y in curve]
+    a, b, c = (x * x + y * y for x, y in corners)
+    within = (a * turn((0, 0), corners[1], corners[2]) - b * turn((0, 0), corners[0], corners[2])
+              + c * turn((0, 0), corners[0], corners[1]))
+    return within == 0 and is_on(curve, (place[0] - start[0], place[1] - start[1]))
+
+
+def curve_at(area, place):
+    """The first curve that holds a place, by its number, or None."""
+    return next((k for k in curves_near(area, place * 2) if is_at(area.curve(k), place)), None)
+
+
+def owner_of(area, region):
+    """The first point of an object that lies in a region, by its number, or None."""
+    rim = {half_edge for cycle in region.cycles for half_edge in cycle}
+    left, low, right, high = box = around(region.box)
+    part = Part(area, box)
+    for index in range(len(area.rows)):
+        x, y = place = area.point(index)
+        if left <= x <= right and low <= y <= high and part.to_left(place) in rim:
+            return index
+    return None
 
 
 def region_of_fault(area, fault):

@@ -55,6 +55,22 @@ class Rows:
                 raise Refusal(f"the transfer has no such line {number}: is the report of this transfer?")
 
 
+def objects_of(lines, wanted):
+    """The number and the fields of the first row of each of some objects.
+
+    An object is wanted by its topic, its table and its identification.
+    """
+    found, topic, table = {}, "", ""
+    for number, fields in lines:
+        if fields[0] == "TOPI":
+            topic = " ".join(fields[1:])
+        elif fields[0] == "TABL":
+            table = " ".join(fields[1:])
+        elif fields[0] == "OBJE" and (topic, table, *fields[1:2]) in wanted:
+            found.setdefault((topic, table, fields[1]), (number, fields))
+    return found
+
+
 def place_of_object(model, topic, table, fields):
     known = model.topics.get(topic, {}).get(table)
     if known is None or known.place is None:

@@ -1,12 +1,13 @@
 #!/usr/bin/env python3
 """Says in words what a report of itfcheck names: table, object, attribute, place and line.
 
-usage: tell.py MODEL TRANSFER REPORT
+usage: tell.py MODEL TRANSFER REPORT [LINKS]
 
-REPORT is the output of `itfcheck check` or `itfcheck verify` for this model and this transfer,
-saved to a file, or `-` for standard input. Each line of it is printed, and under it, indented, what
-it names. Of OUTSIDE and TWO the nearest free ends are told, that is ends of boundary lines at which
-no other one begins or ends; of EMPTY and TWO the size of the region.
+REPORT is the output of `itfcheck check`, `verify` or `points` for this model and this transfer,
+saved to a file, or `-` for standard input. LINKS is the file of the links that `points` read; without
+it no rule is told. Each line of REPORT is printed, and under it, indented, what it names. Of OUTSIDE
+and TWO the nearest free ends are told, that is ends of boundary lines at which no other one begins
+or ends; of EMPTY and TWO the size of the region; of LINK where the point lies.
 
 It proves nothing. It reads the model and the transfer in its own plain way, takes each answer from
 the report as it stands, and checks none.
@@ -18,9 +19,9 @@ import sys
 
 sys.dont_write_bytecode = True
 from areas import (Fault, Form, Model, Refusal, answers_of, fields_of, findings_of,
-                   logical_lines, physical_lines)
-from regions import free_ends_of_fault, region_of_fault
-from rows import Rows, column_of
+                   logical_lines, physical_lines, scaled)
+from regions import around, curve_at, free_ends_of_fault, owner_of, region_of, region_of_fault
+from rows import Rows, column_of, objects_of
 
 FINDINGS = {
     "count": "the object has too few or too many fields",
@@ -88,16 +89,22 @@ FAULTS = {
 class Teller:
     """What the lines of a report name in one model and one transfer."""
 
-    def __init__(self, model_file, transfer_file, report):
+    def __init__(self, model_file, transfer_file, report, links_file=None):
         self.model_file, self.transfer_file = model_file, transfer_file
         self.report = [line.split(" ") for line in report.splitlines()]
         self.model = self.rows = None
-        self.areas = {}
+        self.areas, self.links, self.referred = {}, {}, {}
+        if links_file:
+            with open(links_file, "rb") as file:
+                self.links = {number: fields_of(line) for number, line in physical_lines(file)}
         kinds = {words[0] for words in self.report}
-        if kinds & {"FINDING", "AREA", "SURFACE", "NOTPROVED"} and "TRIAL" not in kinds:
+        if kinds & {"FINDING", "AREA", "SURFACE", "NOTPROVED", "LINK", "LINKLINE"} and "TRIAL" not in kinds:
             with open(model_file, "rb") as file:
                 self.model = Model(file.read().decode("latin-1"))
-            self.read(report)
+            if "LINKLINE" not in kinds:
+                self.read(report)
+            if "LINK" in kinds and self.links:
+                self.read_referred()
 
     def read(self, report):
         """The rows that are named, and the areas with their faults."""
@@ -109,6 +116,8 @@ class Teller:
         for words in self.report:
             if words[0] in ("AREA", "SURFACE") and words[4:5] not in (["PROVED"], ["NOTPROVED"]):
                 wanted.update(int(word) for word in words[5:] if word.isdecimal())
+            if words[0] == "LINK":
+                wanted.add(int(words[2]))
         rows = Rows(self.model, wanted)
         with open(self.transfer_file, "rb") as file:
             lines = rows.of(logical_lines(file, self.model.goes_on))
@@ -118,11 +127,28 @@ class Teller:
         for area, answer in zip(self.model.areas, answers if not findings else ()):
             self.areas[area.words] = area, Fault(area, answer)
 
+    def read_referred(self):
+        """The objects to which those refer that LINK lines name, each by its object's line."""
+        keys = {}
+        for words in self.report:
+            if words[0] == "LINK":
+                row, rule = self.rows[int(words[2])], self.links[int(words[1])]
+                name = self.model.topics[row.topic][row.table].refers[rule[4]]
+                keys[words[1], words[2]] = row.topic, name, self.value(row, rule[4])[0]
+        with open(self.transfer_file, "rb") as file:
+            found = objects_of(logical_lines(file, self.model.goes_on), set(keys.values()))
+        self.referred = {pair: (key, *found[key]) for pair, key in keys.items()}
+
+    def value(self, row, attribute):
+        """The words of an attribute of a row."""
+        names = [name for name, _, _ in self.model.topics[row.topic][row.table].columns]
+        return column_of(self.model, row, names.index(attribute) + 1)[1]
+
     def told(self):
         """The lines of the report, each with those that tell what it names."""
         kinds = {"FINDING": self.finding, "STRUCTURE": self.structure, "AREA": self.area,
                  "SURFACE": self.surface, "CANONICAL": self.canonical, "NOTPROVED": self.not_proved, "FAULT": self.fault, "TABLE": self.table,
-                 "TRIAL": self.trial}
+                 "TRIAL": self.trial, "LINKLINE": self.link_line, "LINK": self.link, "LINKS": self.link_counts}
         for words in self.report:
             yield " ".join(words)
             if words[0] in kinds:
@@ -230,6 +256,45 @@ class Teller:
             yield f"object {row.object} of {row.topic}.{row.table}{place}"
             yield self.line(number)
 
+    def link_line(self, words):
+        yield "this line of the links states no rule, which is LINK topic table point reference area"
+        rule = self.links.get(int(words[1]))
+        if rule:
+            yield f"line {words[1]} of the links: {shown(' '.join(rule))}"
+            yield why_none(self.model, rule)
+
+    def link(self, words):
+        yield "the point of this object does not lie in the region of the object to which it refers"
+        row, rule = self.rows[int(words[2])], self.links.get(int(words[1]))
+        place = f", at {' '.join(row.place)}" if row.place else ""
+        if rule:
+            yield f"line {words[1]} of the links: {shown(' '.join(rule))}"
+            place = f", {rule[3]} at {' '.join(self.value(row, rule[3]))}"
+        yield f"object {row.object} of {row.topic}.{row.table}{place}"
+        yield self.line(row.number)
+        if rule:
+            (topic, table, object_), number, fields = self.referred[words[1], words[2]]
+            yield f"it refers, by {rule[4]}, to object {object_} of {topic}.{table}"
+            yield f"line {number}: {shown(' '.join(fields))}"
+            yield self.where(row, rule, self.areas[topic, table, rule[5]][0], number)
+
+    def where(self, row, rule, area, number):
+        """Where the point of a rule lies in an area, by its object; the line is of that referred to."""
+        place = tuple(scaled(row.number, word, area.scale) for word in self.value(row, rule[3]))
+        if number not in area.rows:
+            return f"the object referred to has no point in {rule[5]}"
+        curve = curve_at(area, place)
+        if curve is not None:
+            return f"the point lies on the straight or half arc of line {area.lines[curve]}"
+        region = region_of(area, around(place * 2), place=place) if len(area.lines) else None
+        if region is None:
+            return "the point lies in no region"
+        return f"the point lies in the region of the object of line {area.rows[owner_of(area, region)]}"
+
+    @staticmethod
+    def link_counts(words):
+        yield f"rules: {words[1]}; points that were looked at: {words[2]}"
+
     @staticmethod
     def canonical(words):
         yield "the continue code of the model is the letter T, with which no transfer has such a text"
@@ -264,6 +329,27 @@ class Teller:
             yield f"the fault is of the kind {words[2]}: docs/model-language.md has an example"
 
 
+def why_none(model, rule):
+    """Why the words of a line of the links are no rule."""
+    if len(rule) != 6 or rule[0] != "LINK":
+        return f"{len(rule)} words, the first {shown(rule[0])}: six are needed, the first LINK"
+    topic, name, point, reference, attribute = rule[1:]
+    if topic not in model.topics:
+        return f"{topic} is no topic"
+    if (topic, name) not in {(where, declared) for where, _, declared, _ in model.pending}:
+        return f"{name} is no declared table of {topic}"
+    table = model.topics[topic][name]
+    if point not in table.scales:
+        return f"{point} is no coordinate of two axes of {name}"
+    if reference not in table.refers:
+        return f"{reference} is no reference of {name}"
+    main = table.refers[reference]
+    area = next((area for area in model.areas if area.words == (topic, main, attribute)), None)
+    if area is None:
+        return f"{attribute} is no AREA of {main}"
+    return f"{point} has {table.scales[point]} decimals, and {attribute} has {area.scale}"
+
+
 def needed(model, row):
     """How many fields an object of this row's table has, its identification included."""
     return 1 + sum(count for _, _, count in model.topics[row.topic][row.table].columns)
@@ -296,7 +382,7 @@ def first_lines(transfer_file, number, code):
 
 
 def main(words):
-    if len(words) != 3:
+    if len(words) not in (3, 4):
         print(__doc__, file=sys.stderr)
         return 2
     try:
@@ -307,7 +393,7 @@ def main(words):
                 report = file.read()
         if not report.strip():
             raise Refusal("the report is empty, as after the statuses 6 and 8")
-        for line in Teller(words[0], words[1], report).told():
+        for line in Teller(words[0], words[1], report, *words[3:]).told():
             print(line)
     except (Refusal, OSError) as problem:
         print(f"tell.py: not told: {problem}", file=sys.stderr)

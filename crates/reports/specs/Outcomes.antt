@@ -226,8 +226,8 @@ misplaced_line m = lines.link m.rule m.line
 abbrev pub link_lines : List Misplaced → ℕ → ℕ → List Line
 link_lines ms rules pairs = map misplaced_line ms ++ (lines.links rules pairs ∷ [])
 
--- the outcome of a number of objects without a finding, of the answers to the SURFACEs and the areas
--- of the layout, and, where none of these is a fault and none undecided, of the links
+-- the outcome of a number of objects without a finding, of the answers to the SURFACEs and the
+-- areas of the layout, and, where none of these is a fault and none undecided, of the links
 abbrev pub linked : Layout → ℕ → List SurfaceAnswer → List AreaAnswer → List Misplaced → ℕ → ℕ
     → Outcome
 linked l objects ss xs ms rules pairs =
