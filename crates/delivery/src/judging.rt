@@ -3,10 +3,12 @@ mod closing;
 mod found;
 mod keeping;
 mod lines;
+mod linking;
 mod rows;
 
 pub use closing::{Judged, judge_end, judge_rows};
 pub use found::TableFound;
 pub use keeping::{RowKeeper, count_objects};
 pub use lines::Judge;
+pub use linking::LinksKept;
 pub use rows::TransferKept;
