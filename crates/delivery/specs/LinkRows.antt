@@ -53,18 +53,23 @@ all_link_points codes ts transfer = of_tables (link_points codes) ts transfer
 abbrev pub points_in : List KeptPoints → List (List PointColumn)
 points_in ks = map points_of ks
 
+-- the points that links may name in these rows of a layout's tables, each with the number of its
+-- table
+abbrev pub HasLinkPoints : Layout → List (ℕ × Row) → List (List PointColumn) → Type 0
+HasLinkPoints l rows points =
+    points ≡ all_link_points l.codes l.tables (transfer_so_far l rows)
+
 -- these rows of a layout's tables came, each with the number of its table
 pub record HasLinked (l : Layout) (rows : List (ℕ × Row)) (k : LinksKept) : Type 0 where
   pub judged : HasTaken l rows k.judged
-  pub points : points_in k.points.items
-      ≡ all_link_points l.codes l.tables (transfer_so_far l rows)
+  pub points : HasLinkPoints l rows (points_in k.points.items)
 
 -- these rows came, which meet the declarations and whose lines rise in each table; this is kept of
 -- them, these are the points that links may name, and these are their keys
 pub record AreLinksKept (l : Layout) (rows : List (ℕ × Row)) (places : List Kept)
     (points : List (List PointColumn)) (keys : Keys) : Type 0 where
   pub kept : AreKeptClean l rows places keys
-  pub points_are : points ≡ all_link_points l.codes l.tables (transfer_so_far l rows)
+  pub points_are : HasLinkPoints l rows points
   pub rise : LinesRise (transfer_so_far l rows)
 
 -- ---- rules
