@@ -134,14 +134,16 @@ def bad_proofs(text, here):
             section = heading.group(1)
         elif line.startswith("#"):
             section = None
-        cells = re.split(r"(?<!\\)\|", line)
-        if section not in here.of_crate or len(cells) != 5:
+        if section not in here.of_crate or not line.startswith(("- ", "| ")):
             continue
-        for name in CODE.findall(cells[3]):
+        claim, _, edits = line.partition("*Refused*")
+        if line[0] == "|":
+            claim, edits = re.split(r"(?<!\\)\|", line)[2:4]
+        for name in CODE.findall(edits):
             if name not in names and name not in here.of_crate:
                 yield f"docs/PROOFS.md, {section}: no edit {name}"
-        crates = [section] + [name for name in CODE.findall(cells[2]) if name in here.of_crate]
-        for code in CODE.findall(cells[2]):
+        crates = [section] + [name for name in CODE.findall(claim) if name in here.of_crate]
+        for code in CODE.findall(claim):
             for part in re.split(r"::|\.|/", code):
                 if NAME.fullmatch(part) and not any(part in here.of_crate[one] for one in crates):
                     yield f"docs/PROOFS.md, {section}: nothing is named {code}"

@@ -405,9 +405,8 @@ def page_of(sources, contract, parts):
         if here is parts[0][1]:
             for number, section in enumerate(here):
                 text += [f"### {section.title}\n", escaped(section.text) + "\n"]
-                text += [file_text(sources, name, definitions, used, number == 0)
-                         for name, definitions in section.modules.items()]
-                text.append("")
+                text += section_texts(sources, section, used, number == 0)
+                text += [""]
         else:
             text += [f"- **{section.title}**: {escaped(section.text)}" for section in here]
             text += ["", *crate_texts(sources, here), ""]
@@ -431,30 +430,39 @@ def link(sources, name):
     return name.split(".", 3)[1], f"[{name.split('.', 3)[3]}]({path})"
 
 
-def file_text(sources, name, definitions, used, with_sentences):
+def section_texts(sources, section, used, with_sentences):
+    """The entries of the files of a section, and one of those of which nothing is named."""
+    text, rest = [], []
+    for name, definitions in section.modules.items():
+        named = [one for one in definitions if one.name[0].isupper() and one in used]
+        if named:
+            text.append(file_text(sources, name, named, len(definitions) - len(named), with_sentences))
+        else:
+            rest.append(f"`{link(sources, name)[0]}` {link(sources, name)[1]} {len(definitions)}")
+    return text + ([f"- Views, and what serves one file: {', '.join(rest)}"] if rest else [])
+
+
+def file_text(sources, name, named, rest, with_sentences):
     """The entry of a file: what it is about, its names, and how many definitions are not named."""
     crate, linked = link(sources, name)
-    named = [one for one in definitions if one.name[0].isupper() and one in used]
+    said = [f"`{one.name}`" for one in named]
     if with_sentences:
-        said = [f"`{one.name}`: {escaped(first_sentence(one.comment))}." for one in named]
-    else:
-        said = [", ".join(f"`{one.name}`" for one in named) + "."] if named else []
-    rest = len(definitions) - len(named)
-    more = [f"{rest} more." if named else f"Definitions: {rest}."] if rest else []
-    return " ".join([f"- `{crate}` {linked}: {escaped(first_sentence(sources.modules[name].head))}.", *said, *more])
+        said = [f"`{one.name}`: {escaped(first_sentence(one.comment))}" for one in named]
+    said = (". " if with_sentences else ", ").join(said)
+    more = f" {rest} more." if rest else ""
+    return f"- `{crate}` {linked}: {escaped(first_sentence(sources.modules[name].head))}. {said}.{more}"
 
 
 def crate_texts(sources, sections):
-    """For each crate of some sections its files, with the number of definitions in each."""
-    modules = collections.Counter(one.module for section in sections for one in section.definitions())
-    crates = collections.defaultdict(list)
+    """For each crate of some sections its files, and the number of definitions in them."""
+    files, counts = collections.defaultdict(list), collections.Counter()
     for section in sections:
-        for name in section.modules:
+        for name, definitions in section.modules.items():
             crate, linked = link(sources, name)
-            entry = f"{linked} {modules[name]}"
-            if entry not in crates[crate]:
-                crates[crate].append(entry)
-    return [f"- `{crate}`: {', '.join(files)}" for crate, files in crates.items()]
+            counts[crate] += len(definitions)
+            if linked not in files[crate]:
+                files[crate].append(linked)
+    return [f"- `{crate}`, {counts[crate]}: {', '.join(here)}" for crate, here in files.items()]
 
 
 def types_text(sections):
