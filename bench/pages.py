@@ -134,16 +134,15 @@ def bad_proofs(text, here):
             section = heading.group(1)
         elif line.startswith("#"):
             section = None
-        if section not in here.of_crate or not line.startswith(("- ", "| ")):
+        if section not in here.of_crate or not line.startswith("- "):
             continue
         claim, _, edits = line.partition("*Refused*")
-        if line[0] == "|":
-            claim, edits = re.split(r"(?<!\\)\|", line)[2:4]
+        clauses = claim.split(". ")[0]
         for name in CODE.findall(edits):
             if name not in names and name not in here.of_crate:
                 yield f"docs/PROOFS.md, {section}: no edit {name}"
-        crates = [section] + [name for name in CODE.findall(claim) if name in here.of_crate]
-        for code in CODE.findall(claim):
+        crates = [section] + [name for name in CODE.findall(clauses) if name in here.of_crate]
+        for code in CODE.findall(clauses):
             for part in re.split(r"::|\.|/", code):
                 if NAME.fullmatch(part) and not any(part in here.of_crate[one] for one in crates):
                     yield f"docs/PROOFS.md, {section}: nothing is named {code}"
