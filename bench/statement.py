@@ -67,7 +67,7 @@ that another file or a clause uses; views, and what serves one file alone, are c
 stands in its file under a sentence of its own, and the formula is what is proved. \
 [DEFINITIONS](DEFINITIONS.md) has the words, [PROOFS](PROOFS.md) the claims.
 
-**What else a reader believes.** The types of the code that each part names, which are in `src/`; \
+**What else a reader believes.** The types of the code at the end of this page, which are in `src/`; \
 numbers, lists, options and finite maps of the kit; and the words of the traits `Shelf` and `Sink` of \
 `ports` for files, room and faults, which for real files and a real output say nothing but the counts. \
 The script goes by names, so that a few definitions may be counted that are not needed.
@@ -410,7 +410,7 @@ def page_of(sources, contract, parts):
         else:
             text += [f"- **{section.title}**: {escaped(section.text)}" for section in here]
             text += ["", *crate_texts(sources, here), ""]
-        text += types_text(here)
+    text += types_text(sections)
     return "\n".join(text).rstrip("\n") + "\n"
 
 
@@ -470,8 +470,8 @@ def types_text(sections):
     crates = collections.defaultdict(list)
     for crate, name in sorted({one for section in sections for one in section.types}):
         crates[crate].append(f"`{name}`")
-    said = "; ".join(f"of `{crate}` {', '.join(names)}" for crate, names in crates.items())
-    return [f"Types: {said}.\n"] if said else []
+    said = "; ".join(f"`{crate}`: {', '.join(names)}" for crate, names in crates.items())
+    return ["## Types of the code\n", f"{said}.\n"]
 
 
 def differences(page):
