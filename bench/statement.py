@@ -51,26 +51,25 @@ HEAD_OF_PAGE = """# What the contract of `run` rests on
 
 `bench/statement.py` writes this page from the sources; do not change it by hand.
 
-The contract of `delivery::run` is what is proved of the program. The prover holds the code to it, so \
-neither code nor proofs have to be believed. What has to be believed is that the definitions which the \
-contract names say what they ought to say, those that they rest on included: **{definitions} definitions \
-with {lines} lines**, in {files} files of `specs/`. For the claim that each AREA is a partition, and that \
-no curve has one face on both sides, {area} are enough.
+The contract of `delivery::run` is what is proved of the program; neither code nor proofs have to be \
+believed. What has to be believed is that the definitions which it names, and those that they rest on, \
+say what they ought to say: **{definitions} definitions with {lines} lines**, in {files} files of \
+`specs/`. For the claim that each AREA is a partition, and that no curve has one face on both sides, \
+{area} are enough.
 
 | Part | Definitions | Lines | Files |
 |---|---:|---:|---:|
 {table}
 
 **How to read it.** A part has what no part before it has. In the first one a file stands after those \
-that it uses, so the claim is in the last file; the others go by crate. Named is a relation or a type \
-that another file or a clause uses; views, and what serves one file alone, are counted. Each definition \
-stands in its file under a sentence of its own, and the formula is what is proved. \
-[DEFINITIONS](DEFINITIONS.md) has the words, [PROOFS](PROOFS.md) the claims.
+that it uses; the others go by crate. Named is a relation or a type that another file or a clause uses; \
+views, and what serves one file alone, are counted. Each definition stands in its file under a sentence; \
+the formula is what is proved.
 
-**What else a reader believes.** The types of the code at the end of this page, which are in `src/`; \
-numbers, lists, options and finite maps of the kit; and the words of the traits `Shelf` and `Sink` of \
-`ports` for files, room and faults, which for real files and a real output say nothing but the counts. \
-The script goes by names, so that a few definitions may be counted that are not needed.
+**What else a reader believes.** The types of the code at the end, which are in `src/`; numbers, lists, \
+options and finite maps of the kit; and the traits `Shelf` and `Sink` of `ports`, which of real files \
+and a real output say nothing but the counts. The script goes by names, so a few definitions may be \
+counted that are not needed.
 """
 
 
@@ -450,7 +449,8 @@ def file_text(sources, name, named, rest, with_sentences):
         said = [f"`{one.name}`: {escaped(first_sentence(one.comment))}" for one in named]
     said = (". " if with_sentences else ", ").join(said)
     more = f" {rest} more." if rest else ""
-    return f"- `{crate}` {linked}: {escaped(first_sentence(sources.modules[name].head))}. {said}.{more}"
+    about = escaped(first_sentence(sources.modules[name].head))
+    return f"- `{crate}` {linked}: {about}. {said}.{more}"
 
 
 def crate_texts(sources, sections):
