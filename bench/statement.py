@@ -62,7 +62,7 @@ say what they ought to say: **{definitions} definitions with {lines} lines**, in
 {table}
 
 **How to read it.** A part has what no part before it has. In the first one a file stands after those \
-that it uses; the others go by crate. Named is a relation or a type that another file or a clause uses; \
+that it uses; the others are listed once, by crate. Named is a relation or a type that another file or a clause uses; \
 views, and what serves one file alone, are counted. Each definition stands in its file under a sentence; \
 the formula is what is proved.
 
@@ -408,8 +408,9 @@ def page_of(sources, contract, parts):
                 text += [""]
         else:
             text += [f"- **{section.title}**: {escaped(section.text)}" for section in here]
-            text += ["", *crate_texts(sources, here), ""]
-    text += types_text(sections)
+            text.append("")
+    others = [section for _, here in parts[1:] for section in here]
+    text += ["## The files of the other parts\n", *crate_texts(sources, others), "", *types_text(sections)]
     return "\n".join(text).rstrip("\n") + "\n"
 
 
