@@ -62,7 +62,8 @@ say what they ought to say: **{definitions} definitions with {lines} lines**, in
 {table}
 
 **How to read it.** A part has what no part before it has. In the first one a file stands after those \
-that it uses; the others are listed once, by crate. Named is a relation or a type that another file or a clause uses; \
+that it uses; of the others each answer and clause has how many definitions it adds and which it names, \
+and their files are listed once, by crate. Named is a relation or a type that another file or a clause uses; \
 views, and what serves one file alone, are counted. Each definition stands in its file under a sentence; \
 the formula is what is proved.
 
@@ -315,7 +316,7 @@ class Section:
     """What one section of the page adds: its definitions by module, in reading order, and its types."""
 
     def __init__(self, sources, title, text, starts, known):
-        self.title, self.text = title, text
+        self.title, self.text, self.starts = title, text, starts
         found = sources.reach(starts, known)
         known |= found
         self.types = sorted(one for one in found if not isinstance(one, Definition))
@@ -407,11 +408,19 @@ def page_of(sources, contract, parts):
                 text += section_texts(sources, section, used, number == 0)
                 text += [""]
         else:
-            text += [f"- **{section.title}**: {escaped(section.text)}" for section in here]
+            text += [clause_text(section) for section in here]
             text.append("")
     others = [section for _, here in parts[1:] for section in here]
     text += ["## The files of the other parts\n", *crate_texts(sources, others), "", *types_text(sections)]
     return "\n".join(text).rstrip("\n") + "\n"
+
+
+def clause_text(section):
+    """The entry of an answer or a clause: how many definitions it adds, those that it names, and its
+    sentence."""
+    named = [f"`{one.name}`" for one in section.starts if isinstance(one, Definition)]
+    added = ", ".join([str(len(section.definitions())), *dict.fromkeys(named)])
+    return f"- **{section.title}** ({added}): {escaped(section.text)}"
 
 
 def used_elsewhere(sources, contract, sections):
