@@ -403,10 +403,12 @@ def page_of(sources, contract, parts):
     for title, here in parts:
         text.append(f"## {title}\n")
         if here is parts[0][1]:
-            for number, section in enumerate(here):
+            before = set()
+            for section in here:
                 text += [f"### {section.title}\n", escaped(section.text) + "\n"]
-                text += section_texts(sources, section, used, number == 0)
-                text += [""]
+                text += section_texts(sources, section, used, section is here[0], before)
+                text.append("")
+                before |= set(section.modules)
         else:
             text += [clause_text(section) for section in here]
             text.append("")
@@ -439,28 +441,31 @@ def link(sources, name):
     return name.split(".", 3)[1], f"[{name.split('.', 3)[3]}]({path})"
 
 
-def section_texts(sources, section, used, with_sentences):
-    """The entries of the files of a section, and one of those of which nothing is named."""
+def section_texts(sources, section, used, with_sentences, before):
+    """The entries of the files of a section, of which some stood before, and one of those of which
+    nothing is named."""
     text, rest = [], []
     for name, definitions in section.modules.items():
         named = [one for one in definitions if one.name[0].isupper() and one in used]
         if named:
-            text.append(file_text(sources, name, named, len(definitions) - len(named), with_sentences))
+            rests = len(definitions) - len(named)
+            text.append(file_text(sources, name, named, rests, with_sentences, name in before))
         else:
             rest.append(f"`{link(sources, name)[0]}` {link(sources, name)[1]} {len(definitions)}")
     return text + ([f"- Views, and what serves one file: {', '.join(rest)}"] if rest else [])
 
 
-def file_text(sources, name, named, rest, with_sentences):
-    """The entry of a file: what it is about, its names, and how many definitions are not named."""
+def file_text(sources, name, named, rest, with_sentences, again):
+    """The entry of a file: what it is about, if it is not there again, its names, and how many
+    definitions are not named."""
     crate, linked = link(sources, name)
     said = [f"`{one.name}`" for one in named]
     if with_sentences:
         said = [f"`{one.name}`: {escaped(first_sentence(one.comment))}" for one in named]
     said = (". " if with_sentences else ", ").join(said)
     more = f" {rest} more." if rest else ""
-    about = escaped(first_sentence(sources.modules[name].head))
-    return f"- `{crate}` {linked}: {about}. {said}.{more}"
+    about = "" if again else f"{escaped(first_sentence(sources.modules[name].head))}. "
+    return f"- `{crate}` {linked}: {about}{said}.{more}"
 
 
 def crate_texts(sources, sections):
