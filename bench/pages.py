@@ -70,14 +70,23 @@ def bad_links(path, text, texts):
             yield f"{path}: no heading {target}"
 
 
+def longest_chain(depends):
+    """How many crates the longest chain has, in which each stands on the one before it."""
+    length = {}
+    for name, below in depends.items():
+        length[name] = 1 + max((length[one] for one in below if one in length), default=0)
+    return max(length.values())
+
+
 class Tree:
-    """The files of the checkout, and the words of each crate and of everything."""
+    """The files of the checkout, the crates, and the words of each crate and of everything."""
 
     def __init__(self):
         self.paths = tree()
         self.names = {os.path.basename(path) for path in self.paths}
-        self.crates = [line.split(":")[0] for line in read("crates.txt").splitlines()
-                       if line and line[0] != "#"]
+        lines = [line.split(":") for line in read("crates.txt").splitlines() if line and line[0] != "#"]
+        self.depends = {name: below.split() for name, below in lines}
+        self.crates = list(self.depends)
         self.words, self.of_crate = set(), {name: set() for name in self.crates}
         for path in self.paths:
             parts = path.split(os.sep)
@@ -172,15 +181,22 @@ def counts(here):
     """The numbers that pages say, by what is to stand before and behind them."""
     rows = dict(re.findall(r"^(\w+)\.toml: (\d+) of", read("crates/worked_rows/stdout"), re.M))
     rows = {name: int(number) for name, number in rows.items()}
-    inside, outside = (len(list(here.edits(gate))) for gate in (True, False))
+    inside, outside = (list(here.edits(gate)) for gate in (True, False))
+    dear = {crate for crate, _ in outside} - {crate for crate, _ in inside}
+    laws = [path for path in here.paths if path.endswith("proofs/PlaneLaws.antt")]
+    changed = rows["changed_certificates"] + rows["changed_arc_certificates"]
     return [
-        ("README.md", r"(\d+) mistakes that must be refused", inside),
-        ("README.md", r"tries (\d+) more", outside),
-        ("docs/DECISIONS.md", r"The gate tries (\d+) edits", inside),
-        ("docs/DECISIONS.md", r"(\d+) more are in `bench/edits/`", outside),
+        ("README.md", r"(\d+) mistakes that must be refused", len(inside)),
+        ("README.md", r"tries (\d+) more", len(outside)),
+        ("docs/DECISIONS.md", r"The gate tries (\d+) edits", len(inside)),
+        ("docs/DECISIONS.md", r"(\d+) more are in `bench/edits/`", len(outside)),
+        ("docs/DECISIONS.md", r"all of (\d+) dear crates", len(dear)),
         ("docs/PROOFS.md", r"The (\d+) rows of `worked_rows`", sum(rows.values())),
+        ("docs/PROOFS.md", r"(\d+) rows with changed ones", changed),
         ("docs/CONTRIBUTING.md", r"words\.toml: (\d+) of", rows["words"]),
-        ("docs/ARCHITECTURE.md", r"(\d+) crates", len(here.crates)),
+        ("docs/CONTRIBUTING.md", r"(\d+) crates have it", len(laws)),
+        ("docs/ARCHITECTURE.md", r"(\d+) crates of `crates.txt`", len(here.crates)),
+        ("docs/ARCHITECTURE.md", r"longest chain of crates has (\d+)", longest_chain(here.depends)),
     ]
 
 
@@ -192,6 +208,14 @@ def bad_counts(texts, here):
         for one in found:
             if int(one.replace(",", "")) != number:
                 yield f"{path}: {pattern} says {one}, and there are {number}"
+
+
+def bad_trust(text, here):
+    """Crates of the kit that the README does not name as trusted, but for that of the rows."""
+    trusted = text.partition("Trusted: ")[2].partition("\n")[0]
+    outside = {one for name, below in here.depends.items() if name != "worked_rows" for one in below}
+    for name in sorted(outside - set(here.crates) - set(CODE.findall(trusted))):
+        yield f"README.md: {name} is not named as trusted"
 
 
 def bad_words(words):
@@ -216,6 +240,7 @@ def main():
     wrong += bad_order(texts["docs/ARCHITECTURE.md"], here)
     wrong += bad_scripts(texts["bench/README.md"], here)
     wrong += bad_counts(texts, here)
+    wrong += bad_trust(texts["README.md"], here)
     wrong += bad_words(words)
     for one in wrong:
         print(one)
