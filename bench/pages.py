@@ -184,6 +184,7 @@ def counts(here):
     inside, outside = (list(here.edits(gate)) for gate in (True, False))
     dear = {crate for crate, _ in outside} - {crate for crate, _ in inside}
     laws = [path for path in here.paths if path.endswith("proofs/PlaneLaws.antt")]
+    limit = int(re.search(r"limit_of Certificate = (\d+)", read("crates/commands/specs/Commands.antt")).group(1))
     changed = rows["changed_certificates"] + rows["changed_arc_certificates"]
     return [
         ("README.md", r"(\d+) mistakes that must be refused", len(inside)),
@@ -193,6 +194,7 @@ def counts(here):
         ("docs/DECISIONS.md", r"all of (\d+) dear crates", len(dear)),
         ("docs/PROOFS.md", r"The (\d+) rows of `worked_rows`", sum(rows.values())),
         ("docs/PROOFS.md", r"(\d+) rows with changed ones", changed),
+        ("docs/verdict.md", r"limit of ([\d,]+) bytes", limit),
         ("docs/CONTRIBUTING.md", r"words\.toml: (\d+) of", rows["words"]),
         ("docs/CONTRIBUTING.md", r"(\d+) crates have it", len(laws)),
         ("docs/ARCHITECTURE.md", r"(\d+) crates of `crates.txt`", len(here.crates)),
