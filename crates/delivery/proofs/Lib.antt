@@ -7,9 +7,13 @@ pub mod CertificateLemmas
 pub mod Certified
 pub mod Closings
 pub mod Drawables
+pub mod JoinedPairs
 pub mod JudgingSteps
 pub mod KeptPlaces
 pub mod KeptSteps
+pub mod LinkNames
+pub mod LinkPoints
+pub mod LinkedRows
 pub mod NamedAreas
 pub mod NamedObjects
 pub mod ObjectLines
