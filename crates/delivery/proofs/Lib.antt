@@ -11,11 +11,15 @@ pub mod Drawables
 pub mod FoundRegions
 pub mod GatheredLinks
 pub mod HeldLinks
+pub mod JoinedPairs
 pub mod JudgedLinks
 pub mod JudgingSteps
 pub mod KeptPlaces
 pub mod KeptSteps
+pub mod LinkNames
+pub mod LinkPoints
 pub mod LinkedOutcomes
+pub mod LinkedRows
 pub mod NamedAreas
 pub mod NamedObjects
 pub mod ObjectLines
