@@ -1,6 +1,5 @@
 -- The words spell one command only.
-use Rattle.std.specs.Prelude.{codes}
-use Rattle.std.proofs.Common.{◌≡◌, List, ℕ, get_or, ap, refl, sym, subst, arith}
+use Rattle.std.proofs.Common.{◌≡◌, List, ℕ, get_or, ap, refl, subst, arith}
 use Rattle.commands.specs.Commands.{FileNames, Command, compile, on_files, trial, IsCommand, IsSpelled, verb_word}
 use Rattle.commands.specs.declared.command.Verb.{Verb}
 use Rattle.commands.specs.declared.command.Verb.TheVariants.{Check, Verify, Polygons, Canonical, Points}
