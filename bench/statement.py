@@ -1,6 +1,7 @@
 #!/usr/bin/env python3
 """Writes docs/STATEMENT.md: which definitions a reader of the contract of `delivery::run` has to
-believe, file by file, each with the sentence that stands above it in specs/.
+believe, in the order of reading: files with what they are about and the names that others use; for
+the rule also the sentence that stands above each name in specs/; what serves one file is counted.
 
 It finds `run` in the code of `delivery`, takes the names in its clauses, and follows names from
 definition to definition through the folders specs/ of all crates, by the `use` lines of each file.
@@ -16,6 +17,7 @@ The status of `--check` is 1 where it differs. That of both is 1 where a definit
 is then to be written in specs/, in the line above the definition.
 """
 import collections
+import difflib
 import os
 import re
 import sys
@@ -49,29 +51,26 @@ HEAD_OF_PAGE = """# What the contract of `run` rests on
 
 `bench/statement.py` writes this page from the sources; do not change it by hand.
 
-`delivery::run` is the call that the program makes, and its contract is what is proved of the program. \
-The prover holds the code to the contract, so neither code nor proofs have to be believed. What has \
-to be believed is that the definitions which the contract names say what they ought to say. These are \
-all of them, those that they rest on included: **{definitions} definitions with {lines} lines**, in \
-{files} files of `specs/`. For the claim that each AREA is a partition, and that no curve has one face \
-on both sides, {area} are enough.
+The contract of `delivery::run` is what is proved of the program; neither code nor proofs have to be \
+believed. What has to be believed is that the definitions which it names, and those that they rest on, \
+say what they ought to say: **{definitions} definitions with {lines} lines**, in {files} files of \
+`specs/`. For the claim that each AREA is a partition, and that no curve has one face on both sides, \
+{area} are enough.
 
 | Part | Definitions | Lines | Files |
 |---|---:|---:|---:|
 {table}
 
-**How to read it.** A part has the definitions that no part before it has. In each, a file stands after \
-those that it uses, so the claim itself is in the last one. The sentence beside a definition is the \
-first that stands above it in its file, where the formula is; the sentence helps to read, and the \
-formula is what is proved. Lines are those of the formula. What a word means here is in \
-[DEFINITIONS](DEFINITIONS.md), which claim has which clause in [PROOFS](PROOFS.md).
+**How to read it.** A part has what no part before it has. In the first one a file stands after those \
+that it uses; of the others each answer and clause has how many definitions it adds and which it names, \
+and their files are listed once, by crate. Named is a relation or a type that another file or a clause uses; \
+views, and what serves one file alone, are counted. Each definition stands in its file under a sentence; \
+the formula is what is proved.
 
-**What else a reader believes.** Each part names the types of the code that its definitions speak of, \
-such as `Curve` of `plane`: they are in `src/`. Numbers, lists, options and finite maps are the kit's. \
-What files hold, which of them can be read, how much can be written and what faults were counted is \
-said by the shelf and the sink, in words of the traits `Shelf` and `Sink` of `ports`; of real files and \
-a real output they say nothing but the counts. A few definitions may be listed that are not needed: the \
-script goes by names, also where some variable has the name of a definition.
+**What else a reader believes.** The types of the code at the end, which are in `src/`; numbers, lists, \
+options and finite maps of the kit; and the traits `Shelf` and `Sink` of `ports`, which of real files \
+and a real output say nothing but the counts. The script goes by names, so a few definitions may be \
+counted that are not needed.
 """
 
 
@@ -317,7 +316,7 @@ class Section:
     """What one section of the page adds: its definitions by module, in reading order, and its types."""
 
     def __init__(self, sources, title, text, starts, known):
-        self.title, self.text = title, text
+        self.title, self.text, self.starts = title, text, starts
         found = sources.reach(starts, known)
         known |= found
         self.types = sorted(one for one in found if not isinstance(one, Definition))
@@ -346,7 +345,7 @@ def parts_of(sources, contract):
     cause = the_one(every, "HasCause")
     causes = [Section(sources, status, *cause_of(sources, cause, status), known) for status in STATUSES]
     for title, labels in CLAUSES:
-        sections = [Section(sources, f"The clause `{label}`", contract.sentences[label],
+        sections = [Section(sources, f"`{label}`", contract.sentences[label],
                             contract.starts[label], known) for label in labels]
         parts.append((title, causes + sections))
         causes = []
@@ -389,71 +388,113 @@ def escaped(text):
     return text.replace("|", "\\|").replace("<", "&lt;").replace("*", "\\*")
 
 
-def page_of(sources, parts):
+def page_of(sources, contract, parts):
     """The text of the page."""
     sections = [section for _, here in parts for section in here]
     table = []
     for title, here in parts:
-        table.append(f"| **{title}** | {cells(size(here))} |")
-        table += [f"| {section.title} | {cells(size([section]))} |" for section in here]
+        table.append(f"| {title} | {cells(size(here))} |")
     definitions, lines, files = size(sections)
     area, area_lines, _ = size(parts[0][1])
     text = [HEAD_OF_PAGE.format(
         definitions=f"{definitions:,}", lines=f"{lines:,}", files=files,
         area=f"{area} with {area_lines} lines", table="\n".join(table))]
+    used = used_elsewhere(sources, contract, sections)
     for title, here in parts:
         text.append(f"## {title}\n")
-        for section in here:
-            text += section_text(sources, section)
-    return "\n".join(text)
+        if here is parts[0][1]:
+            before = set()
+            for section in here:
+                text += [f"### {section.title}\n", escaped(section.text) + "\n"]
+                text += section_texts(sources, section, used, section is here[0], before)
+                text.append("")
+                before |= set(section.modules)
+        else:
+            text += [clause_text(section) for section in here]
+            text.append("")
+    others = [section for _, here in parts[1:] for section in here]
+    text += ["## The files of the other parts\n", *crate_texts(sources, others), "", *types_text(sections)]
+    return "\n".join(text).rstrip("\n") + "\n"
 
 
-def section_text(sources, section):
-    text = [f"### {section.title}\n", escaped(section.text[0].upper() + section.text[1:]) + "\n"]
-    if section.types:
-        crates = collections.defaultdict(list)
-        for crate, name in section.types:
-            crates[crate].append(f"`{name}`")
-        text.append("Types: " + "; ".join(
-            f"of `{crate}` {', '.join(names)}" for crate, names in crates.items()) + ".\n")
-    if not section.modules:
-        text.append("Nothing new.\n" if not section.types else "No definition that is not above.\n")
-    for name, definitions in section.modules.items():
-        module = sources.modules[name]
-        crate, inner = name.split(".", 3)[1], name.split(".", 3)[3]
-        path = os.path.relpath(module.path, os.path.dirname(PAGE))
-        text += [f"#### `{crate}`: [{inner}]({path})\n", escaped(first_sentence(module.head)) + ".\n",
-                 "| Definition | Lines | |", "|---|---:|---|"]
-        text += [f"| `{one.name}` | {len(one.lines)} | {escaped(first_sentence(one.comment)) or '-'} |"
-                 for one in definitions]
-        text.append("")
-    return text
+def clause_text(section):
+    """The entry of an answer or a clause: how many definitions it adds, those that it names, and its
+    sentence."""
+    named = [f"`{one.name}`" for one in section.starts if isinstance(one, Definition)]
+    added = ", ".join([str(len(section.definitions())), *dict.fromkeys(named)])
+    return f"- **{section.title}** ({added}): {escaped(section.text)}"
 
 
-def rows(page):
-    """The rows of a page by file and name, to tell two pages apart."""
-    found, file = {}, None
-    for line in page.split("\n"):
-        if line.startswith("#### "):
-            file = line.removeprefix("#### ").split("](")[0].replace("[", "")
-        row = re.match(r"\| `([^`]+)` \| (.*) \|$", line)
-        if row and file:
-            found[f"{file} {row.group(1)}"] = row.group(2)
+def used_elsewhere(sources, contract, sections):
+    """The definitions that a clause or a definition of another file names."""
+    found = {one for starts in contract.starts.values() for one in starts}
+    for section in sections:
+        for one in section.definitions():
+            found |= {other for other in sources.named(one.module, one.lines)
+                      if isinstance(other, Definition) and other.module != one.module}
     return found
+
+
+def link(sources, name):
+    """A link to the file of a module, with its crate and its name there."""
+    path = os.path.relpath(sources.modules[name].path, os.path.dirname(PAGE))
+    return name.split(".", 3)[1], f"[{name.split('.', 3)[3]}]({path})"
+
+
+def section_texts(sources, section, used, with_sentences, before):
+    """The entries of the files of a section, of which some stood before, and one of those of which
+    nothing is named."""
+    text, rest = [], []
+    for name, definitions in section.modules.items():
+        named = [one for one in definitions if one.name[0].isupper() and one in used]
+        if named:
+            rests = len(definitions) - len(named)
+            text.append(file_text(sources, name, named, rests, with_sentences, name in before))
+        else:
+            rest.append(f"`{link(sources, name)[0]}` {link(sources, name)[1]} {len(definitions)}")
+    return text + ([f"- Views, and what serves one file: {', '.join(rest)}"] if rest else [])
+
+
+def file_text(sources, name, named, rest, with_sentences, again):
+    """The entry of a file: what it is about, if it is not there again, its names, and how many
+    definitions are not named."""
+    crate, linked = link(sources, name)
+    said = [f"`{one.name}`" for one in named]
+    if with_sentences:
+        said = [f"`{one.name}`: {escaped(first_sentence(one.comment))}" for one in named]
+    said = (". " if with_sentences else ", ").join(said)
+    more = f" {rest} more." if rest else ""
+    about = "" if again else f"{escaped(first_sentence(sources.modules[name].head))}. "
+    return f"- `{crate}` {linked}: {about}{said}.{more}"
+
+
+def crate_texts(sources, sections):
+    """For each crate of some sections its files, and the number of definitions in them."""
+    files, counts = collections.defaultdict(list), collections.Counter()
+    for section in sections:
+        for name, definitions in section.modules.items():
+            crate, linked = link(sources, name)
+            counts[crate] += len(definitions)
+            if linked not in files[crate]:
+                files[crate].append(linked)
+    return [f"- `{crate}`, {counts[crate]}: {', '.join(here)}" for crate, here in files.items()]
+
+
+def types_text(sections):
+    """The types of the code that some sections name."""
+    crates = collections.defaultdict(list)
+    for crate, name in sorted({one for section in sections for one in section.types}):
+        crates[crate].append(f"`{name}`")
+    said = "; ".join(f"`{crate}`: {', '.join(names)}" for crate, names in crates.items())
+    return ["## Types of the code\n", f"{said}.\n"]
 
 
 def differences(page):
     """Says how the page that is filed differs, and whether it does."""
     with open(PAGE, encoding="utf8") as file:
         filed = file.read()
-    old, new = rows(filed), rows(page)
-    for name in sorted(set(old) | set(new)):
-        if name not in new:
-            print(f"{name}: no clause of run rests on it any more, or it has moved")
-        elif name not in old:
-            print(f"{name}: not on the page")
-        elif old[name] != new[name]:
-            print(f"{name}: other lines or words")
+    for line in difflib.unified_diff(filed.split("\n"), page.split("\n"), "filed", "sources", "", "", 0, ""):
+        print(line)
     if filed != page:
         print("docs/STATEMENT.md is not what the sources say: bench/statement.py writes it anew")
     return filed != page
@@ -463,8 +504,9 @@ def main():
     if sys.argv[1:] not in ([], ["--check"]):
         sys.exit(__doc__)
     sources = Sources()
-    parts = parts_of(sources, Contract(sources))
-    page = page_of(sources, parts)
+    contract = Contract(sources)
+    parts = parts_of(sources, contract)
+    page = page_of(sources, contract, parts)
     bare = [one for _, here in parts for section in here for one in section.definitions()
             if not one.comment]
     for one in bare:

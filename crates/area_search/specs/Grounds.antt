@@ -1,7 +1,6 @@
 -- The answer to a drawing by its ground: itself where some level settles it, else what becomes of
 -- it when its forks are bent.
-use Rattle.std.specs.Prelude.{◌≡◌, ◌<◌, ℕ, ℤ, Bool, true, false, Option, Some, None, List, get_or}
-use Rattle.std.specs.Prelude.{length, ⊤}
+use Rattle.std.specs.Prelude.{◌≡◌, ◌<◌, ℕ, ℤ, Bool, true, false, List, get_or, length, ⊤}
 use Rattle.plane.specs.Rule.Cuts.{IsArea}
 use Rattle.plane.specs.Rule.Plans.{Plan}
 use Rattle.certificate.specs.declared.notes.Certificate.{Certificate}
@@ -72,22 +71,12 @@ pub record IsAnswerOfSettled (d : Plan) (a : AreaAnswer) : Type 0 where
   pub settled : IsSettled d
   pub pairs : HasNoBadPair d
 
--- that answer; none where no level settles the drawing
-abbrev pub IsSettledAnswer : Plan → Option AreaAnswer → Type 0
-IsSettledAnswer d None = IsUnsettled d
-IsSettledAnswer d (Some a) = IsAnswerOfSettled d a
-
 -- what becomes of a drawing is settled by no level
 pub record IsUndecidedBent (t : ℤ) (d : Plan) : Type 0 where
   pub g : Plan
   pub origin : List ℕ
   pub bent : IsBentOf t d g origin
   pub unsettled : IsUnsettled g
-
--- the answer by the bent drawing; none where no level settles it
-abbrev pub IsBentAnswer : ℤ → Plan → Option AreaAnswer → Type 0
-IsBentAnswer t d None = IsUndecidedBent t d
-IsBentAnswer t d (Some a) = IsAnswerBy t d a
 
 -- the curve of an empty side or of a cut is one of the first n
 abbrev pub NamesCurveOf : ℕ → AreaAnswer → Type 0

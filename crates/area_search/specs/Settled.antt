@@ -11,3 +11,4 @@ pub mod Spots
 pub mod Owners
 pub mod Sides
 pub mod PointFaces
+pub mod SpotRegions

@@ -60,7 +60,7 @@ mod straights;
 
 pub(crate) use at_fault::meeting;
 pub(crate) use cell_sides::mark_unpaired;
-pub use finding::find_area;
 pub(crate) use finding::settled_answer;
+pub use finding::{find_area, find_objects};
 pub(crate) use settled_runs::settled_facings;
 pub use straights::faces_of_straights;

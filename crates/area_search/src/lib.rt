@@ -26,6 +26,10 @@
 //!   the levels of the bent drawing are tried (`unsettled`). What the certificate says is what the
 //!   run, the places, the faces and the links are; `certificate_checker` judges it without any of
 //!   them.
+//! - **Places.** `find_objects` answers as `find_area` does, and says of each place that it is given
+//!   in which object's region of the ground it lies, or that it is on a curve or outside of all
+//!   lines, where the answer is a certificate; this is so of no other region (`laws`). The places
+//!   are located with the objects' points, and their regions are read off the same faces.
 //! - **Faces.** `faces_of_straights` gives the mesh of a drawing of straights that is a partition,
 //!   with its faces and the face of each object's point, for whoever asks what bounds a region.
 //! - **Degenerate cases.** No line, no point, several rings, holes, lines that end inside a region,
@@ -33,7 +37,8 @@
 //! - **Not here:** names of areas, lines of the transfer, and the text of a certificate.
 //!
 //! Cost: O((m + p + events) log (m + p)) for m edges and p points, and what the live list moves in
-//! the sweep and in two replays; some 240 bytes an edge at the peak. Where level 0 does not settle,
+//! the sweep and in two replays; some 240 bytes an edge at the peak. A place costs what a point
+//! costs while it is located, and 32 bytes from then on. Where level 0 does not settle,
 //! at each further level two tubes where the two curves of the last bad edges break it too, also
 //! where these are bad, else its tubes and a sweep of its edges up to two that are bad. So it is of
 //! the bent drawing, which has at most as many edges as its half arcs and three for each straight,
@@ -53,5 +58,5 @@ mod points;
 mod settled;
 mod unsettled;
 
-pub use kinds::{AreaAnswer, AreaFinding, FacedDrawing};
-pub use level::{faces_of_straights, find_area};
+pub use kinds::{AreaAnswer, AreaFinding, FacedDrawing, FoundObjects, Region};
+pub use level::{faces_of_straights, find_area, find_objects};

@@ -7,7 +7,8 @@
 // the events of the run are freed but for their positions (`writing`). The faces of the mesh are
 // those that its cells join. What is kept of the run is a `SettledRun` (`case`), and each answer is
 // read off it: the first fault of its faces (`case_judging`), by the faces beside each curve
-// (`case_sides`, `sides`) and the points in each face (`owners`); or the certificate
+// (`case_sides`, `sides`) and the points in each face (`owners`); or the regions of places that are
+// asked for, by the owners of their faces (`place_regions`), and the certificate
 // (`case_certificates`), by links from each half-edge to the border, a tube or a point
 // (`case_roots`) and by labels (`case_notes`). Of a drawing of straights the mesh with its faces is
 // an answer too (`faced`).
@@ -23,6 +24,7 @@ mod faced;
 mod finishing;
 mod meshing;
 mod owners;
+mod place_regions;
 mod sides;
 mod spots;
 mod writing;

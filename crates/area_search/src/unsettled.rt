@@ -13,7 +13,7 @@ ghost use Rattle.level_breaks.specs.LevelLists.{AreBreaksMarked, HasNoBadStraigh
 ghost use Rattle.plane.specs.Rule.Plans.{plan};
 ghost use Rattle.meetings.specs.StraightRuns.{IsClearRun};
 ghost use Rattle.area_search.specs.Answers.{AreClear, HasNoBadPair, IsAnswer, IsUnsettled};
-ghost use Rattle.area_search.specs.Grounds.{IsAnswerBy};
+ghost use Rattle.area_search.specs.Regions.{AreInWindow, IsFoundBy};
 ghost use Rattle.area_search.specs.Unsettled.CurvePoints.{IsLeastOf, LiesOnStraight};
 ghost use Rattle.area_search.specs.Unsettled.SetAside.{AreAside};
 
@@ -25,7 +25,7 @@ mod rest;
 mod settling;
 mod standing;
 
-use crate::kinds::{AreaAnswer, AreaFinding};
+use crate::kinds::{AreaAnswer, AreaFinding, FoundObjects, without_regions};
 use crate::level::meeting;
 use crate::points::OnCurve;
 use alone::alone_curves;
@@ -35,23 +35,28 @@ use level_breaks::first_break_among;
 use line_sweep::Swept;
 use meetings::{StraightRun, Straights, arc_meeting_among, sweep_straights};
 use on_curves::{first_on_curve, first_on_straight};
-use plane::Drawing;
+use plane::{Drawing, Point};
 use ports::Memory;
 use std::alloc::Global;
 
 /// The answer to a drawing that no level settles: a pair of curves that is bad, else a point on a
 /// curve, else what the bent drawing answers, else the first pair that breaks the last level. The
 /// only error is out of memory. The memory of each part is freed before the next begins.
-pub(crate) fn answer_unsettled(alloc: Global, drawing: &Drawing) -> Result<AreaAnswer, Memory>
+pub(crate) fn answer_unsettled(
+    alloc: Global,
+    drawing: &Drawing,
+    places: &[Point],
+) -> Result<FoundObjects, Memory>
     requires few { length (plan drawing.now).curves ≤ 16000000 }
+    requires near { AreInWindow (plan drawing.now) places.now }
     requires unsettled { IsUnsettled (plan drawing.now) }
-    ensures { IfOk result (IsAnswerBy drawing.now.tolerance (plan drawing.now)) }
+    ensures { IfOk result (IsFoundBy drawing.now.tolerance (plan drawing.now) places.now) }
 {
     match sweep_straights(alloc, drawing)? {
-        StraightRun::Bad(pair) => Ok(meeting(pair.first, pair.second)),
+        StraightRun::Bad(pair) => Ok(meeting(alloc, pair.first, pair.second)),
         StraightRun::Clear { straights, swept } => {
             let on_straight = point_on_straight(alloc, drawing, straights, swept)?;
-            answer_clear(alloc, drawing, on_straight)
+            answer_clear(alloc, drawing, places, on_straight)
         }
     }
 }
@@ -74,50 +79,68 @@ fn point_on_straight(
 fn answer_clear(
     alloc: Global,
     drawing: &Drawing,
+    places: &[Point],
     on_straight: Option<OnCurve>,
-) -> Result<AreaAnswer, Memory>
+) -> Result<FoundObjects, Memory>
     requires few { length (plan drawing.now).curves ≤ 16000000 }
+    requires near { AreInWindow (plan drawing.now) places.now }
     requires unsettled { IsUnsettled (plan drawing.now) }
     requires straights { HasNoBadStraights (plan drawing.now) }
     requires points { IsLeastOf (LiesOnStraight (plan drawing.now)) on_straight }
-    ensures { IfOk result (IsAnswerBy drawing.now.tolerance (plan drawing.now)) }
+    ensures { IfOk result (IsFoundBy drawing.now.tolerance (plan drawing.now) places.now) }
 {
     let aside = set_aside(alloc, drawing, on_straight)?;
     match arc_meeting_among(alloc, drawing, &aside.marks)? {
-        Some(pair) => Ok(meeting(pair.first, pair.second)),
-        None => answer_good(alloc, drawing, &aside),
+        Some(pair) => Ok(meeting(alloc, pair.first, pair.second)),
+        None => answer_good(alloc, drawing, places, &aside),
     }
 }
 
 /// The answer to the drawing, where no two curves are bad.
-fn answer_good(alloc: Global, drawing: &Drawing, aside: &Aside) -> Result<AreaAnswer, Memory>
+fn answer_good(
+    alloc: Global,
+    drawing: &Drawing,
+    places: &[Point],
+    aside: &Aside,
+) -> Result<FoundObjects, Memory>
     requires few { length (plan drawing.now).curves ≤ 16000000 }
+    requires near { AreInWindow (plan drawing.now) places.now }
     requires unsettled { IsUnsettled (plan drawing.now) }
     requires pairs { HasNoBadPair (plan drawing.now) }
     requires aside { AreAside (plan drawing.now) aside.now.marks.items aside.now.on_others }
-    ensures { IfOk result (IsAnswerBy drawing.now.tolerance (plan drawing.now)) }
+    ensures { IfOk result (IsFoundBy drawing.now.tolerance (plan drawing.now) places.now) }
 {
     match first_on_curve(alloc, drawing, aside)? {
-        Some(on) => Ok(AreaAnswer::Fault(AreaFinding::On {
-            point: on.point,
-            curve: on.curve,
-        })),
-        None => answer_bent(alloc, drawing, aside),
+        Some(on) => {
+            let (point, curve) = (on.point, on.curve);
+            let answer = AreaAnswer::Fault(AreaFinding::On { point, curve });
+            Ok(without_regions(alloc, answer))
+        }
+        None => answer_bent(alloc, drawing, places, aside),
     }
 }
 
 /// The answer to the drawing, where no two curves are bad and no point is on a curve: that of the
 /// bent drawing, named by curves of the drawing, or the first pair that breaks the last level.
-fn answer_bent(alloc: Global, drawing: &Drawing, aside: &Aside) -> Result<AreaAnswer, Memory>
+fn answer_bent(
+    alloc: Global,
+    drawing: &Drawing,
+    places: &[Point],
+    aside: &Aside,
+) -> Result<FoundObjects, Memory>
     requires few { length (plan drawing.now).curves ≤ 16000000 }
+    requires near { AreInWindow (plan drawing.now) places.now }
     requires unsettled { IsUnsettled (plan drawing.now) }
     requires clear { AreClear (plan drawing.now) }
     requires aside { AreAside (plan drawing.now) aside.now.marks.items aside.now.on_others }
-    ensures { IfOk result (IsAnswerBy drawing.now.tolerance (plan drawing.now)) }
+    ensures { IfOk result (IsFoundBy drawing.now.tolerance (plan drawing.now) places.now) }
 {
-    match bent_answer(alloc, drawing)? {
-        Some(answer) => Ok(answer),
-        None => first_undecided(alloc, drawing, &aside.marks),
+    match bent_answer(alloc, drawing, places)? {
+        Some(found) => Ok(found),
+        None => {
+            let answer = first_undecided(alloc, drawing, &aside.marks)?;
+            Ok(without_regions(alloc, answer))
+        }
     }
 }
 

@@ -5,7 +5,7 @@ ghost use Rattle.ports.specs.Reading.{OnlyReads};
 ghost use Rattle.table_layout.specs.Valid.{IsValid};
 ghost use Rattle.table_layout.specs.Values.{layout_view};
 ghost use Rattle.commands.specs.Commands.{further_files, IsWithin, from_file, judges, verifies};
-ghost use Rattle.commands.specs.Commands.{rewrites};
+ghost use Rattle.commands.specs.Commands.{rewrites, tests_points};
 ghost use Rattle.commands.specs.Commands.{Command as AnyCommand, IsCommand, made, model_of};
 ghost use Rattle.commands.specs.Commands.{Source, task_of};
 ghost use Rattle.commands.specs.CommandViews.{command_of as command_view, target_of, task_view};
@@ -13,19 +13,24 @@ ghost use Rattle.commands.specs.CommandViews.{transfer_of, IsSmallSource, IsSmal
 ghost use Rattle.delivery.specs.Deciding.{Decides};
 ghost use Rattle.delivery.specs.Ending.{Ends, EndsAfter, EndsModel, EndsCommand};
 ghost use Rattle.reports.specs.OutcomeViews.{outcome_of};
-ghost use Rattle.delivery.specs.Pieces.{IsJudged, IsSourceJudged};
+ghost use Rattle.delivery.specs.Judging.{IsMisbuilt};
+ghost use Rattle.delivery.specs.LinkRows.{HasLinked};
+ghost use Rattle.delivery.specs.Pieces.{AreKept, IsJudged, IsSourceJudged};
+ghost use Rattle.itf_reader.specs.Refusals.{fault_of};
+ghost use Rattle.table_layout.specs.Layouts.{Layout as GivenLayout};
 ghost use Rattle.delivery.specs.Served.{IsReadable, AreReadable, HasReadableFiles};
 ghost use Rattle.commands.specs.TrialFiles.{model_text as the_model};
 ghost use Rattle.commands.specs.TrialFiles.{transfer_text as the_transfer};
 
-use crate::judging::Judged;
-use crate::rows::{checked, rewritten, verified_by};
+use crate::judging::{Judged, LinksKept};
+use crate::rows::{checked, linked_by, rewritten, verified_by};
 use crate::transfers::{RowsReading, TransferReading, judge_text, read_for, read_transfer};
 use commands::trial::{files_are_short, model_text, transfer_text};
 use commands::{
     Command, File, ModelReading, Target, Task, TransferSource, Word, command_of, read_file,
     read_model,
 };
+use itf_reader::Structure;
 use itf_writer::CanonFeed;
 use ports::{Memory, Shelf};
 use reports::outcome::{Outcome, compiled, misbuilt, not_read, refused, usage};
@@ -178,6 +183,88 @@ fn decide_rewritten<'a, S: Shelf>(
     }
 }
 
+// The outcome of a transfer with a line at fault, whose links are of the file of that name.
+fn decide_unlinked<'a, S: Shelf>(
+    alloc: Global,
+    name: &str,
+    line: u32,
+    code: Structure,
+    shelf: &mut S,
+) -> Result<Outcome<'a>, Memory>
+    ensures outcome { (l : GivenLayout) (text : List ℕ) (source : Source)
+        → IsMisbuilt l text line (fault_of code)
+        → IfOk result (λ o. EndsAfter (S.held shelf.old)
+        (ReadRose (S.read_faults shelf.old) (S.read_faults shelf.new))
+        (tests_points source (from_file File.Links name.now)) l
+        (text ∷ []) (from_file File.Links name.now ∷ []) (outcome_of o)) }
+    ensures reads { OnlyReads (S.readable shelf.old name.now)
+        (S.held shelf.old) (S.read_faults shelf.old)
+        (S.write_faults shelf.old) (S.readable shelf.old) (S.space shelf.old)
+        (S.held shelf.new) (S.read_faults shelf.new) (S.write_faults shelf.new)
+        (S.readable shelf.new) (S.space shelf.new) }
+{
+    match read_file(alloc, shelf, File::Links, name) {
+        Ok(_) => misbuilt(alloc, line, code),
+        Err(refusal) => not_read(alloc, File::Links, refusal),
+    }
+}
+
+// The outcome of the rows of a transfer and of the links of the file of that name.
+fn decide_linked<'a, S: Shelf>(
+    alloc: Global,
+    name: &str,
+    layout: &Layout,
+    kept: LinksKept,
+    shelf: &mut S,
+) -> Result<Outcome<'a>, Memory>
+    requires valid { IsValid (layout_view layout.now) }
+    requires text { (text : List ℕ) × AreKept HasLinked (layout_view layout.now) text kept }
+    ensures outcome { (text : List ℕ) (source : Source)
+        → AreKept HasLinked (layout_view layout.now) text kept.entry
+        → IfOk result (λ o. EndsAfter (S.held shelf.old)
+        (ReadRose (S.read_faults shelf.old) (S.read_faults shelf.new))
+        (tests_points source (from_file File.Links name.now)) (layout_view layout.now)
+        (text ∷ []) (from_file File.Links name.now ∷ []) (outcome_of o)) }
+    ensures reads { OnlyReads (S.readable shelf.old name.now)
+        (S.held shelf.old) (S.read_faults shelf.old)
+        (S.write_faults shelf.old) (S.readable shelf.old) (S.space shelf.old)
+        (S.held shelf.new) (S.read_faults shelf.new) (S.write_faults shelf.new)
+        (S.readable shelf.new) (S.space shelf.new) }
+{
+    match read_file(alloc, shelf, File::Links, name) {
+        Ok(links) => linked_by(alloc, layout, kept, &links),
+        Err(refusal) => not_read(alloc, File::Links, refusal),
+    }
+}
+
+// The outcome of a transfer and of links. Both files are read before any verdict.
+fn decide_tested<'a, S: Shelf>(
+    alloc: Global,
+    transfer: &str,
+    links: &str,
+    layout: &Layout,
+    shelf: &mut S,
+) -> Result<Outcome<'a>, Memory>
+    requires valid { IsValid (layout_view layout.now) }
+    ensures outcome { IfOk result (λ o. Ends (S.held shelf.old)
+        (ReadRose (S.read_faults shelf.old) (S.read_faults shelf.new))
+        (tests_points (from_file File.Transfer transfer.now) (from_file File.Links links.now))
+        (layout_view layout.now) (outcome_of o)) }
+    ensures reads { OnlyReads (AreReadable (S.readable shelf.old)
+        (from_file File.Transfer transfer.now ∷ from_file File.Links links.now ∷ []))
+        (S.held shelf.old) (S.read_faults shelf.old)
+        (S.write_faults shelf.old) (S.readable shelf.old) (S.space shelf.old)
+        (S.held shelf.new) (S.read_faults shelf.new) (S.write_faults shelf.new)
+        (S.readable shelf.new) (S.space shelf.new) }
+{
+    let kept = LinksKept::new(alloc, layout)?;
+    match read_for(alloc, shelf, transfer, layout, kept)? {
+        RowsReading::Rows(kept) => decide_linked(alloc, links, layout, kept, shelf),
+        RowsReading::Misbuilt(line, code) => decide_unlinked(alloc, links, line, code, shelf),
+        RowsReading::Unread(refusal) => not_read(alloc, File::Transfer, refusal),
+    }
+}
+
 // The outcome of a task once its model is compiled.
 fn by_task<'a, S: Shelf>(
     alloc: Global,
@@ -208,6 +295,9 @@ fn by_task<'a, S: Shelf>(
         } => decide_verified(alloc, *transfer, certificates, layout, shelf),
         Task::Rewrites { transfer, file } => {
             decide_rewritten(alloc, transfer, file, layout, shelf)
+        }
+        Task::TestsPoints { transfer, links } => {
+            decide_tested(alloc, transfer, links, layout, shelf)
         }
     }
 }

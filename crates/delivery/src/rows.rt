@@ -21,11 +21,16 @@ ghost use Rattle.reports.specs.OutcomeViews.{outcome_of};
 ghost use Rattle.delivery.specs.Pieces.{AreKept, IsJudged, IsSound};
 ghost use Rattle.delivery.specs.Surfaces.{AreSurfaceAnswers};
 ghost use Rattle.reports.specs.Surfaces.{surfaces as surfaces_in};
+ghost use Rattle.delivery.specs.LinkPieces.{AreCleanLinks};
+ghost use Rattle.delivery.specs.LinkRows.{HasLinked};
+ghost use Rattle.delivery.specs.Links.{AreTestedBy, IsLinked};
 ghost use Rattle.delivery.specs.Rewriting.{IsRewritten};
+ghost use Rattle.area_links.specs.Views.{rules_view};
 ghost use Rattle.itf_writer.specs.Feeds.{HoldsRows};
 
 use crate::area_answers::answers_of;
-use crate::judging::{Judged, count_objects};
+use crate::judging::{CleanLinks, Judged, LinksJudged, LinksKept, count_objects, judge_links};
+use crate::links::{gather, tested_answers};
 use crate::polygon_answers::written_areas;
 use crate::verifying::verify_areas;
 use area_search::laws::one_right_ground;
@@ -35,7 +40,8 @@ use plane::Drawing;
 use polygons::AreaPolygons;
 use ports::Memory;
 use reports::outcome::{
-    Outcome, area_too_large, areas_outcome, canon_refused, canonical, misbuilt, rejected, verified,
+    Outcome, area_too_large, areas_outcome, bad_link, canon_refused, canonical, linked, misbuilt,
+    rejected, verified,
 };
 use reports::{Answers, AreaAnswer, SurfaceAnswer, are_fine};
 use std::alloc::Global;
@@ -239,4 +245,49 @@ pub fn rewritten<'a>(
     let objects = count_objects(layout, &kept);
     let text = kept.finish(alloc, layout)?;
     canonical(alloc, file, objects, text)
+}
+
+// The outcome of rows without findings and of rules, by what these ask of the areas.
+fn tested<'a>(alloc: Global, layout: &Layout, clean: &CleanLinks) -> Result<Outcome<'a>, Memory>
+    requires valid { IsValid (layout_view layout.now) }
+    requires rows { (links : List ℕ) × (rows : List (List GivenRow))
+        × AreCleanLinks (layout_view layout.now) links rows clean.now }
+    ensures { (links : List ℕ) (rows : List (List GivenRow))
+        → AreCleanLinks (layout_view layout.now) links rows clean.now
+        → IfOk result (λ o. AreTestedBy (layout_view layout.now)
+        (rules_view clean.now.rules.items) rows (outcome_of o)) }
+{
+    let answers = tested_answers(alloc, layout, &clean.drawings, &clean.asked)?;
+    let found = gather(alloc, &clean.rules, &clean.asked, &answers.results)?;
+    linked(
+        alloc,
+        layout,
+        clean.objects,
+        &clean.surfaces,
+        &answers.areas,
+        &found.misplaced,
+        clean.rules.len() as u64,
+        found.pairs,
+    )
+}
+
+/// The outcome of the rows of a transfer and of the text of links.
+pub fn linked_by<'a>(
+    alloc: Global,
+    layout: &Layout,
+    kept: LinksKept,
+    links: &[u8],
+) -> Result<Outcome<'a>, Memory>
+    requires valid { IsValid (layout_view layout.now) }
+    requires short { length links.now ≤ 65536 }
+    requires text { (text : List ℕ) × AreKept HasLinked (layout_view layout.now) text kept }
+    ensures { (text : List ℕ) → AreKept HasLinked (layout_view layout.now) text kept.entry
+        → IfOk result (λ o. IsLinked (layout_view layout.now) text links.now (outcome_of o)) }
+{
+    match judge_links(alloc, layout, kept, links)? {
+        LinksJudged::Faulty(found) => rejected(alloc, found),
+        LinksJudged::Oversized => area_too_large(alloc),
+        LinksJudged::BadLink(line) => bad_link(alloc, line),
+        LinksJudged::Clean(clean) => tested(alloc, layout, &clean),
+    }
 }

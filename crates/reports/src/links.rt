@@ -40,7 +40,7 @@ fn add_misplaced(misplaced: &[Misplaced], lines: &mut Vec<Line>) -> Result<(), M
 pub fn add_link_lines(
     misplaced: &[Misplaced],
     rules: u64,
-    pairs: u64,
+    pairs: u128,
     lines: &mut Vec<Line>,
 ) -> Result<(), Memory>
     ensures { OnOk result (lines_of lines.new.items ≡ lines_of lines.old.items

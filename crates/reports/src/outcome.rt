@@ -447,7 +447,7 @@ pub fn linked<'a>(
     answers: &[AreaAnswer],
     misplaced: &[Misplaced],
     rules: u64,
-    pairs: u64,
+    pairs: u128,
 ) -> Result<Outcome<'a>, Memory>
     requires { length layout.now.tables.items ≤ 4194304 }
     ensures { IfOk result (λ o. outcome_of o ≡ linked (layout_view layout.now) objects

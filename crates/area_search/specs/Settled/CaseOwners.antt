@@ -13,6 +13,7 @@ use Rattle.area_search.specs.declared.settled.case_judging.Judged.TheVariants as
 use Rattle.area_search.specs.declared.kinds.AreaAnswer.TheVariants.{Fault}
 use Rattle.area_search.specs.Answers.{IsAnswer}
 use Rattle.area_search.specs.Settled.Cases.{spot_faces}
+use Rattle.area_search.specs.Settled.CaseSides.{AreBeside}
 use Rattle.area_search.specs.Settled.Owners.{AreOwners, AreShared}
 use Rattle.area_search.specs.Settled.PointFaces.{IsFirstOutside}
 use Rattle.area_search.specs.Settled.Sides.{IsUnowned}
@@ -33,8 +34,10 @@ pub record HaveOwners (d : Plan) (level : ℕ) (faces : List ℕ) (spots : List 
   pub shared : AreShared (spot_faces d level faces spots) (length spots) None
   pub owned : (h : Half) → IsClearHalf d level h → IsUnowned faces owners (number h) → ⊥
 
--- The first fault of the faces, or their owners; then no curve has one face on both sides.
+-- The first fault of the faces; or their owners, and the faces beside each curve, and then no curve
+-- has one face on both sides.
 abbrev pub IsCaseJudged : Plan → ℕ → List ℕ → List Spot → ℕ → Judged → Type 0
 IsCaseJudged d level faces spots count (judged.Faulty f) = IsAnswer d (Fault f)
-IsCaseJudged d level faces spots count (judged.Owned owners) =
+IsCaseJudged d level faces spots count (judged.Owned besides owners) =
     HaveOwners d level faces spots count owners.items × HasNoCut d
+    × AreBeside d level faces (length d.curves) besides.items

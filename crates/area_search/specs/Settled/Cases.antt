@@ -1,7 +1,7 @@
 -- A drawing that a level settles, the complete run of its edges at that level, where its points
 -- lie, and its faces.
 use Rattle.std.specs.Prelude.{◌≡◌, ℕ, ◌*◌, ◌<◌, ◌≤◌, true, false, pos, ◌<ℤ◌, Option, Some, None}
-use Rattle.std.specs.Prelude.{List, [], length, map, slice_index, slice_index_or, ⊤}
+use Rattle.std.specs.Prelude.{List, [], ◌++◌, length, map, slice_index, slice_index_or, ⊤}
 use Rattle.event_mesh.specs.Turned.{IsTurned}
 use Rattle.faces.specs.Joined.{AreKnown}
 use Rattle.half_edges.specs.HalfEdges.{HalfEdges, size}
@@ -21,6 +21,7 @@ use Rattle.plane.specs.Rule.Plans.{Plan, curve, object, plan}
 use Rattle.plane.specs.Runs.Gaps.{Gap, closed_gaps}
 use Rattle.plane.specs.Runs.Moves.{Fit, Move, steps_from}
 use Rattle.plane.specs.declared.kinds.Edge.{Edge}
+use Rattle.plane.specs.declared.kinds.Placed.{Placed}
 use Rattle.plane.specs.declared.kinds.Point.{Point}
 use Rattle.point_location.specs.Places.{IsCell}
 use Rattle.straight_predicates.specs.EdgeLists.{no_point}
@@ -95,6 +96,10 @@ pub record AreSpotsOf (d : Plan) (level : ℕ) (vs : List Move) (points : List P
   pub each : (j : ℕ) → j < length points
       → IsSpot d level vs (slice_index_or points j no_point) (spot_at spots j)
 
+-- the objects' points, and then these places
+abbrev pub with_places : Plan → List Point → List Point
+with_places d places = map (λ (p : Placed). p.at) d.points ++ places
+
 -- Each object's point has its spot.
 pub record AreSpots (d : Plan) (level : ℕ) (vs : List Move) (spots : List Spot) : Type 0 where
   pub size : length spots ≡ length d.points
@@ -162,13 +167,14 @@ abbrev pub level_of : SettledRun → ℕ
 level_of r = r.settled.now.level
 
 -- Of one complete run of the edges of a drawing that the level settles, by their timetable: the
--- objects' points lie at the spots, none of them on a curve; and the mesh with its faces, the cells
--- and the positions are those of the run.
+-- objects' points lie at the spots, none of them on a curve, and the places at theirs; and the mesh
+-- with its faces, the cells and the positions are those of the run.
 pub record IsSettledRun (r : SettledRun) : Type 0 where
   pub vs : List Move
   pub settled : IsCaseOf r.settled.now vs
   pub timed : HasTimetable (edges_of r.settled.now) vs
   pub placed : ArePlacedOff (plan_of r) (level_of r) vs r.spots.now
+  pub places : AreSpotsOf (plan_of r) (level_of r) vs r.places.now r.place_spots.now
   pub faces : HasRunFaces (plan_of r) (level_of r) vs r.labelled.now.mesh r.labelled.now.count
   pub outline : IsRunMesh (plan_of r) (level_of r) vs (gaps_of r.cells.now) r.labelled.now.mesh
   pub positions_are : r.positions.items ≡ positions_of vs

@@ -1,13 +1,14 @@
 // The answer to a drawing in which some pair of curves is bad.
-ghost use Rattle.std.specs.Prelude.{◌≡◌, ℕ, ℤ, IfOk};
+ghost use Rattle.std.specs.Prelude.{◌≡◌, ℕ, ℤ, IfOk, List};
 ghost use Rattle.plane.specs.Rule.BadPairs.{IsBadPair};
 ghost use Rattle.plane.specs.Rule.Plans.{plan};
-ghost use Rattle.area_search.specs.Grounds.{IsAnswerBy};
+ghost use Rattle.plane.specs.declared.kinds.Point.{Point};
+ghost use Rattle.area_search.specs.Regions.{IsFoundBy};
 ghost use Rattle.area_search.specs.declared.kinds.AreaAnswer.TheVariants.{Fault};
 ghost use Rattle.area_search.specs.declared.kinds.AreaFinding.TheVariants.{Meeting};
 
 use super::bad_edges::CurvePair;
-use crate::kinds::{AreaAnswer, AreaFinding};
+use crate::kinds::{AreaAnswer, AreaFinding, FoundObjects, without_regions};
 use meetings::bad_meeting;
 use plane::Drawing;
 use ports::Memory;
@@ -24,22 +25,24 @@ pub(crate) fn answer_at_fault(
     alloc: Global,
     drawing: &Drawing,
     pair: CurvePair,
-) -> Result<AreaAnswer, Memory>
+) -> Result<FoundObjects, Memory>
     requires { IsBadPair (plan drawing.now) pair.first pair.second }
-    ensures { IfOk result (IsAnswerBy drawing.now.tolerance (plan drawing.now)) }
+    ensures { IfOk result (λ f. (places : List Point)
+        → IsFoundBy drawing.now.tolerance (plan drawing.now) places f) }
 {
     if drawing.curves.len() > FEW_CURVES {
-        return Ok(meeting(pair.first, pair.second));
+        return Ok(meeting(alloc, pair.first, pair.second));
     }
     match bad_meeting(alloc, drawing)? {
-        Some(least) => Ok(meeting(least.first, least.second)),
+        Some(least) => Ok(meeting(alloc, least.first, least.second)),
         None => unreachable!(),
     }
 }
 
 /// The answer that names the two curves.
-pub(crate) fn meeting(first: u32, second: u32) -> AreaAnswer
-    ensures { result ≡ Fault (Meeting first second) }
+pub(crate) fn meeting(alloc: Global, first: u32, second: u32) -> FoundObjects
+    ensures { result.answer ≡ Fault (Meeting first second) }
 {
-    AreaAnswer::Fault(AreaFinding::Meeting { first, second })
+    let answer = AreaAnswer::Fault(AreaFinding::Meeting { first, second });
+    without_regions(alloc, answer)
 }

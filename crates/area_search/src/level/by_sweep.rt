@@ -11,14 +11,15 @@ ghost use Rattle.tubes.specs.FewEdges.{HasFewEdges};
 ghost use Rattle.tubes.specs.TubedEdges.{AreUsable, IsTubedList};
 ghost use Rattle.area_search.specs.Answers.{SettlesNoneBelow};
 ghost use Rattle.area_search.specs.Level.LevelAnswers.{IsShown};
+ghost use Rattle.area_search.specs.Regions.{AreInWindow};
 
 use super::bad_edges::{CurvePair, shown_by_edges};
 use super::missing_tubes::is_tube_missing;
 use super::settled_runs::settled_facings;
-use crate::kinds::AreaAnswer;
+use crate::kinds::FoundObjects;
 use crate::settled::{SettledDrawing, answer_settled};
 use line_sweep::{SweepRefusal, Swept, sweep};
-use plane::Drawing;
+use plane::{Drawing, Point};
 use ports::Memory;
 use std::alloc::Global;
 use tubes::{EdgeList, edge_list};
@@ -26,8 +27,8 @@ use tubes::{EdgeList, edge_list};
 /// What a sweep of a level's edges shows of the drawing.
 #[derive(Drop)]
 pub(crate) enum Shown {
-    /// The answer: the level settles the drawing.
-    Answer(AreaAnswer),
+    /// The answer, with the regions of the places: the level settles the drawing.
+    Answer(FoundObjects),
     /// The level does not settle the drawing. Where two bad edges show it, their two curves.
     Unsettled(Option<CurvePair>),
     /// The level does not settle the drawing, since these two curves are bad.
@@ -36,37 +37,50 @@ pub(crate) enum Shown {
 
 /// What the edges of a level show of a drawing that no lower level settles. The only error is out
 /// of memory.
-pub(crate) fn answer_by_sweep(alloc: Global, drawing: &Drawing, level: u8) -> Result<Shown, Memory>
+pub(crate) fn answer_by_sweep(
+    alloc: Global,
+    drawing: &Drawing,
+    places: &[Point],
+    level: u8,
+) -> Result<Shown, Memory>
+    requires near { AreInWindow (plan drawing.now) places.now }
     requires few { HasFewEdges (plan drawing.now) }
     requires low { level ≤ 5 }
     requires least { SettlesNoneBelow (plan drawing.now) level }
-    ensures { IfOk result (IsShown (plan drawing.now) level) }
+    ensures { IfOk result (IsShown (plan drawing.now) places.now level) }
 {
     level_breaks::laws::settled_is_unbroken();
     if level > 0 && is_tube_missing(alloc, drawing, level)? {
         return Ok(Shown::Unsettled(None));
     }
     match edge_list(alloc, drawing, level)? {
-        Some(list) => answer_list(alloc, drawing, level, list),
+        Some(list) => answer_list(alloc, drawing, places, level, list),
         None => Ok(Shown::Unsettled(None)),
     }
 }
 
 /// What the level shows of the drawing, by its edges. Where two of them are bad, their curves are
 /// tested.
-fn answer_list(alloc: Global, drawing: &Drawing, level: u8, list: EdgeList) -> Result<Shown, Memory>
+fn answer_list(
+    alloc: Global,
+    drawing: &Drawing,
+    places: &[Point],
+    level: u8,
+    list: EdgeList,
+) -> Result<Shown, Memory>
+    requires near { AreInWindow (plan drawing.now) places.now }
     requires low { level ≤ 5 }
     requires least { SettlesNoneBelow (plan drawing.now) level }
     requires few { length list.edges.items < 2 ^ 31 }
     requires list { IsTubedList (plan drawing.now) level list }
     requires usable { AreUsable (plan drawing.now) list.edges.items }
-    ensures { IfOk result (IsShown (plan drawing.now) level) }
+    ensures { IfOk result (IsShown (plan drawing.now) places.now level) }
 {
     tubes::laws::tubed_lists();
     tubes::laws::chains_have_edges();
     plane::sweeps::meetings_are_decided();
     match sweep(alloc, &list.edges) {
-        Ok(swept) => answer_swept(alloc, drawing, level, list, swept),
+        Ok(swept) => answer_swept(alloc, drawing, places, level, list, swept),
         Err(SweepRefusal::Bad { first, second }) => {
             Ok(shown_by_edges(drawing, &list.owners, first, second))
         }
@@ -78,10 +92,12 @@ fn answer_list(alloc: Global, drawing: &Drawing, level: u8, list: EdgeList) -> R
 fn answer_swept(
     alloc: Global,
     drawing: &Drawing,
+    places: &[Point],
     level: u8,
     list: EdgeList,
     swept: Swept,
 ) -> Result<Shown, Memory>
+    requires near { AreInWindow (plan drawing.now) places.now }
     requires low { level ≤ 5 }
     requires least { SettlesNoneBelow (plan drawing.now) level }
     requires few { length list.edges.items < 2 ^ 31 }
@@ -93,7 +109,7 @@ fn answer_swept(
     requires timed { HasTimetable list.edges.items swept.events }
     requires cells { gaps_of swept.cells.items
         ≡ closed_gaps swept.events }
-    ensures { IfOk result (IsShown (plan drawing.now) level) }
+    ensures { IfOk result (IsShown (plan drawing.now) places.now level) }
 {
     match settled_facings(alloc, drawing, level, &list, &swept)? {
         Some(facings) => {
@@ -104,7 +120,8 @@ fn answer_swept(
                 owners: &owners,
                 facings: &facings,
             };
-            Ok(Shown::Answer(answer_settled(alloc, &settled, edges, swept)?))
+            let found = answer_settled(alloc, &settled, places, edges, swept)?;
+            Ok(Shown::Answer(found))
         }
         None => Ok(Shown::Unsettled(None)),
     }

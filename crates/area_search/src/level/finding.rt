@@ -3,16 +3,17 @@ ghost use Rattle.std.specs.Prelude.{◌≤◌, IfOk, length};
 ghost use Rattle.plane.specs.Rule.Plans.{plan};
 ghost use Rattle.tubes.specs.FewEdges.{HasFewEdges};
 ghost use Rattle.area_search.specs.Answers.{SettlesNoneBelow};
-ghost use Rattle.area_search.specs.Grounds.{IsAnswerBy, IsSettledAnswer};
+ghost use Rattle.area_search.specs.Grounds.{IsAnswerBy};
 ghost use Rattle.area_search.specs.Level.LevelAnswers.{AreOfDrawing, AreShown, IsShown};
+ghost use Rattle.area_search.specs.Regions.{AreInWindow, AreRegions, IsSettledFound};
 
 use super::at_fault::answer_at_fault;
 use super::bad_edges::CurvePair;
 use super::by_sweep::{Shown, answer_by_sweep};
-use crate::kinds::AreaAnswer;
+use crate::kinds::{AreaAnswer, FoundObjects};
 use crate::unsettled::answer_unsettled;
 use level_breaks::breaks_level;
-use plane::Drawing;
+use plane::{Drawing, Point};
 use ports::Memory;
 use std::alloc::Global;
 
@@ -25,22 +26,46 @@ pub fn find_area(alloc: Global, drawing: &Drawing) -> Result<AreaAnswer, Memory>
     requires curves { length (plan drawing.now).curves ≤ 16000000 }
     ensures { IfOk result (IsAnswerBy drawing.now.tolerance (plan drawing.now)) }
 {
+    let found = find_objects(alloc, drawing, &[])?;
+    Ok(found.answer)
+}
+
+/// The answer to a drawing, as `find_area` gives it, and where the answer is a certificate, the
+/// region of each of these places in the ground of the drawing, in order. The only error is out of
+/// memory. For the costs see the head of the crate.
+pub fn find_objects(
+    alloc: Global,
+    drawing: &Drawing,
+    places: &[Point],
+) -> Result<FoundObjects, Memory>
+    requires curves { length (plan drawing.now).curves ≤ 16000000 }
+    requires near { AreInWindow (plan drawing.now) places.now }
+    ensures answer { IfOk result (λ f. IsAnswerBy drawing.now.tolerance (plan drawing.now)
+        f.answer) }
+    ensures regions { IfOk result (AreRegions drawing.now.tolerance (plan drawing.now)
+        places.now) }
+{
     tubes::laws::few_curves_have_few_edges();
-    match all_levels(alloc, drawing)? {
-        LevelsShown::Answer(answer) => Ok(answer),
+    match all_levels(alloc, drawing, places)? {
+        LevelsShown::Answer(found) => Ok(found),
         LevelsShown::Unsettled(Some(bad)) => answer_at_fault(alloc, drawing, bad),
-        LevelsShown::Unsettled(None) => answer_unsettled(alloc, drawing),
+        LevelsShown::Unsettled(None) => answer_unsettled(alloc, drawing, places),
     }
 }
 
-/// The answer to a drawing that some level settles, none where no level does. The only error is out
-/// of memory.
-pub(crate) fn settled_answer(alloc: Global, drawing: &Drawing) -> Result<Option<AreaAnswer>, Memory>
+/// The answer to a drawing that some level settles, with the regions of these places; none where no
+/// level does. The only error is out of memory.
+pub(crate) fn settled_answer(
+    alloc: Global,
+    drawing: &Drawing,
+    places: &[Point],
+) -> Result<Option<FoundObjects>, Memory>
     requires few { HasFewEdges (plan drawing.now) }
-    ensures { IfOk result (IsSettledAnswer (plan drawing.now)) }
+    requires near { AreInWindow (plan drawing.now) places.now }
+    ensures { IfOk result (IsSettledFound (plan drawing.now) places.now) }
 {
-    match all_levels(alloc, drawing)? {
-        LevelsShown::Answer(answer) => Ok(Some(answer)),
+    match all_levels(alloc, drawing, places)? {
+        LevelsShown::Answer(found) => Ok(Some(found)),
         LevelsShown::Unsettled(_) => Ok(None),
     }
 }
@@ -48,22 +73,23 @@ pub(crate) fn settled_answer(alloc: Global, drawing: &Drawing) -> Result<Option<
 /// What the levels from 0 to 5 show of a drawing.
 #[derive(Drop)]
 pub(crate) enum LevelsShown {
-    /// The answer: some level settles the drawing.
-    Answer(AreaAnswer),
+    /// The answer, with the regions of the places: some level settles the drawing.
+    Answer(FoundObjects),
     /// No level settles the drawing. Two curves that are bad, where some were met.
     Unsettled(Option<CurvePair>),
 }
 
 /// Tries the levels in turn. The only error is out of memory.
-fn all_levels(alloc: Global, drawing: &Drawing) -> Result<LevelsShown, Memory>
+fn all_levels(alloc: Global, drawing: &Drawing, places: &[Point]) -> Result<LevelsShown, Memory>
     requires few { HasFewEdges (plan drawing.now) }
-    ensures { IfOk result (AreShown (plan drawing.now)) }
+    requires near { AreInWindow (plan drawing.now) places.now }
+    ensures { IfOk result (AreShown (plan drawing.now) places.now) }
 {
     let mut pair = None;
     let mut bad = None;
     for level in 0..6 {
-        match shown_at(alloc, drawing, level, pair)? {
-            Shown::Answer(answer) => return Ok(LevelsShown::Answer(answer)),
+        match shown_at(alloc, drawing, places, level, pair)? {
+            Shown::Answer(found) => return Ok(LevelsShown::Answer(found)),
             Shown::Unsettled(next) => pair = next,
             Shown::AtFault(two) => {
                 pair = Some(two);
@@ -80,14 +106,16 @@ fn all_levels(alloc: Global, drawing: &Drawing) -> Result<LevelsShown, Memory>
 fn shown_at(
     alloc: Global,
     drawing: &Drawing,
+    places: &[Point],
     level: u8,
     pair: Option<CurvePair>,
 ) -> Result<Shown, Memory>
     requires few { HasFewEdges (plan drawing.now) }
+    requires near { AreInWindow (plan drawing.now) places.now }
     requires low { level ≤ 5 }
     requires least { SettlesNoneBelow (plan drawing.now) level }
     requires pair { AreOfDrawing (plan drawing.now) pair }
-    ensures { IfOk result (IsShown (plan drawing.now) level) }
+    ensures { IfOk result (IsShown (plan drawing.now) places.now level) }
 {
     level_breaks::laws::settled_is_unbroken();
     if let Some(two) = pair {
@@ -95,5 +123,5 @@ fn shown_at(
             return Ok(Shown::Unsettled(pair));
         }
     }
-    answer_by_sweep(alloc, drawing, level)
+    answer_by_sweep(alloc, drawing, places, level)
 }

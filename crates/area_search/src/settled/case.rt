@@ -1,7 +1,7 @@
 // A drawing that a level settles, where its points lie, and what is kept of its run.
 use faces::Labelled;
 use line_sweep::{Cell, Swept};
-use plane::{Drawing, Edge};
+use plane::{Drawing, Edge, Point};
 use tubes::{Facing, Owner};
 
 /// A drawing that a level settles, and of each of its edges at that level what it stands for and
@@ -26,12 +26,15 @@ pub(crate) struct SweptDrawing<'a> {
 }
 
 /// What is kept of such a run when its edges and its events are freed: where the objects' points
-/// lie, none of them on a curve; the mesh of the half-edges with its faces; the cells; and the
-/// positions of the events. What is answered of a settled drawing is read off it.
+/// lie, none of them on a curve, and where the places lie that are asked for; the mesh of the
+/// half-edges with its faces; the cells; and the positions of the events. What is answered of a
+/// settled drawing is read off it.
 #[derive(Drop)]
 pub(crate) struct SettledRun<'a> {
     pub settled: &'a SettledDrawing<'a>,
     pub spots: &'a [Spot],
+    pub places: &'a [Point],
+    pub place_spots: &'a [Spot],
     pub labelled: &'a Labelled,
     pub cells: &'a [Cell],
     pub positions: Vec<u32>,

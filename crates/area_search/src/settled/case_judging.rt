@@ -5,17 +5,17 @@ ghost use Rattle.area_search.specs.Settled.CaseOwners.{IsCaseJudged};
 ghost use Rattle.area_search.specs.Settled.Cases.{IsSettledRun, level_of, plan_of};
 
 use super::case::SettledRun;
-use super::case_sides::{faces_beside, faces_of_spots, first_cut, first_free};
+use super::case_sides::{Beside, faces_beside, faces_of_spots, first_cut, first_free};
 use super::owners::{first_outside, owners_of};
 use crate::kinds::AreaFinding;
 use ports::Memory;
 use std::alloc::Global;
 
-/// A fault, or for each face one more than its point, 0 for face 0.
+/// A fault; or the faces beside each curve, and for each face one more than its point, 0 for face 0.
 #[derive(Drop)]
 pub(crate) enum Judged {
     Faulty(AreaFinding),
-    Owned(Vec<u32>),
+    Owned(Vec<Beside>, Vec<u32>),
 }
 
 /// The first point outside, the first two points in one face, the first side without a point, the
@@ -50,6 +50,6 @@ pub(crate) fn judge_run(alloc: Global, run: &SettledRun) -> Result<Judged, Memor
     }
     match first_cut(&besides) {
         Some(curve) => Ok(Judged::Faulty(AreaFinding::Cut { curve })),
-        None => Ok(Judged::Owned(owners.of_face)),
+        None => Ok(Judged::Owned(besides, owners.of_face)),
     }
 }

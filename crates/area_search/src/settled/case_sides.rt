@@ -171,7 +171,13 @@ pub(crate) fn faces_of_spots(
     Ok(faces)
 }
 
-fn spot_face(settled: &SettledDrawing, mesh: &Mesh, besides: &[Beside], spot: &Spot) -> u32
+/// The face of a spot.
+pub(crate) fn spot_face(
+    settled: &SettledDrawing,
+    mesh: &Mesh,
+    besides: &[Beside],
+    spot: &Spot,
+) -> u32
     requires few { length (edges_of settled.now) < 2 ^ 31 }
     requires size { size mesh.now ≡ 2 * length (edges_of settled.now) }
     requires besides { AreBeside (plan settled.now.drawing.now) settled.now.level mesh.now.face

@@ -2,20 +2,27 @@
 ghost use Rattle.std.specs.Prelude.{◌≡◌, ℕ, ◌^◌, ◌<◌, IfOk, length, slice_index_or};
 ghost use Rattle.line_sweep.specs.Kinds.{gaps_of};
 ghost use Rattle.line_sweep.specs.Sweeping.{HasTimetable};
+ghost use Rattle.plane.specs.Rule.Cuts.{HasNoCut};
 ghost use Rattle.plane.specs.Rule.Plans.{plan};
 ghost use Rattle.plane.specs.Runs.Gaps.{closed_gaps};
 ghost use Rattle.straight_predicates.specs.EdgeLists.{IsCloseToAll, no_point};
-ghost use Rattle.area_search.specs.Answers.{IsAnswer, IsLeastLevel};
+ghost use Rattle.area_search.specs.Answers.{IsLeastLevel};
+ghost use Rattle.area_search.specs.Regions.{AreInWindow, IsFound};
+ghost use Rattle.area_search.specs.Settled.CaseOwners.{HaveOwners};
+ghost use Rattle.area_search.specs.Settled.CaseSides.{AreBeside};
 ghost use Rattle.area_search.specs.Settled.Cases.{ArePlacedOff, AreSpots, AreSpotsOf, IsCaseOf};
 ghost use Rattle.area_search.specs.Settled.Cases.{IsSettledRun, edges_of, level_of, plan_of};
+ghost use Rattle.area_search.specs.Settled.Cases.{with_places};
 
 use super::case::{SettledDrawing, SettledRun, Spot, SweptDrawing};
 use super::case_certificates::certify_run;
 use super::case_judging::{Judged, judge_run};
+use super::case_sides::Beside;
 use super::meshing::mesh_of_run;
+use super::place_regions::regions_of;
 use super::spots::{first_spot_on, spots_at};
 use super::writing::positions;
-use crate::kinds::{AreaAnswer, AreaFinding};
+use crate::kinds::{AreaAnswer, AreaFinding, FoundObjects, without_regions};
 use crate::points::points_at;
 use faces::label;
 use line_sweep::{Cell, Swept};
@@ -24,31 +31,35 @@ use ports::Memory;
 use std::alloc::Global;
 
 /// The answer to a drawing by a complete run of its edges at the least level that settles it: its
-/// first fault, or a certificate with empty names. The only error is out of memory. It takes what
-/// placing the points, the mesh, its faces and the links of a certificate take, one after another;
-/// before the mesh is made, the edges are freed, and before its faces are labelled the events of
-/// the run.
+/// first fault, or a certificate with empty names, with the region of each of these places. The
+/// only error is out of memory. It takes what placing the points, the mesh, its faces and the links
+/// of a certificate take, one after another; before the mesh is made, the edges are freed, and
+/// before its faces are labelled the events of the run.
 pub(crate) fn answer_settled(
     alloc: Global,
     settled: &SettledDrawing,
+    places: &[Point],
     edges: Vec<Edge>,
     swept: Swept,
-) -> Result<AreaAnswer, Memory>
+) -> Result<FoundObjects, Memory>
+    requires near { AreInWindow (plan settled.now.drawing.now) places.now }
     requires settled { IsCaseOf settled.now swept.events }
     requires edges { edges.items ≡ edges_of settled.now }
     requires least { IsLeastLevel (plan settled.now.drawing.now) settled.now.level }
     requires few { length (edges_of settled.now) < 2 ^ 31 }
     requires timed { HasTimetable (edges_of settled.now) swept.events }
     requires cells { gaps_of swept.cells.items ≡ closed_gaps swept.events }
-    ensures { IfOk result (IsAnswer (plan settled.now.drawing.now)) }
+    ensures { IfOk result (IsFound (plan settled.now.drawing.now) places.now) }
 {
-    let spots = object_spots(alloc, settled, edges, &swept)?;
-    match first_spot_on(&spots) {
-        Some(on) => Ok(AreaAnswer::Fault(AreaFinding::On {
-            point: on.point,
-            curve: on.curve,
-        })),
-        None => answer_placed(alloc, settled, &spots, swept),
+    let all = spots_with(alloc, settled, places, edges, &swept)?;
+    let (spots, place_spots) = all.split_at(settled.drawing.points.len());
+    match first_spot_on(spots) {
+        Some(on) => {
+            let (point, curve) = (on.point, on.curve);
+            let answer = AreaAnswer::Fault(AreaFinding::On { point, curve });
+            Ok(without_regions(alloc, answer))
+        }
+        None => answer_placed(alloc, settled, spots, places, place_spots, swept),
     }
 }
 
@@ -65,7 +76,26 @@ pub(crate) fn object_spots(
     ensures { IfOk result (λ spots. AreSpots (plan settled.now.drawing.now) settled.now.level
         swept.now.events spots.items) }
 {
-    let points = points_at(alloc, &settled.drawing.points)?;
+    spots_with(alloc, settled, &[], edges, swept)
+}
+
+/// Where the objects' points of the drawing lie, and then these places.
+fn spots_with(
+    alloc: Global,
+    settled: &SettledDrawing,
+    places: &[Point],
+    edges: Vec<Edge>,
+    swept: &Swept,
+) -> Result<Vec<Spot>, Memory>
+    requires settled { IsCaseOf settled.now swept.now.events }
+    requires near { AreInWindow (plan settled.now.drawing.now) places.now }
+    requires edges { edges.items ≡ edges_of settled.now }
+    requires few { length (edges_of settled.now) < 2 ^ 31 }
+    ensures { IfOk result (λ spots. AreSpotsOf (plan settled.now.drawing.now) settled.now.level
+        swept.now.events (with_places (plan settled.now.drawing.now) places.now) spots.items) }
+{
+    let mut points = points_at(alloc, &settled.drawing.points)?;
+    points.extend_from_slice(places)?;
     let spots = spots_of_run(alloc, settled, edges, swept, &points)?;
     Ok(spots)
 }
@@ -98,13 +128,16 @@ pub(crate) fn spots_of_run(
     spots_at(alloc, &swept_drawing, points)
 }
 
-/// The answer to the drawing, where no point lies on a curve.
+/// The answer to the drawing, where no object's point lies on a curve, and the regions of these
+/// places.
 fn answer_placed(
     alloc: Global,
     settled: &SettledDrawing,
     spots: &[Spot],
+    places: &[Point],
+    place_spots: &[Spot],
     swept: Swept,
-) -> Result<AreaAnswer, Memory>
+) -> Result<FoundObjects, Memory>
     requires settled { IsCaseOf settled.now swept.events }
     requires least { IsLeastLevel (plan settled.now.drawing.now) settled.now.level }
     requires few { length (edges_of settled.now) < 2 ^ 31 }
@@ -112,7 +145,9 @@ fn answer_placed(
     requires cells { gaps_of swept.cells.items ≡ closed_gaps swept.events }
     requires placed { ArePlacedOff (plan settled.now.drawing.now) settled.now.level
         swept.events spots.now }
-    ensures { IfOk result (IsAnswer (plan settled.now.drawing.now)) }
+    requires places { AreSpotsOf (plan settled.now.drawing.now) settled.now.level
+        swept.events places.now place_spots.now }
+    ensures { IfOk result (IsFound (plan settled.now.drawing.now) places.now) }
 {
     let mesh = mesh_of_run(alloc, settled, &swept)?;
     let positions = positions(alloc, &swept.events)?;
@@ -123,6 +158,8 @@ fn answer_placed(
     let run = SettledRun {
         settled,
         spots,
+        places,
+        place_spots,
         labelled: &labelled,
         cells: &cells,
         positions,
@@ -137,14 +174,35 @@ pub(super) fn cells_alone(swept: Swept) -> Vec<Cell>
     swept.cells
 }
 
-/// The answer to the drawing of a run.
-fn answer_run(alloc: Global, run: SettledRun) -> Result<AreaAnswer, Memory>
+/// The answer to the drawing of a run, and the regions of its places.
+fn answer_run(alloc: Global, run: SettledRun) -> Result<FoundObjects, Memory>
     requires run { IsSettledRun run }
     requires least { IsLeastLevel (plan_of run) (level_of run) }
-    ensures { IfOk result (IsAnswer (plan_of run.entry)) }
+    ensures { IfOk result (IsFound (plan_of run.entry) run.entry.places.now) }
 {
     match judge_run(alloc, &run)? {
-        Judged::Faulty(finding) => Ok(AreaAnswer::Fault(finding)),
-        Judged::Owned(owners) => Ok(AreaAnswer::Proved(certify_run(alloc, run, &owners)?)),
+        Judged::Faulty(finding) => Ok(without_regions(alloc, AreaAnswer::Fault(finding))),
+        Judged::Owned(besides, owners) => answer_owned(alloc, run, besides, &owners),
     }
+}
+
+/// The certificate of the drawing of a run without a fault, and the regions of its places.
+fn answer_owned(
+    alloc: Global,
+    run: SettledRun,
+    besides: Vec<Beside>,
+    owners: &[u32],
+) -> Result<FoundObjects, Memory>
+    requires run { IsSettledRun run }
+    requires least { IsLeastLevel (plan_of run) (level_of run) }
+    requires owned { HaveOwners (plan_of run) (level_of run) run.labelled.now.mesh.face
+        run.spots.now run.labelled.now.count owners.now }
+    requires uncut { HasNoCut (plan_of run) }
+    requires besides { AreBeside (plan_of run) (level_of run) run.labelled.now.mesh.face
+        (length (plan_of run).curves) besides.items }
+    ensures { IfOk result (IsFound (plan_of run.entry) run.entry.places.now) }
+{
+    let regions = regions_of(alloc, &run, besides, owners)?;
+    let answer = AreaAnswer::Proved(certify_run(alloc, run, owners)?);
+    Ok(FoundObjects { answer, regions })
 }

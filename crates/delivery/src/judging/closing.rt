@@ -133,7 +133,7 @@ fn is_too_large(kept: &TransferKept, area: &AreaOf) -> bool
 }
 
 // Some area is too large.
-fn has_too_large(kept: &TransferKept, areas: &[AreaOf]) -> bool
+pub(super) fn has_too_large(kept: &TransferKept, areas: &[AreaOf]) -> bool
     ensures { (l : GivenLayout) (rows : List (ℕ × GivenRow)) → HasRows l kept.now.keys rows
         → result ≡ has_kept_large (kept_in kept.now.places.items) (transfer_so_far l rows)
         (areas_view areas.now) }
@@ -192,7 +192,7 @@ fn key_findings(alloc: Global, keys: &Keys) -> Result<Vec<Finding>, Memory>
 }
 
 // All findings, in the order of the report: those of the rows and those of the keys.
-fn all_findings(
+pub(super) fn all_findings(
     alloc: Global,
     tables: &mut [TableFound],
     keys: &Keys,
@@ -209,7 +209,7 @@ fn all_findings(
 }
 
 // There are findings.
-fn has_any(found: &[Finding]) -> bool
+pub(super) fn has_any(found: &[Finding]) -> bool
     ensures some { IsTrue result → findings_of found.now ≢ [] }
     ensures none { IsFalse result → findings_of found.now ≡ [] }
 {

@@ -15,18 +15,20 @@ ghost use Rattle.ili_grammar.specs.Syntax.{Codes as GivenCodes};
 ghost use Rattle.ili_grammar.specs.Values.{codes_of};
 ghost use Rattle.itf_reader.specs.Views.{row_of};
 ghost use Rattle.itf_reader.specs.RowReadings.{cells_view, vertices_view};
+ghost use Rattle.area_drawings.specs.KeptPoints.{with_points};
 ghost use Rattle.area_drawings.specs.KeptRows.{kept, with_row};
 ghost use Rattle.area_drawings.specs.KeptViews.{kept_in};
 ghost use Rattle.delivery.specs.KeptRows.{changed_at, rows_found, with_found};
 ghost use Rattle.delivery.specs.KeptViews.{AreReadAs, HasTaken, found_in};
+ghost use Rattle.delivery.specs.LinkRows.{HasLinkPoints, points_in};
 
 use super::found::TableFound;
 use super::keeping::RowKeeper;
-use area_drawings::TablePlaces;
+use area_drawings::{KeptPoints, TablePlaces};
 use ident_refs::KeyFeed;
 use ili_grammar::Codes;
 use itf_lines::Line;
-use itf_reader::{Names, Row, RowFeed, RowValues};
+use itf_reader::{Cell, Names, Row, RowFeed, RowValues};
 use ports::Memory;
 use std::alloc::Global;
 use table_layout::{Layout, Table, TableId};
@@ -110,6 +112,22 @@ fn keep_at(
     places[place].add_row(line, values)
 }
 
+// Keeps the points of a row of the table at that place, if there is one.
+fn keep_points(
+    points: &mut [KeptPoints],
+    place: usize,
+    line: u32,
+    cells: &[Cell],
+) -> Result<(), Memory>
+    ensures { OnOk result (points_in points.new ≡ changed_at place
+        (with_points line (cells_view cells.now)) (points_in points.old)) }
+{
+    if points.len() <= place {
+        return Ok(());
+    }
+    points[place].add(line, cells)
+}
+
 impl<'a> TransferKept<'a> {
     /// Before the first row of a transfer of that layout.
     pub fn new(alloc: Global, layout: &'a Layout) -> Result<TransferKept<'a>, Memory>
@@ -126,17 +144,40 @@ impl<'a> TransferKept<'a> {
             values: RowValues::new(alloc),
         })
     }
+
+    /// Takes a row of that table, and adds its points to those that links may name, where these
+    /// are kept. Each word is read once. The only error is out of memory.
+    pub fn take_row(
+        &mut self,
+        layout: &Layout,
+        table: TableId,
+        row: &Row,
+        points: &mut [KeptPoints],
+    ) -> Result<(), Memory>
+        ensures judged { OnOk result ((rows : List (ℕ × GivenRow))
+            → HasTaken (layout_view layout.now) rows self.old
+            → HasTaken (layout_view layout.now) (rows ++ (table.0, row_of row.now) ∷ [])
+            self.new) }
+        ensures points { OnOk result ((rows : List (ℕ × GivenRow))
+            → HasTaken (layout_view layout.now) rows self.old
+            → HasLinkPoints (layout_view layout.now) rows (points_in points.old)
+            → HasLinkPoints (layout_view layout.now) (rows ++ (table.0, row_of row.now) ∷ [])
+            (points_in points.new)) }
+    {
+        let place = table.0 as usize;
+        let values = &mut self.values;
+        read_at(&mut self.tables, &layout.codes, place, row, values)?;
+        keep_points(points, place, row.line, &values.cells)?;
+        keep_at(&mut self.places, place, row.line, values)?;
+        self.keys.add_row(table, row)
+    }
 }
 
 impl<'a> RowKeeper for TransferKept<'a> {
     ghost has_rows = { HasTaken };
 
     fn add_row(&mut self, layout: &Layout, table: TableId, row: &Row) -> Result<(), Memory> {
-        let place = table.0 as usize;
-        let values = &mut self.values;
-        read_at(&mut self.tables, &layout.codes, place, row, values)?;
-        keep_at(&mut self.places, place, row.line, values)?;
-        self.keys.add_row(table, row)
+        self.take_row(layout, table, row, &mut [])
     }
 
     fn row_count(&self, table: TableId) -> usize {
