@@ -9,6 +9,8 @@ pub const CHECK: &[&str] = &["check", "M", "T", "C"];
 
 pub const VERIFY: &[&str] = &["verify", "M", "T", "C"];
 
+pub const POINTS: &[&str] = &["points", "M", "T", "C"];
+
 pub fn words_of(alloc: Global, texts: &[&str]) -> Result<Vec<Word>, Fail> {
     let mut words = Vec::new(alloc);
     for text in texts {

@@ -1,7 +1,7 @@
 //! Calls that a test may run with a refused growth: the answer is the defined one, or out of memory
 //! with nothing done.
 
-use super::calls::{CHECK, VERIFY, certificate, words_of};
+use super::calls::{CHECK, POINTS, VERIFY, certificate, words_of};
 use delivery::{Status, run};
 use ports::{MemoryShelf, MemorySink};
 use std::alloc::Global;
@@ -13,7 +13,7 @@ pub const MODEL: &str =
         END M.\nFORMAT FREE;\n\
         CODE BLANK = DEFAULT, UNDEFINED = DEFAULT, CONTINUE = DEFAULT; TID = ANY; END.\n";
 
-const SEVEN: &str =
+pub const SEVEN: &str =
     "SCNT\n////\nMTID x\nMODL M\nTOPI T\nTABL A\nOBJE 1 7\nETAB\nETOP\nEMOD\nENDE\n";
 
 const NUMBERS: [(Status, u8); 10] = [
@@ -65,6 +65,24 @@ const TWO_DRAWINGS: &str =
 const TWO_ANSWERS: &str =
     "AREA Cover Parcel Form ON 23 9\nAREA Cover Parcel Zone MEETING 15 19\nVERDICT REJECTED\n";
 
+const NUMBERED: &str =
+    "TRANSFER Rows;\nDOMAIN\n  Koord = COORD2 0.000 0.000 1000.000 1000.000;\nMODEL Land\n\
+          TOPIC Cover =\n    TABLE Parcel =\n\
+              Form: AREA WITH (STRAIGHTS) VERTEX Koord;\n\
+            NO IDENT\n    END Parcel;\n    TABLE Number = Of: -> Parcel; Place: Koord;\n\
+            NO IDENT\n    END Number;\n  END Cover.\nEND Land.\nFORMAT FREE;\n\
+        CODE BLANK = DEFAULT, UNDEFINED = DEFAULT, CONTINUE = DEFAULT; TID = ANY; END.\n";
+
+const TWO_NUMBERS: &str =
+    "SCNT\n////\nMTID Rows\nMODL Land\nTOPI Cover\nTABL Parcel_Form\nOBJE 1\nSTPT 100 100\n\
+        LIPT 200 100\nLIPT 200 200\nLIPT 100 100\nELIN\nETAB\nTABL Parcel\nOBJE 1 180 120\nETAB\n\
+        TABL Number\nOBJE 1 1 190 120\nOBJE 2 1 110 190\nETAB\nETOP\nEMOD\nENDE\n";
+
+const LINKED: &str = "LINK Cover Number Place Of Form\n";
+
+const MISPLACED: &str =
+    "AREA Cover Parcel Form PROVED 0 3 1\nLINK 1 19\nLINKS 1 2\nVERDICT REJECTED\n";
+
 // A call over the files M and T, and C where it is there before it; what it answers and puts, and
 // what C holds after it.
 struct Call {
@@ -77,7 +95,7 @@ struct Call {
     after: Option<&'static str>,
 }
 
-const CALLS: [Call; 4] = [
+const CALLS: [Call; 5] = [
     Call {
         words: CHECK,
         model: MODEL,
@@ -114,6 +132,16 @@ const CALLS: [Call; 4] = [
         status: Status::Rejected,
         report: TWO_ANSWERS,
         after: None,
+    },
+    // Of two points one is misplaced.
+    Call {
+        words: POINTS,
+        model: NUMBERED,
+        transfer: TWO_NUMBERS,
+        before: Some(LINKED),
+        status: Status::Rejected,
+        report: MISPLACED,
+        after: Some(LINKED),
     },
 ];
 
