@@ -2,7 +2,7 @@
 """Writes docs/STATEMENT.md: which definitions a reader of the contract of `delivery::run` has to
 believe, in the order of reading: files with the names that others use; for the rule also what each
 file is about and the sentence that stands above each name in specs/; for the answers those above
-`HasCause`. What serves one file is counted.
+`HasCause`. What serves one file alone is in the sums.
 
 It finds `run` in the code of `delivery`, takes the names in its clauses, and follows names from
 definition to definition through the folders specs/ of all crates, by the `use` lines of each file.
@@ -66,7 +66,7 @@ say what they ought to say: **{definitions} definitions with {lines} lines**, in
 that it uses; of the others each answer and clause has how many definitions it adds and which it names, \
 and their files are listed once, by crate. What a clause says is in \
 [PROOFS](PROOFS.md#deliveryrun-the-top-call). Named is a relation or a type that another file or a clause uses; \
-views, and what serves one file alone, are counted. Each definition stands in its file under a sentence; \
+views, and what serves one file alone, are in the sums. Each definition stands in its file under a sentence; \
 the formula is what is proved.
 
 **What else a reader believes.** The types of the code at the end, which are in `src/`; numbers, lists, \
@@ -451,24 +451,22 @@ def section_texts(sources, section, used, with_sentences, before):
     for name, definitions in section.modules.items():
         named = [one for one in definitions if one.name[0].isupper() and one in used]
         if named:
-            rests = len(definitions) - len(named)
-            text.append(file_text(sources, name, named, rests, with_sentences, name in before))
+            text.append(file_text(sources, name, named, with_sentences, name in before))
         else:
             rest.append(f"`{link(sources, name)[0]}` {link(sources, name)[1]} {len(definitions)}")
     return text + ([f"- Views, and what serves one file: {', '.join(rest)}"] if rest else [])
 
 
-def file_text(sources, name, named, rest, with_sentences, again):
+def file_text(sources, name, named, with_sentences, again):
     """The entry of a file: its names, of the rule with their sentences and with what the file is about
-    where it comes first, and how many definitions are not named."""
+    where it comes first."""
     crate, linked = link(sources, name)
     said = [f"`{one.name}`" for one in named]
     if with_sentences:
         said = [f"`{one.name}`: {escaped(first_sentence(one.comment))}" for one in named]
     said = (". " if with_sentences else ", ").join(said)
-    more = f" {rest} more." if rest else ""
     about = f"{escaped(first_sentence(sources.modules[name].head))}. " if with_sentences and not again else ""
-    return f"- `{crate}` {linked}: {about}{said}.{more}"
+    return f"- `{crate}` {linked}: {about}{said}."
 
 
 def crate_texts(sources, sections):
