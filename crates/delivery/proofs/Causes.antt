@@ -192,9 +192,10 @@ module _ (laws : AreaLaws) (held : Option Files) (counted : List ℕ → Type 0)
 
         parted : some_fault j.answers ≡ false → some_undecided j.answers ≡ false
             → surface_fault l j.surface_answers ≡ false → AreParted l rows
-        parted f h e =
-            (parted_areas laws l rows j.drawings j.answers j.certificates j.drawn j.answered f h,
-            right e)
+        parted f h e = (
+          parted_areas laws l rows j.drawings j.answers j.certificates j.drawn j.answered f h,
+          right e,
+        )
 
         found : some_fault j.answers ≡ false → some_undecided j.answers ≡ false
             → AreTested l rows j.drawings rules j.misplaced
@@ -208,11 +209,17 @@ module _ (laws : AreaLaws) (held : Option Files) (counted : List ℕ → Type 0)
             → some_undecided j.answers ≡ g → some_misplaced j.misplaced ≡ m
             → HasCause held counted words (kinds (f || s) g m).status
         by true s g m f e h n =
-            rejects (inr (inl ((rules, q), inl (faulty_area laws l rows j.drawings j.answers
-            j.certificates j.drawn j.answered f))))
+            rejects (inr (inl (
+              (rules, q),
+              inl (faulty_area laws l rows j.drawings j.answers
+                  j.certificates j.drawn j.answered f),
+            )))
         by false true g m f e h n =
-            rejects (inr (inl ((rules, q), inr (faulty_surface l rows (surfaces l)
-            j.surface_answers j.surfaces_answered e))))
+            rejects (inr (inl (
+              (rules, q),
+              inr (faulty_surface l rows (surfaces l)
+                  j.surface_answers j.surfaces_answered e),
+            )))
         by false false true m f e h n = (
           c,
           l,
@@ -234,8 +241,15 @@ module _ (laws : AreaLaws) (held : Option Files) (counted : List ℕ → Type 0)
           ),
         )
         by false false false true f e h n =
-            rejects (inr (inr (parted f h e, (rules, q, some_fails l rows j.drawings j.drawn rules
-            j.misplaced (found f h) n))))
+            rejects (inr (inr (
+              parted f h e,
+              (
+                rules,
+                q,
+                some_fails l rows j.drawings j.drawn rules
+                    j.misplaced (found f h) n,
+              ),
+            )))
         by false false false false f e h n = (
           c,
           l,

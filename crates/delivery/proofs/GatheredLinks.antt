@@ -194,8 +194,8 @@ module _ (l : Layout) (rows : List (List Row)) (rules : List Rule) (asked : List
           g.area_is,
           d.1,
           subst (AreMisplaced (area_tolerance l g.a) d.0 (pairs_of l rows r)) (sym lines)
-          (zip_at (AreMisplaced (area_tolerance l g.a) d.0) (asked_pairs f.q)
-          (slice_index_or results r.area []) f.i (pairs_of l rows r) some f.pairs),
+              (zip_at (AreMisplaced (area_tolerance l g.a) d.0) (asked_pairs f.q)
+              (slice_index_or results r.area []) f.i (pairs_of l rows r) some f.pairs),
         )
 
     pub tested : (rs : List Rule)

@@ -2,15 +2,15 @@
 mod closing;
 mod found;
 mod keeping;
-mod linked;
 mod lines;
+mod linked;
 mod linking;
 mod rows;
 
 pub use closing::{Judged, judge_end, judge_rows};
 pub use found::TableFound;
 pub use keeping::{RowKeeper, count_objects};
-pub use linked::{CleanLinks, LinksJudged, judge_links};
 pub use lines::Judge;
+pub use linked::{CleanLinks, LinksJudged, judge_links};
 pub use linking::LinksKept;
 pub use rows::TransferKept;

@@ -31,10 +31,7 @@ pub struct AskedArea {
 fn are_alike(a: &LinkRule, b: &LinkRule) -> bool
     ensures { result ≡ are_alike (rule_view a.now) (rule_view b.now) }
 {
-    a.table.0 == b.table.0
-        && a.point == b.point
-        && a.reference == b.reference
-        && a.area == b.area
+    a.table.0 == b.table.0 && a.point == b.point && a.reference == b.reference && a.area == b.area
 }
 
 /// The place of the first rule that asks the same, if there is one.
@@ -142,15 +139,7 @@ pub fn asked_areas(
 {
     let mut asked = Vec::with_capacity(alloc, layout.areas.len())?;
     for number in 0..layout.areas.len() {
-        asked.push(asked_area(
-            alloc,
-            layout,
-            keys,
-            places,
-            points,
-            rules,
-            number as u32,
-        )?)?;
+        asked.push(asked_area(alloc, layout, keys, places, points, rules, number as u32)?)?;
     }
     Ok(asked)
 }

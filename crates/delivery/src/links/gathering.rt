@@ -67,11 +67,7 @@ fn count_at(place: Option<usize>, pairs: &[Vec<LinkPair>]) -> usize
 }
 
 // The lines of the pairs of a rule that do not hold, by the results of its area.
-fn rule_lines<'r>(
-    asked: &[AskedArea],
-    results: &'r [Vec<Vec<u32>>],
-    rule: &LinkRule,
-) -> &'r [u32]
+fn rule_lines<'r>(asked: &[AskedArea], results: &'r [Vec<Vec<u32>>], rule: &LinkRule) -> &'r [u32]
     ensures { result.now
         ≡ rule_lines asked.now (all_results results.now) (rule_view rule.now) }
 {

@@ -105,11 +105,7 @@ pub fn misplaced_lines<'r>(
 /// The lines of the pairs that do not hold in a drawing that `find_area` proves: the pair has no
 /// object, or its point does not lie in the region of the object's point. The only error is out of
 /// memory. It takes one search of the drawing, and one walk over the pairs; 24 bytes for each.
-pub fn misplaced(
-    alloc: Global,
-    drawing: &Drawing,
-    pairs: &[LinkPair],
-) -> Result<Vec<u32>, Memory>
+pub fn misplaced(alloc: Global, drawing: &Drawing, pairs: &[LinkPair]) -> Result<Vec<u32>, Memory>
     requires curves { length (plan drawing.now).curves ≤ 16000000 }
     requires proved { (c : Certificate)
         × IsAnswerBy drawing.now.tolerance (plan drawing.now) (Proved c) }
