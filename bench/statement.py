@@ -1,7 +1,8 @@
 #!/usr/bin/env python3
 """Writes docs/STATEMENT.md: which definitions a reader of the contract of `delivery::run` has to
-believe, in the order of reading: files with what they are about and the names that others use; for
-the rule also the sentence that stands above each name in specs/; what serves one file is counted.
+believe, in the order of reading: files with the names that others use; for the rule also what each
+file is about and the sentence that stands above each name in specs/; for the answers those above
+`HasCause`. What serves one file alone is in the sums.
 
 It finds `run` in the code of `delivery`, takes the names in its clauses, and follows names from
 definition to definition through the folders specs/ of all crates, by the `use` lines of each file.
@@ -63,8 +64,9 @@ say what they ought to say: **{definitions} definitions with {lines} lines**, in
 
 **How to read it.** A part has what no part before it has. In the first one a file stands after those \
 that it uses; of the others each answer and clause has how many definitions it adds and which it names, \
-and their files are listed once, by crate. Named is a relation or a type that another file or a clause uses; \
-views, and what serves one file alone, are counted. Each definition stands in its file under a sentence; \
+and their files are listed once, by crate. What a clause says is in \
+[PROOFS](PROOFS.md#deliveryrun-the-top-call). Named is a relation or a type that another file or a clause uses; \
+views, and what serves one file alone, are in the sums. Each definition stands in its file under a sentence; \
 the formula is what is proved.
 
 **What else a reader believes.** The types of the code at the end, which are in `src/`; numbers, lists, \
@@ -418,11 +420,12 @@ def page_of(sources, contract, parts):
 
 
 def clause_text(section):
-    """The entry of an answer or a clause: how many definitions it adds, those that it names, and its
-    sentence."""
+    """The entry of an answer or a clause: how many definitions it adds, those that it names, and of an
+    answer its sentences. What a clause says is on the page of proofs."""
     named = [f"`{one.name}`" for one in section.starts if isinstance(one, Definition)]
     added = ", ".join([str(len(section.definitions())), *dict.fromkeys(named)])
-    return f"- **{section.title}** ({added}): {escaped(section.text)}"
+    said = f": {escaped(section.text)}" if section.title in STATUSES else ""
+    return f"- **{section.title}** ({added}){said}"
 
 
 def used_elsewhere(sources, contract, sections):
@@ -448,24 +451,22 @@ def section_texts(sources, section, used, with_sentences, before):
     for name, definitions in section.modules.items():
         named = [one for one in definitions if one.name[0].isupper() and one in used]
         if named:
-            rests = len(definitions) - len(named)
-            text.append(file_text(sources, name, named, rests, with_sentences, name in before))
+            text.append(file_text(sources, name, named, with_sentences, name in before))
         else:
             rest.append(f"`{link(sources, name)[0]}` {link(sources, name)[1]} {len(definitions)}")
     return text + ([f"- Views, and what serves one file: {', '.join(rest)}"] if rest else [])
 
 
-def file_text(sources, name, named, rest, with_sentences, again):
-    """The entry of a file: what it is about, if it is not there again, its names, and how many
-    definitions are not named."""
+def file_text(sources, name, named, with_sentences, again):
+    """The entry of a file: its names, of the rule with their sentences and with what the file is about
+    where it comes first."""
     crate, linked = link(sources, name)
     said = [f"`{one.name}`" for one in named]
     if with_sentences:
         said = [f"`{one.name}`: {escaped(first_sentence(one.comment))}" for one in named]
     said = (". " if with_sentences else ", ").join(said)
-    more = f" {rest} more." if rest else ""
-    about = "" if again else f"{escaped(first_sentence(sources.modules[name].head))}. "
-    return f"- `{crate}` {linked}: {about}{said}.{more}"
+    about = f"{escaped(first_sentence(sources.modules[name].head))}. " if with_sentences and not again else ""
+    return f"- `{crate}` {linked}: {about}{said}."
 
 
 def crate_texts(sources, sections):

@@ -16,16 +16,20 @@ use Rattle.delivery.specs.AreaAnswers.{AreAnswers}
 use Rattle.delivery.specs.Verifying.{IsVerification}
 use Rattle.plane.specs.Rule.Plans.{Plan}
 use Rattle.area_drawings.proofs.Windows.{same_drawings}
-use Rattle.commands.specs.Commands.{Command, Source, Target, Task, lists, judges, verifies, rewrites, task_of, from_file, made, limit_of, model_of, further_files, IsCommand}
+use Rattle.commands.specs.Commands.{Command, Source, Target, Task, lists, judges, verifies, rewrites, tests_points, task_of, from_file, made, limit_of, model_of, further_files, IsCommand}
 use Rattle.delivery.specs.Deciding.{Decides, formless, formed}
 use Rattle.area_drawings.specs.AreaLimits.{has_too_large}
+use Rattle.area_links.specs.Rules.{Rule, links_of}
+use Rattle.std.specs.Prelude.{Ok, Err}
+use Rattle.delivery.specs.Links.{AreLinked, AreTestedBy, IsLinked, bad, tested}
+use Rattle.delivery.proofs.LinkedOutcomes.{agree_by_rules}
 use Rattle.delivery.specs.FiledTexts.{AreVerified, IsVerified}
 use Rattle.commands.specs.Gathering as gathering
 use Rattle.commands.specs.Gathering.{Gathered, Reads, ReadsAll, Compiles, Gathers}
 use Rattle.delivery.specs.Causes.{HasOutcome}
 use Rattle.delivery.specs.Judging.{lines_of, findings, objects, IsMisbuilt, IsTextOf, IsClean, AreJudged, IsJudgedBy, at_fault, faulty, oversized, sound, IsChecked}
 use Rattle.commands.specs.ModelTexts.{Refusal, IsRefused, HasLayout}
-use Rattle.reports.specs.Outcomes.{Filing, Outcome, misbuilt, rejected, areas_outcome, verified, canonical, report_of}
+use Rattle.reports.specs.Outcomes.{bad_link, Filing, Outcome, misbuilt, rejected, areas_outcome, verified, canonical, report_of}
 use Rattle.delivery.specs.Rewriting.{canon_of, IsRewritten, misread, without_text, written}
 use Rattle.commands.specs.Reading.{IsWhole, IsLonger}
 use Rattle.delivery.proofs.AreaLemmas.{AreaLaws, same_lines, areas_agree}
@@ -240,6 +244,24 @@ module _ (laws : AreaLaws) where
       (subst (λ (ds : List Plan). IsVerification l ds filed j.verification) (same_drawings l rows l.areas j.drawings k.drawings j.drawn k.drawn) j.judged) k.judged)
       ∙ sym k.is)
 
+  agree_links : (l : Layout) (links : List ℕ) (rows : List (List Row)) (o p : Outcome)
+      → AreLinked l links rows o → AreLinked l links rows p → Agree o p
+  agree_links l links rows o p (bad n e q) (bad m f r) =
+      agree_same o p (q ∙ (ap bad_link (same_bad n m (sym e ∙ f)) ∙ sym r))
+    where
+      same_bad : (n m : ℕ) → Err {List Rule} {ℕ} n ≡ Err m → n ≡ m
+      same_bad n m e = cc
+  agree_links l links rows o p (bad n e q) (tested rules f k) =
+      absurd (let x = sym e ∙ f in cc)
+  agree_links l links rows o p (tested rules e j) (bad m f r) =
+      absurd (let x = sym e ∙ f in cc)
+  agree_links l links rows o p (tested rules e j) (tested more f k) =
+      agree_by_rules laws l rows rules o p j
+      (subst (λ (rs : List Rule). AreTestedBy l rs rows p) (same_rules more rules (sym f ∙ e)) k)
+    where
+      same_rules : (a b : List Rule) → Ok {List Rule} {ℕ} a ≡ Ok b → a ≡ b
+      same_rules a b e = cc
+
   agree_text : (target : Target) (l : Layout) (text : List ℕ) (o p : Outcome) → IsChecked target l text o → IsChecked target l text p → Agree o p
   agree_text target l text = agree_judged l text (AreJudged target l) (agree_areas target l)
 
@@ -254,6 +276,8 @@ module _ (laws : AreaLaws) where
   agree_amount (judges s target) (gathering.texts l (text ∷ [])) o p h k = agree_text target l text o p h k
   agree_amount (verifies s r) (gathering.texts l (text ∷ filed ∷ [])) o p h k = agree_filed l text filed o p h k
   agree_amount (rewrites s name) (gathering.texts l (text ∷ [])) o p h k = agree_rewritten name l text o p h k
+  agree_amount (tests_points s r) (gathering.texts l (text ∷ links ∷ [])) o p h k =
+      agree_judged l text (AreLinked l links) (agree_links l links) o p h k
   agree_amount t (gathering.texts l ts) o p h k = absurd h
 
   files_agree : (t : Task) (g h : Gathered) (o p : Outcome) → Same g h → HasOutcome t g o → HasOutcome t h p → AgreeUnlessUnread o p

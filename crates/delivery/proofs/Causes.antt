@@ -7,14 +7,25 @@ use Rattle.table_layout.specs.Layouts.{Layout}
 use Rattle.reports.specs.declared.status.Status.{Status}
 use Rattle.reports.specs.declared.status.Status.TheVariants.{Accepted, Rejected, Undecided, ModelRefused, Usage, ReadFault, WriteFault, OverLimit, Memory, NotProved}
 use Rattle.delivery.specs.Answers.{HasCause}
-use Rattle.commands.specs.Commands.{Command, Source, Target, Task, lists, judges, verifies, rewrites, task_of, IsCommand}
+use Rattle.commands.specs.Commands.{Command, Source, Target, Task, lists, judges, verifies, rewrites, tests_points, task_of, IsCommand}
 use Rattle.delivery.specs.Deciding.{Decides, formless, formed}
 use Rattle.commands.specs.Gathering as gathering
 use Rattle.commands.specs.Gathering.{Gathered, Gathers}
 use Rattle.delivery.specs.Causes.{HasOutcome, HasFault, HasLargeArea, Accepts, Rejects, LeavesUndecided, Unproves, IsOversized}
 use Rattle.delivery.specs.Judging.{findings, objects, HasSoundRows, AreJudged, IsJudgedBy, at_fault, faulty, oversized, sound, IsChecked}
 use Rattle.delivery.specs.Rewriting.{canon_of, IsRewritten, misread, without_text, written}
-use Rattle.reports.specs.Outcomes.{Outcome, usage, unread, too_long, area_too_large, refused, compiled, misbuilt, rejected, verified, canonical, canon_refused}
+use Rattle.reports.specs.Outcomes.{bad_link, Outcome, usage, unread, too_long, area_too_large, refused, compiled, misbuilt, rejected, verified, canonical, canon_refused}
+use Rattle.std.proofs.Common.{length}
+use Rattle.std.specs.Prelude.{Ok}
+use Rattle.area_links.specs.Rules.{Rule, links_of}
+use Rattle.area_drawings.specs.AreaLimits.{has_too_large}
+use Rattle.delivery.specs.Answers.{Passes}
+use Rattle.delivery.specs.Causes.{AreLinksWrong, AreParted}
+use Rattle.delivery.specs.Judging.{IsClean, IsTextOf}
+use Rattle.delivery.specs.Links.{AreLinked, AreTested, AreTestedBy, IsLinked, bad, pair_count}
+use Rattle.delivery.specs.Links.{tested}
+use Rattle.delivery.proofs.HeldLinks.{all_held, some_fails, some_misplaced}
+use Rattle.delivery.proofs.LinkedOutcomes.{fine_all, linked_by, linked_is}
 use Rattle.delivery.specs.FiledTexts.{AreVerified, IsVerified}
 use Rattle.reports.specs.Verifications as verifications
 use Rattle.delivery.specs.Verifying.{IsVerification}
@@ -152,6 +163,109 @@ module _ (laws : AreaLaws) (held : Option Files) (counted : List ℕ → Type 0)
     verify_means : (o : Outcome) → IsVerified l text filed o → HasCause held counted words o.status
     verify_means = judged_means c i l text (text ∷ filed ∷ []) g_ (with_filed Rejects) (with_filed IsOversized) (AreVerified l filed) filed_mean
 
+  -- a transfer with links
+  module _ (c : Command) (s r : Source) (e : task_of c ≡ tests_points s r) (i : IsCommand words c)
+      (l : Layout) (text links : List ℕ)
+      (g_ : Gathers held counted c (gathering.texts l (text ∷ links ∷ []))) where
+    with_links : (test : Task → Layout → List (List ℕ) → Type 0)
+        → test (tests_points s r) l (text ∷ links ∷ []) → test (task_of c) l (text ∷ links ∷ [])
+    with_links test h = subst (λ (t : Task). test t l (text ∷ links ∷ [])) (sym e) h
+
+    tested_mean : (rules : List Rule) → links_of l links ≡ Ok rules → (rows : List (List Row))
+        → IsTextOf l text rows → IsClean l rows → has_too_large rows l.areas ≡ false
+        → (o : Outcome) → AreTestedBy l rules rows o → HasCause held counted words o.status
+    tested_mean rules q rows t k b o j =
+        moved o (kinds (some_fault j.answers || surface_fault l j.surface_answers)
+        (some_undecided j.answers) (some_misplaced j.misplaced))
+        (j.is ∙ linked_is l (objects rows) j.surface_answers j.answers j.misplaced (length rules)
+        (pair_count l rows rules) j.drawings j.certificates j.answered)
+        (by (some_fault j.answers) (surface_fault l j.surface_answers)
+        (some_undecided j.answers) (some_misplaced j.misplaced) refl refl refl refl)
+      where
+        kinds : Bool → Bool → Bool → Outcome
+        kinds f g m =
+            linked_by l (objects rows) j.surface_answers j.answers j.misplaced (length rules)
+            (pair_count l rows rules) f g m
+
+        right : surface_fault l j.surface_answers ≡ false → AreRightSurfaces l rows
+        right = right_surfaces l rows (surfaces l) j.surface_answers j.surfaces_answered
+
+        parted : some_fault j.answers ≡ false → some_undecided j.answers ≡ false
+            → surface_fault l j.surface_answers ≡ false → AreParted l rows
+        parted f h e =
+            (parted_areas laws l rows j.drawings j.answers j.certificates j.drawn j.answered f h,
+            right e)
+
+        found : some_fault j.answers ≡ false → some_undecided j.answers ≡ false
+            → AreTested l rows j.drawings rules j.misplaced
+        found f h = j.tested (fine_all j.answers f h)
+
+        rejects : AreLinksWrong l links rows → Passes held counted words Rejects
+        rejects h =
+            (c, l, text ∷ links ∷ [], i, g_, with_links Rejects (inr (rows, t, k, b, h)))
+
+        by : (f s g m : Bool) → some_fault j.answers ≡ f → surface_fault l j.surface_answers ≡ s
+            → some_undecided j.answers ≡ g → some_misplaced j.misplaced ≡ m
+            → HasCause held counted words (kinds (f || s) g m).status
+        by true s g m f e h n =
+            rejects (inr (inl ((rules, q), inl (faulty_area laws l rows j.drawings j.answers
+            j.certificates j.drawn j.answered f))))
+        by false true g m f e h n =
+            rejects (inr (inl ((rules, q), inr (faulty_surface l rows (surfaces l)
+            j.surface_answers j.surfaces_answered e))))
+        by false false true m f e h n = (
+          c,
+          l,
+          text ∷ links ∷ [],
+          i,
+          g_,
+          with_links LeavesUndecided (
+            rows,
+            t,
+            k,
+            b,
+            (
+              (rules, q),
+              (
+                left_areas laws l rows j.drawings j.answers j.certificates j.drawn j.answered f h,
+                right e,
+              ),
+            ),
+          ),
+        )
+        by false false false true f e h n =
+            rejects (inr (inr (parted f h e, (rules, q, some_fails l rows j.drawings j.drawn rules
+            j.misplaced (found f h) n))))
+        by false false false false f e h n = (
+          c,
+          l,
+          text ∷ links ∷ [],
+          i,
+          g_,
+          with_links Accepts (
+            rows,
+            t,
+            k,
+            b,
+            (
+              parted f h e,
+              (rules, q, all_held l rows j.drawings j.drawn rules j.misplaced (found f h) n),
+            ),
+          ),
+        )
+
+    links_mean : (o : Outcome) → HasSoundRows l text (λ rows. AreLinked l links rows o)
+        → HasCause held counted words o.status
+    links_mean o (rows, t, k, b, bad n q w) =
+        moved o (bad_link n) w
+        (c, l, text ∷ links ∷ [], i, g_, with_links Rejects (inr (rows, t, k, b, inl (n, q))))
+    links_mean o (rows, t, k, b, tested rules q j) = tested_mean rules q rows t k b o j
+
+    linked_means : (o : Outcome) → IsLinked l text links o → HasCause held counted words o.status
+    linked_means =
+        judged_means c i l text (text ∷ links ∷ []) g_ (λ h. with_links Rejects (inl h))
+        (with_links IsOversized) (AreLinked l links) links_mean
+
   -- a transfer that is written in its canonical text
   rewrite_means : (c : Command) (s : Source) (name : List ℕ) → task_of c ≡ rewrites s name → IsCommand words c → (l : Layout) (text : List ℕ) → Gathers held counted c (gathering.texts l (text ∷ [])) → (o : Outcome) → IsRewritten name l text o → HasCause held counted words o.status
   rewrite_means c s name e i l text g o (misread n code h q) =
@@ -170,6 +284,8 @@ module _ (laws : AreaLaws) (held : Option Files) (counted : List ℕ → Type 0)
   task_means c (judges s target) (gathering.texts l (text ∷ [])) e i h o k = checked_means c s target e i l text h o k
   task_means c (verifies s r) (gathering.texts l (text ∷ filed ∷ [])) e i h o k = verify_means c s r e i l text filed h o k
   task_means c (rewrites s name) (gathering.texts l (text ∷ [])) e i h o k = rewrite_means c s name e i l text h o k
+  task_means c (tests_points s r) (gathering.texts l (text ∷ links ∷ [])) e i h o k =
+      linked_means c s r e i l text links h o k
   task_means c t (gathering.texts l ts) e i h o k = absurd k
 
   -- the status of the outcome has its cause
@@ -218,6 +334,28 @@ judged_fixed l text Areas areas o (faulty rows t n e) = fixed_as o (rejected (fi
 judged_fixed l text Areas areas o (oversized rows t k b e) = fixed_as o area_too_large e tt
 judged_fixed l text Areas areas o (sound h) = areas h.0 o h.4
 
+links_fixed : (l : Layout) (links : List ℕ) (rows : List (List Row)) (o : Outcome)
+    → AreLinked l links rows o → IsFixed o.status
+links_fixed l links rows o (bad n q e) = fixed_as o (bad_link n) e tt
+links_fixed l links rows o (tested rules q j) =
+    fixed_as o (kinds (some_fault j.answers || surface_fault l j.surface_answers)
+    (some_undecided j.answers) (some_misplaced j.misplaced))
+    (j.is ∙ linked_is l (objects rows) j.surface_answers j.answers j.misplaced (length rules)
+    (pair_count l rows rules) j.drawings j.certificates j.answered)
+    (by (some_fault j.answers || surface_fault l j.surface_answers) (some_undecided j.answers)
+    (some_misplaced j.misplaced))
+  where
+    kinds : Bool → Bool → Bool → Outcome
+    kinds f g m =
+        linked_by l (objects rows) j.surface_answers j.answers j.misplaced (length rules)
+        (pair_count l rows rules) f g m
+
+    by : (f g m : Bool) → IsFixed (kinds f g m).status
+    by true g m = tt
+    by false true m = tt
+    by false false true = tt
+    by false false false = tt
+
 rewrite_fixed : (name : List ℕ) (l : Layout) (text : List ℕ) (o : Outcome) → IsRewritten name l text o → IsFixed o.status
 rewrite_fixed name l text o (misread n code h e) = fixed_as o (misbuilt n code) e tt
 rewrite_fixed name l text o (without_text rows t k e) = fixed_as o canon_refused e tt
@@ -231,6 +369,8 @@ task_fixed lists (gathering.texts l ts) o e = fixed_as o (compiled l) e tt
 task_fixed (judges s target) (gathering.texts l (text ∷ [])) o k = judged_fixed l text (AreJudged target l) (λ rows p j. areas_fixed target l rows p j) o k
 task_fixed (verifies s r) (gathering.texts l (text ∷ filed ∷ [])) o k = judged_fixed l text (AreVerified l filed) (λ rows p j. verified_fixed l rows filed p j) o k
 task_fixed (rewrites s name) (gathering.texts l (text ∷ [])) o k = rewrite_fixed name l text o k
+task_fixed (tests_points s r) (gathering.texts l (text ∷ links ∷ [])) o k =
+    judged_fixed l text (AreLinked l links) (λ rows p j. links_fixed l links rows p j) o k
 task_fixed t (gathering.texts l ts) o k = absurd k
 
 fixed : (held : Option Files) (counted : List ℕ → Type 0) (words : List (List ℕ)) (o : Outcome) → Decides held counted words o → IsFixed o.status

@@ -12,7 +12,7 @@ use Rattle.delivery.specs.AreaAnswers.{IsAnswer, faulty, undecided, proved, AreA
 use Rattle.delivery.specs.AreaCertificates.{IsCertificateOf, AreCertificatesOf}
 use Rattle.delivery.specs.AreaPolygons.{ArePolygonsFor}
 use Rattle.delivery.specs.Certified.{AreCertified, LeavesFiled, Leaves, Certifies}
-use Rattle.commands.specs.Commands.{Command, Target, Source, Task, lists, judges, verifies, rewrites, task_of, writes_to}
+use Rattle.commands.specs.Commands.{Command, Target, Source, Task, lists, judges, verifies, rewrites, tests_points, task_of, writes_to}
 use Rattle.commands.specs.declared.task.Filed.{Filed}
 use Rattle.commands.specs.declared.task.Filed.TheVariants as filed
 use Rattle.delivery.specs.Deciding.{Decides, formless, formed}
@@ -139,6 +139,7 @@ filed_by (judges r target) name (gathering.texts l (text ∷ [])) o w k s = file
 filed_by (rewrites r file) name (gathering.texts l (text ∷ [])) o w k s = canon_filed r file name l text o w k s
 filed_by lists name (gathering.texts l ts) o w k s = absurd (cc)
 filed_by (verifies r f) name (gathering.texts l ts) o w k s = absurd (cc)
+filed_by (tests_points r f) name (gathering.texts l ts) o w k s = absurd (cc)
 filed_by t name (gathering.texts l ts) o w k s = absurd k
 
 pub certifies : (held : Option Files) (counted : List ℕ → Type 0) (words : List (List ℕ)) (o : Outcome) (new : Option Files) → Decides held counted words o → o.status ≡ Accepted → IsFiled o.filing held new → Certifies held counted words new

@@ -8,7 +8,7 @@ use Rattle.table_layout.specs.Layouts.{Layout}
 use Rattle.delivery.specs.Causes.{HasStraightAreas, LeavesUndecided}
 use Rattle.delivery.specs.Answers.{HasCause, Passes}
 use Rattle.delivery.specs.AreaAnswers.{HaveStraightLines}
-use Rattle.commands.specs.Commands.{Task, judges}
+use Rattle.commands.specs.Commands.{Task, judges, tests_points}
 use Rattle.delivery.specs.Judging.{lines_of}
 use Rattle.reports.specs.declared.status.Status.{Status}
 use Rattle.reports.specs.declared.status.Status.TheVariants.{Undecided}
@@ -17,6 +17,10 @@ use Rattle.delivery.proofs.AreaLemmas.{straights_decided}
 
 none_in : (t : Task) (l : Layout) (ts : List (List ℕ)) → HasStraightAreas t l ts → LeavesUndecided t l ts → ⊥
 none_in (judges s target) l (text ∷ []) k h = straights_decided l h.0 (subst (HaveStraightLines l) (one_transfer (form_of l) (lines_of l text).lines k.0 h.0 k.1.1 h.1.1) k.2) h.4.0
+none_in (tests_points s r) l (text ∷ links ∷ []) k h =
+    straights_decided l h.0
+    (subst (HaveStraightLines l)
+    (one_transfer (form_of l) (lines_of l text).lines k.0 h.0 k.1.1 h.1.1) k.2) h.4.1.0
 none_in t l ts k h = h
 
 pub none_left : (files : Files) (far near : List ℕ → Type 0) (words : List (List ℕ)) → Passes (Some files) far words HasStraightAreas → Passes (Some files) near words LeavesUndecided → ⊥

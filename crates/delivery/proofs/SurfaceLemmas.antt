@@ -48,10 +48,10 @@ all_middle P [] x after a = All-head P x after a
 all_middle P (y ∷ before) x after a =
     all_middle P before x after (All-tail P y (before ++ x ∷ after) a)
 
-any_here : {X : Type 0} (P : X → Type 0) (x : X) (xs : List X) → P x → Any P (x ∷ xs)
+pub any_here : {X : Type 0} (P : X → Type 0) (x : X) (xs : List X) → P x → Any P (x ∷ xs)
 any_here P x xs h = (0, x, omega arith, refl, h)
 
-any_there : {X : Type 0} (P : X → Type 0) (x : X) (xs : List X) → Any P xs → Any P (x ∷ xs)
+pub any_there : {X : Type 0} (P : X → Type 0) (x : X) (xs : List X) → Any P xs → Any P (x ∷ xs)
 any_there P x xs h = (suc h.0, h.1, (let n = h.2 in omega (arith, n)), h.3, h.4)
 
 any_middle : {X : Type 0} (P : X → Type 0) (before : List X) (x : X) (after : List X) → P x
@@ -175,7 +175,7 @@ module _ (l : Layout) (rows : List (List Row)) where
           (all_middle (IsRight all) before b after (subst (All (IsRight all)) e r)))
 
 -- what holds of all elements holds of the one that there is
-both_at : {X : Type 0} (P Q : X → Type 0) (xs : List X) → All P xs → Any Q xs
+pub both_at : {X : Type 0} (P Q : X → Type 0) (xs : List X) → All P xs → Any Q xs
     → (x : X) × P x × Q x
 both_at P Q xs s h = (h.1, subst P h.3 (s h.0 h.1 h.2), h.4)
 

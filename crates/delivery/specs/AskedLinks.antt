@@ -20,6 +20,7 @@ use Rattle.delivery.specs.Links.{AreMisplaced, misplaced_by}
 use Rattle.delivery.specs.declared.links.asked.AskedArea.{AskedArea}
 
 -- ---- rules that ask the same
+-- two rules name the same table, columns and area
 abbrev pub are_alike : Rule → Rule → Bool
 are_alike a b =
     (((a.table == b.table) && (a.point == b.point)) && (a.reference == b.reference))
@@ -43,9 +44,11 @@ pub record IsAskedOf (number : ℕ) (rules asked : List Rule) : Type 0 where
   pub whole : (r : Rule) → IsAmong rules r → r.area ≡ number → HasAlike asked r
 
 -- ---- the pairs of the rules of each area
+-- the code's pairs of a rule
 abbrev pub pairs_view : Vec LinkPair → List LinkPair
 pairs_view v = v.items
 
+-- the code's pairs of some rules
 abbrev pub pairs_in : List (Vec LinkPair) → List (List LinkPair)
 pairs_in ps = map pairs_view ps
 
@@ -62,12 +65,15 @@ pub record AreAsked (l : Layout) (rows : List (List Row)) (rules : List Rule)
   pub each : (k : ℕ) (x : AskedArea) → slice_get xs k ≡ Some x → IsAsked l rows rules k x
 
 -- ---- what is found
+-- the code's lines of a rule
 abbrev pub lines_view : Vec ℕ → List ℕ
 lines_view v = v.items
 
+-- the code's lines of the rules of an area
 abbrev pub results_view : Vec (Vec ℕ) → List (List ℕ)
 results_view v = map lines_view v.items
 
+-- the same of all areas
 abbrev pub all_results : List (Vec (Vec ℕ)) → List (List (List ℕ))
 all_results rs = map results_view rs
 
@@ -82,6 +88,7 @@ pub record IsTestedAnswer (l : Layout) (a : AreaOf) (d : Plan) (pss : List (List
   pub answer : IsAnswer l a d x cs
   pub results_are : is_fine (answer_kind x) ≡ true → AreResults (area_tolerance l a) d pss results
 
+-- the pairs of each rule that asks an area
 abbrev pub asked_pairs : AskedArea → List (List LinkPair)
 asked_pairs x = pairs_in x.pairs.items
 
@@ -97,18 +104,22 @@ pub record AreTestedAnswers (l : Layout) (ds : List Plan) (asked : List AskedAre
       → AreResults (area_tolerance l a) d (asked_pairs q) (slice_index_or results k [])
 
 -- ---- what is reported of a rule
+-- the lines of the rule at that place; none where there is no place
 abbrev pub lines_at : Option ℕ → List (List ℕ) → List ℕ
 lines_at None results = []
 lines_at (Some i) results = slice_index_or results i []
 
+-- how many pairs the rule at that place has; 0 where there is no place
 abbrev pub count_at : Option ℕ → List (List LinkPair) → ℕ
 count_at None pss = 0
 count_at (Some i) pss = length (slice_index_or pss i [])
 
+-- the lines of the rule that asks the same of the area; none where there is no area
 abbrev pub lines_in : Option AskedArea → Rule → List (List ℕ) → List ℕ
 lines_in None r results = []
 lines_in (Some x) r results = lines_at (place_alike (rules_view x.rules.items) r) results
 
+-- how many pairs that rule has; 0 where there is no area
 abbrev pub count_in : Option AskedArea → Rule → ℕ
 count_in None r = 0
 count_in (Some x) r = count_at (place_alike (rules_view x.rules.items) r) (asked_pairs x)

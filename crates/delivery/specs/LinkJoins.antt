@@ -19,9 +19,11 @@ abbrev pub left_after : {X : Type 0} → (X → ℕ) → ℕ → List X → List
 left_after line_of line [] = []
 left_after line_of line (x ∷ xs) = if nat_eq (line_of x) line then xs else x ∷ xs
 
+-- the line of a row with a point
 abbrev pub placed_line : Placed → ℕ
 placed_line p = p.line
 
+-- the line of a row with a reference
 abbrev pub named_line : Named → ℕ
 named_line n = n.line
 
@@ -33,9 +35,11 @@ point_in line points = option_map (λ (p : Placed). p.at) (first_in placed_line 
 abbrev pub name_in : ℕ → List Named → Option (Option ℕ)
 name_in line names = option_map (λ (n : Named). n.row) (first_in named_line line names)
 
+-- the points of the rows after that line
 abbrev pub points_after : ℕ → List Placed → List Placed
 points_after line points = left_after placed_line line points
 
+-- what the rows after that line refer to
 abbrev pub names_after : ℕ → List Named → List Named
 names_after line names = left_after named_line line names
 

@@ -18,9 +18,11 @@ use Rattle.delivery.specs.declared.judging.linked.CleanLinks.{CleanLinks}
 use Rattle.delivery.specs.declared.judging.linked.LinksJudged.{LinksJudged}
 use Rattle.delivery.specs.declared.judging.linked.LinksJudged.TheVariants as judged
 
--- of rows without findings: their number, drawings and answers, the rules, and what these ask
+-- of rows without findings, whose areas are within the limit: their number, drawings and answers,
+-- the rules, and what these ask
 pub record AreCleanLinks (l : Layout) (links : List ℕ) (rows : List (List Row))
     (c : CleanLinks) : Type 0 where
+  pub few : has_too_large rows l.areas ≡ false
   pub count : c.objects ≡ objects rows
   pub drawn : AreDrawings l rows (plans c.drawings.items)
   pub tolerances : AllZip (HasTolerance l) l.areas c.drawings.items

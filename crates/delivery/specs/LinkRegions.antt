@@ -27,10 +27,12 @@ abbrev pub all_inner : Window2 → List (List LinkPair) → List Point
 all_inner w pss = flat_map (inner_places w) pss
 
 -- ---- the regions of these points, one after another
+-- the first of these regions, if there is one
 abbrev pub first_region : List Region → Option Region
 first_region [] = None
 first_region (r ∷ rs) = Some r
 
+-- those after it
 abbrev pub after_first : List Region → List Region
 after_first [] = []
 after_first (r ∷ rs) = rs
@@ -53,6 +55,7 @@ abbrev pub is_of : Option Region → Option ℕ → Bool
 is_of (Some (Of k)) (Some object) = k == object
 is_of r object = false
 
+-- that line, unless the test holds
 abbrev pub line_unless : Bool → ℕ → List ℕ
 line_unless b line = if b then [] else line ∷ []
 

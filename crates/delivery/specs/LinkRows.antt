@@ -19,10 +19,12 @@ use Rattle.delivery.specs.ObjectLines.{AreKeptClean}
 use Rattle.delivery.specs.declared.judging.linking.LinksKept.{LinksKept}
 
 -- ---- the columns of points that a rule may name
+-- values of that form are points of two axes
 abbrev pub is_point : Form → Bool
 is_point (Coord2 window) = true
 is_point other = false
 
+-- values of that form are references
 abbrev pub is_reference : Form → Bool
 is_reference (Reference table) = true
 is_reference other = false

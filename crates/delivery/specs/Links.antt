@@ -52,9 +52,11 @@ PairsPass test l rows r =
     (a : AreaOf) × (d : Plan) × (slice_get l.areas r.area ≡ Some a) × IsDrawing l rows a d
     × test (area_tolerance l a) d (pairs_of l rows r)
 
+-- all of these pairs hold
 abbrev pub AllHold : ℤ → Plan → List LinkPair → Type 0
 AllHold t d ps = All (LinkHolds t d) ps
 
+-- one of these pairs does not hold
 abbrev pub SomeDoesNot : ℤ → Plan → List LinkPair → Type 0
 SomeDoesNot t d ps = Any (λ p. LinkHolds t d p → ⊥) ps
 

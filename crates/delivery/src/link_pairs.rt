@@ -43,13 +43,7 @@ fn points_after(line: u32, points: &[Placed]) -> &[Placed]
     ensures { result.now ≡ points_after line points.now }
 {
     match points {
-        [first, others @ ..] => {
-            if first.line == line {
-                others
-            } else {
-                points
-            }
-        }
+        [first, others @ ..] => { if first.line == line { others } else { points } }
         [] => points,
     }
 }
@@ -75,23 +69,13 @@ fn names_after(line: u32, names: &[NamedRow]) -> &[NamedRow]
     ensures { named_view result.now ≡ names_after line (named_view names.now) }
 {
     match names {
-        [first, others @ ..] => {
-            if first.line == line {
-                others
-            } else {
-                names
-            }
-        }
+        [first, others @ ..] => { if first.line == line { others } else { names } }
         [] => names,
     }
 }
 
 // The numbers of the objects in these lines among those with a point, none for the others.
-fn numbered(
-    alloc: Global,
-    lines: &[u32],
-    points: &[Placed],
-) -> Result<Vec<Option<u32>>, Memory>
+fn numbered(alloc: Global, lines: &[u32], points: &[Placed]) -> Result<Vec<Option<u32>>, Memory>
     requires { RiseFrom 0 lines.now }
     ensures { IfOk result (λ numbers. numbers.items ≡ numbered 0 lines.now points.now) }
 {

@@ -68,3 +68,21 @@ returns-in-Rewrites-clause-reads g c =
     reads_by (λ r. (subst (λ (t : Task). AreReadable (g.S.Shelf.readable c.args.shelf.now)
     (further_files (task_view t))) c.in-Rewrites.is r).0)
     c.decide_rewritten.ensures.reads
+
+pub returns-in-TestsPoints-clause-outcome : goal.returns-in-TestsPoints-clause-outcome
+returns-in-TestsPoints-clause-outcome g c =
+    let held = g.S.Shelf.held c.args.shelf.now in
+    let counted : List ℕ → Type 0 =
+    ReadRose (g.S.Shelf.read_faults c.args.shelf.now)
+    (g.S.Shelf.read_faults c.decide_tested.new.shelf) in
+    let l = layout_view c.args.layout.now in
+    if_ok _ _ c.decide_tested.result
+    (λ o e. subst (λ (t : Task). Ends held counted (task_view t) l (outcome_of o))
+    (sym c.in-TestsPoints.is) e)
+    c.decide_tested.ensures.outcome
+
+pub returns-in-TestsPoints-clause-reads : goal.returns-in-TestsPoints-clause-reads
+returns-in-TestsPoints-clause-reads g c =
+    reads_by (λ r. subst (λ (t : Task). AreReadable (g.S.Shelf.readable c.args.shelf.now)
+    (further_files (task_view t))) c.in-TestsPoints.is r)
+    c.decide_tested.ensures.reads

@@ -1,0 +1,73 @@
+-- What is found of the places of pairs in a drawing that is proved.
+use Rattle.std.proofs.Common.{◌≡◌, ℕ, ℤ, ◌<◌, Bool, List, [], ◌∷◌, ◌++◌, length, refl, sym, ap, subst}
+use Rattle.std.proofs.Common.{arith, append-nil}
+use Rattle.std.specs.Prelude.{◌↔◌}
+use Rattle.std.specs.List.{All, AllZip}
+use Rattle.certificate.specs.declared.notes.Certificate.{Certificate}
+use Rattle.certificate_checker.specs.Subjects.{Claims, claims}
+use Rattle.area_links.specs.declared.kinds.LinkPair.{LinkPair}
+use Rattle.area_search.specs.Grounds.{HasArea, HasSettledGround, IsAnswerBy, IsRightGround}
+use Rattle.area_search.specs.Grounds.{ProvesGround}
+use Rattle.area_search.specs.Regions.{AreRegions, AreRegionsBy, AreRegionsOfGround, HasRegion}
+use Rattle.area_search.specs.Regions.{place_at, region_at}
+use Rattle.area_search.specs.declared.kinds.AreaAnswer.{AreaAnswer}
+use Rattle.area_search.specs.declared.kinds.AreaAnswer.TheVariants.{Proved}
+use Rattle.area_search.specs.declared.kinds.FoundObjects.{FoundObjects}
+use Rattle.area_search.specs.declared.kinds.Region.TheVariants.{Of}
+use Rattle.plane.specs.Rule.Places.{point}
+use Rattle.plane.specs.Rule.Plans.{Plan}
+use Rattle.plane.specs.declared.kinds.Point.{Point}
+use Rattle.delivery.specs.Links.{AreMisplaced}
+use Rattle.delivery.specs.LinkRegions.{all_inner, inner_places, lines_by, results_by}
+use Rattle.delivery.proofs.AreaLemmas.{GroundsAreOne, area_proved}
+use Rattle.delivery.proofs.ToldRegions.{AreTelling, results_misplaced}
+
+-- the region that is found tells the region of the place
+abbrev pub RegionsAreExact : Type 0
+RegionsAreExact =
+    (t : ℤ) (d g : Plan) (c : Certificate) (is_bent : Bool) (os : List ℕ) (places : List Point)
+    (f : FoundObjects) → f.answer ≡ Proved c → IsAnswerBy t d f.answer → AreRegions t d places f
+    → IsRightGround t d is_bent g os → (j k : ℕ) → j < length places
+    → HasRegion g (point (place_at places j)) (Of k) ↔ (region_at f.regions.items j ≡ Of k)
+
+module _ (exact : RegionsAreExact) (grounds : GroundsAreOne) (t : ℤ) (d : Plan)
+    (f : FoundObjects) (c : Certificate) (e : f.answer ≡ Proved c)
+    (a : IsAnswerBy t d f.answer) where
+  -- of each rule the lines are those of the pairs that do not hold
+  pub results_found : (pss : List (List LinkPair)) → AreRegions t d (all_inner d.window pss) f
+      → AllZip (AreMisplaced t d) pss (results_by d.window pss f.regions.items)
+  results_found pss h =
+      let places = all_inner d.window pss in
+      let r : AreRegionsOfGround t d c.bent places f.regions.items =
+      subst (λ (x : AreaAnswer). AreRegionsBy x t d places f.regions.items) e h in
+      let telling : AreTelling r.g places f.regions.items = (
+        (let n = r.regions_are.count in omega (arith, n)),
+        (λ j k lt. exact t d r.g c c.bent r.origin places f e a h r.right j k lt),
+      ) in
+      results_misplaced t d r.g c.bent r.origin r.right
+      (λ g b os k. grounds t d g r.g b c.bent os r.origin k r.right) pss f.regions.items telling
+
+  -- the same of one rule
+  pub lines_found : (ps : List LinkPair) → AreRegions t d (inner_places d.window ps) f
+      → AreMisplaced t d ps (lines_by d.window ps f.regions.items)
+  lines_found ps h =
+      (results_found (ps ∷ []) (subst (λ (xs : List Point). AreRegions t d xs f)
+      (sym (append-nil (inner_places d.window ps))) h)).0
+
+-- a drawing that one certificate proves is answered by a certificate
+pub proved_again : (t : ℤ) (d : Plan)
+    (proved : (c : Certificate) → IsAnswerBy t d (Proved c) → ProvesGround t d c.bent (claims c))
+    (complete : (x : AreaAnswer) → HasArea t d → HasSettledGround t d → IsAnswerBy t d x
+    → (c : Certificate) × (x ≡ Proved c))
+    → (c : Certificate) → IsAnswerBy t d (Proved c) → (x : AreaAnswer) → IsAnswerBy t d x
+    → (e : Certificate) × (x ≡ Proved e)
+proved_again t d proved complete c h x a =
+    let p = proved c h in
+    complete x (area_proved t d c.bent (claims c) p)
+    (record {
+      is_bent = c.bent;
+      g = p.g;
+      origin = p.origin;
+      right = p.right;
+      settled = (c.level, p.least);
+    }) a
