@@ -20,7 +20,7 @@ use Rattle.commands.specs.Commands.{Command, Source, Target, Task, lists, judges
 use Rattle.delivery.specs.Deciding.{Decides, formless, formed}
 use Rattle.area_drawings.specs.AreaLimits.{has_too_large}
 use Rattle.area_links.specs.Rules.{Rule, links_of}
-use Rattle.std.specs.Prelude.{Ok, Err}
+use Rattle.std.specs.Prelude.{Err, Ok, Result}
 use Rattle.delivery.specs.Links.{AreLinked, AreTestedBy, IsLinked, bad, tested}
 use Rattle.delivery.proofs.LinkedOutcomes.{agree_by_rules}
 use Rattle.delivery.specs.FiledTexts.{AreVerified, IsVerified}
@@ -247,20 +247,21 @@ module _ (laws : AreaLaws) where
   agree_links : (l : Layout) (links : List ℕ) (rows : List (List Row)) (o p : Outcome)
       → AreLinked l links rows o → AreLinked l links rows p → Agree o p
   agree_links l links rows o p (bad n e q) (bad m f r) =
-      agree_same o p (q ∙ (ap bad_link (same_bad n m (sym e ∙ f)) ∙ sym r))
+      agree_same o p (q ∙ (ap bad_link (same_bad (links_of l links) n m e f) ∙ sym r))
     where
-      same_bad : (n m : ℕ) → Err {List Rule} {ℕ} n ≡ Err m → n ≡ m
-      same_bad n m e = cc
+      same_bad : (r : Result (List Rule) ℕ) (n m : ℕ) → r ≡ Err n → r ≡ Err m → n ≡ m
+      same_bad r n m e f = cc
   agree_links l links rows o p (bad n e q) (tested rules f k) =
       absurd (let x = sym e ∙ f in cc)
   agree_links l links rows o p (tested rules e j) (bad m f r) =
       absurd (let x = sym e ∙ f in cc)
   agree_links l links rows o p (tested rules e j) (tested more f k) =
       agree_by_rules laws l rows rules o p j
-      (subst (λ (rs : List Rule). AreTestedBy l rs rows p) (same_rules more rules (sym f ∙ e)) k)
+      (subst (λ (rs : List Rule). AreTestedBy l rs rows p)
+      (same_rules (links_of l links) more rules f e) k)
     where
-      same_rules : (a b : List Rule) → Ok {List Rule} {ℕ} a ≡ Ok b → a ≡ b
-      same_rules a b e = cc
+      same_rules : (r : Result (List Rule) ℕ) (a b : List Rule) → r ≡ Ok a → r ≡ Ok b → a ≡ b
+      same_rules r a b e f = cc
 
   agree_text : (target : Target) (l : Layout) (text : List ℕ) (o p : Outcome) → IsChecked target l text o → IsChecked target l text p → Agree o p
   agree_text target l text = agree_judged l text (AreJudged target l) (agree_areas target l)

@@ -107,11 +107,11 @@ module _ (g : Plan) (w : Window2) where
   told [] more rs t = (tt, t)
   told (p ∷ ps) more rs t = by (is_within w p.at) rs t
     where
-      abbrev Given : Bool → List Region → Type 0
+      Given : Bool → List Region → Type 0
       Given b rs =
           AreTelling g ((if b then p.at ∷ inner_places w ps else inner_places w ps) ++ more) rs
 
-      abbrev Wanted : Bool → List Region → Type 0
+      Wanted : Bool → List Region → Type 0
       Wanted b rs =
           (FirstTells b g p rs
           × AreTold g w ps (if b then after_first rs else rs))
