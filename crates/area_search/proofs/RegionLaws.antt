@@ -92,6 +92,6 @@ module _ (laws : Laws) where
       let by = subst (λ (y : AreaAnswer). AreRegionsBy y t d places f.regions.items) e a in
       let own = found_region t d g c x os places f.regions.items by q j l in (
         (λ m. one_of_ground t d g c x os z r (region.Of k) (subst (IsAnswerBy t d) e h) q
-        (a_place (place_at places j)) own m),
+            (a_place (place_at places j)) own m),
         (λ m. subst (HasRegion g z) m own),
       )

@@ -1,8 +1,10 @@
 -- What is found, by the ground of a drawing: an answer, and the regions of places.
-use Rattle.std.proofs.Common.{◌≡◌, ℕ, ℤ, Bool, true, List, Result, Ok, Err, IfOk}
+use Rattle.std.proofs.Common.{◌≡◌, ℕ, ℤ, Bool, true, All, List, Result, Ok, Err, IfOk}
 use Rattle.std.proofs.Common.{refl, sym, ◌∙◌, subst}
 use Rattle.plane.specs.Rule.Plans.{Plan}
+use Rattle.plane.specs.Rule.Windows.{IsInside}
 use Rattle.plane.specs.declared.kinds.Point.{Point}
+use Rattle.plane.specs.declared.window.Window2.{Window2}
 use Rattle.certificate.specs.declared.notes.Certificate.{Certificate}
 use Rattle.forks.specs.Bent.{IsBentOf}
 use Rattle.forks.specs.Grounds as grounds
@@ -13,8 +15,8 @@ use Rattle.area_search.specs.declared.kinds.FoundObjects.{FoundObjects}
 use Rattle.area_search.specs.declared.kinds.Region.{Region}
 use Rattle.area_search.specs.Answers.{AreClear, IsAnswer, IsUnsettled}
 use Rattle.area_search.specs.Grounds.{IsAnswerBy, IsUndecidedBent, named}
-use Rattle.area_search.specs.Regions.{AreOwnRegions, AreRegionsBy, IsFound, IsFoundBy}
-use Rattle.area_search.specs.Regions.{IsFoundOfSettled}
+use Rattle.area_search.specs.Regions.{AreInWindow, AreOwnRegions, AreRegionsBy, IsFound}
+use Rattle.area_search.specs.Regions.{IsFoundBy, IsFoundOfSettled}
 use Rattle.area_search.proofs.GroundLaws.{never_both, own_proof}
 use Rattle.area_search.proofs.Grounds.{BentLaws, bent_by, own_settled, own_undecided, undecided_by}
 
@@ -97,6 +99,12 @@ bent_found laws t d g os places f c u b h r e q = record {
       (subst (λ (rs : List Region). AreRegionsBy (named os f.answer) t d places rs) (sym q)
       (bent_regions t d g os places f.answer f.regions.items u b h.regions));
 }
+
+-- its window is that of the drawing
+pub window_stays : (d g : Plan) (places : List Point) → g.window ≡ d.window → AreInWindow d places
+    → AreInWindow g places
+window_stays d g places e h =
+    subst (λ (w : Window2). All (IsInside w.low w.high) places) (sym e) h
 
 -- ---- what is found where memory suffices
 pub where_ok : {A E : Type 0} (P Q : A → Type 0) (r : Result A E) → ((a : A) → P a → Q a)

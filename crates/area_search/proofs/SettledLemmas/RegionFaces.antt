@@ -130,18 +130,21 @@ module _ (d : Plan) (level : ℕ) (edges : List Edge) (edge_owners : List Owner)
   by_face v s h o = by_owner (owner_of s) refl
     where
       by_owner : (x : ℕ) → owner_of s ≡ x → HasRegion d (point v) (owned_region x)
-      by_owner zero e =
-          (off_spot d level edges edge_owners facings vs is v s h o,
-            (outer_is v s h o).1 (outer_face v s h o e))
+      by_owner zero e = (
+        off_spot d level edges edge_owners facings vs is v s h o,
+        (outer_is v s h o).1 (outer_face v s h o e),
+      )
       by_owner (suc k) e = elim (own.owners_are (face_of s) (face_known v s h)) [
         | inl z ↦ absurd (let q = z.0 in omega (arith, q, e))
         | inr (j, q, first) ↦
             let t : j ≡ k = omega (arith, q, e) in
             let l : j < length d.points =
             (let a = first.there in let b = placed.spots_are.size in omega (arith, a, b)) in
-            subst (λ (i : ℕ). HasRegion d (point v) (owned_region (suc i))) t
-            (l, off_spot d level edges edge_owners facings vs is v s h o,
-              (joined_is v s h o j l).1 (sym first.face))
+            subst (λ (i : ℕ). HasRegion d (point v) (owned_region (suc i))) t (
+              l,
+              off_spot d level edges edge_owners facings vs is v s h o,
+              (joined_is v s h o j l).1 (sym first.face),
+            )
       ]
 
   place_region : (v : Point) (s : Spot) → IsSpot d level vs v s
