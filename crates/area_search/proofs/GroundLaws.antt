@@ -116,11 +116,11 @@ never_decided d a c u h n =
     let (i, j, e, f) = own_undecided d a c u h in subst IsDecided e n
 
 -- ---- a certificate
-own_proof : (d : Plan) (c : Certificate) → IsAnswer d (Proved c)
+pub own_proof : (d : Plan) (c : Certificate) → IsAnswer d (Proved c)
     → Proves d (claims c) × IsLeastLevel d c.level × (c.bent ≡ false)
 own_proof d _ (proved c p l n) = (p, l, n.own)
 
-never_both : (b : Bool) → b ≡ true → b ≡ false → ⊥
+pub never_both : (b : Bool) → b ≡ true → b ≡ false → ⊥
 never_both b e f = absurd (cc (e, f))
 
 module _ (laws : Laws) where

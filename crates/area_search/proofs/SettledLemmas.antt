@@ -11,6 +11,8 @@ pub mod CaseFaces
 pub mod CaseCurves
 pub mod CaseSideLaws
 pub mod CaseFaults
+pub mod PlaceSpots
+pub mod RegionFaces
 pub mod CaseCuts
 pub mod CaseMesh
 pub mod ListPlaces

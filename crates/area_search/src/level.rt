@@ -11,9 +11,9 @@
 // curves a bad pair is looked for, two straights first and then the least pair with a half arc
 // (`at_fault`).
 //
-// What `find_area` calls, with the module or the crate:
+// What `find_area` calls, by `find_objects` with no place, with the module or the crate:
 //
-//     find_area                   finding
+//     find_objects                finding
 //       all_levels                finding: the levels from 0 to 5
 //         shown_at                finding: what is shown of one level
 //           breaks_level          level_breaks: the last two curves whose edges were bad
@@ -26,10 +26,11 @@
 //               has_foreign_corner    corners, own_corners
 //               are_paired        cell_sides
 //             answer_settled      settled: the level settles the drawing
-//               object_spots      finishing, spots
+//               spots_with        finishing, spots: objects' points, and places
 //               mesh_of_run       meshing
 //               label             faces
 //               judge_run         case_judging
+//               regions_of        place_regions
 //               certify_run       case_certificates
 //       answer_at_fault           at_fault: two curves are bad
 //       answer_unsettled          unsettled: no level settles the drawing

@@ -44,10 +44,10 @@ face_over_is faces (Some e) = refl
 
 module _ (d : Plan) (level : ℕ) (edges : List Edge) (owners : List Owner) (facings : List Facing) (vs : List Move) (is : IsCase d level edges owners facings vs)
     (spots : List Spot) (placed : ArePlacedOff d level vs spots) (mesh : HalfEdges) (n : ℕ) (f : HasRunFaces d level vs mesh n) where
-  abbrev m : ℕ
+  abbrev pub m : ℕ
   m = length (edges_at d level)
 
-  abbrev E : ℕ → Edge
+  abbrev pub E : ℕ → Edge
   E = edge_at d level
 
   abbrev pub r : Replay
@@ -62,7 +62,7 @@ module _ (d : Plan) (level : ℕ) (edges : List Edge) (owners : List Owner) (fac
   pub fs_size : length fs ≡ length d.points
   fs_size = length-map spots (spot_face d level mesh.face) ∙ spots_size
 
-  abbrev HasFace : Point → ℕ → Type 0
+  abbrev pub HasFace : Point → ℕ → Type 0
   HasFace v k = PointHasFace d (drawn_bays d level) r (face_in mesh.face) v k
 
   -- ---- the face of a point by its spot
@@ -75,7 +75,7 @@ module _ (d : Plan) (level : ℕ) (edges : List Edge) (owners : List Owner) (fac
       ∙ ap (over_or (numbers (face_in mesh.face)) 0) (sym c.lower_is)
       ∙ face_over_is mesh.face l
 
-  by_spot : (v : Point) (s : Spot) → IsSpot d level vs v s → IsOffCurves s → HasFace v (spot_face d level mesh.face s)
+  pub by_spot : (v : Point) (s : Spot) → IsSpot d level vs v s → IsOffCurves s → HasFace v (spot_face d level mesh.face s)
   by_spot v (spot.On c) h o = absurd o
   by_spot v (spot.InTube c true) h o = tube_inside (pos 0) d (drawn_bays d level) m E (steps_from [] vs) (face_in mesh.face) v c h.0 h.1
   by_spot v (spot.InTube c false) h o = tube_outside (pos 0) d (drawn_bays d level) m E (steps_from [] vs) (face_in mesh.face) v c h.0 h.1

@@ -235,17 +235,17 @@ module _ (d : Plan) (level : ℕ) (edges : List Edge) (owners : List Owner) (fac
   over_known None h = f.some
   over_known (Some e) h = known (over e) h
 
-  spot_known : (v : Point) (s : Spot) → IsSpot d level vs v s → IsOffCurves s → spot_face d level mesh.face s < n
-  spot_known v (spot.On c) h o = absurd o
-  spot_known v (spot.InTube c true) h o = inner_known c (record { there = h.0.there; kind = h.0.bent })
-  spot_known v (spot.InTube c false) h o = outer_known c (record { there = h.0.there; kind = h.0.bent })
-  spot_known v (spot.Cell i l u) h o = over_known l (cell_in d level edges owners facings vs is v i l u h.0)
+  pub spot_known : (v : Point) (s : Spot) → IsSpot d level vs v s → spot_face d level mesh.face s < n
+  spot_known v (spot.On c) h = f.some
+  spot_known v (spot.InTube c true) h = inner_known c (record { there = h.0.there; kind = h.0.bent })
+  spot_known v (spot.InTube c false) h = outer_known c (record { there = h.0.there; kind = h.0.bent })
+  spot_known v (spot.Cell i l u) h = over_known l (cell_in d level edges owners facings vs is v i l u h.0)
 
   pub point_known : (j : ℕ) → j < length faces_here → slice_index faces_here j < n
   point_known j l =
       let a : j < length d.points = (let q = fs_size d level edges owners facings vs is spots placed mesh n f in omega (arith, l, q)) in
       let b : j < length spots = (let q = placed.spots_are.size in omega (arith, a, q)) in
-      subst (λ (x : ℕ). x < n) (sym (nth_spot_face (spot_face d level mesh.face) spots j b)) (spot_known (object d j) (spot_at spots j) (placed.spots_are.each j a) (placed.off j b))
+      subst (λ (x : ℕ). x < n) (sym (nth_spot_face (spot_face d level mesh.face) spots j b)) (spot_known (object d j) (spot_at spots j) (placed.spots_are.each j a))
 
   -- ---- all curves
   module _ (besides : List Beside) (are : AreBeside d level mesh.face (length d.curves) besides) where

@@ -201,11 +201,11 @@ module _ (d : Plan) (level : ℕ) (edges : List Edge) (owners : List Owner) (fac
       }
 
   -- ---- spots that have faces
-  spot_has : (v : Point) (s : Spot) → IsSpot d level vs v s → IsOffCurves s → IsSpotOf d level s
-  spot_has v (spot.On c) h o = absurd o
-  spot_has v (spot.InTube c true) h o = record { there = h.0.there; kind = h.0.bent }
-  spot_has v (spot.InTube c false) h o = record { there = h.0.there; kind = h.0.bent }
-  spot_has v (spot.Cell i l u) h o = cell_in v i l u h.0
+  pub spot_has : (v : Point) (s : Spot) → IsSpot d level vs v s → IsSpotOf d level s
+  spot_has v (spot.On c) h = tt
+  spot_has v (spot.InTube c true) h = record { there = h.0.there; kind = h.0.bent }
+  spot_has v (spot.InTube c false) h = record { there = h.0.there; kind = h.0.bent }
+  spot_has v (spot.Cell i l u) h = cell_in v i l u h.0
 
   pub spots_have : (spots : List Spot) → ArePlacedOff d level vs spots → (j : ℕ) → j < length spots → IsSpotOf d level (spot_at spots j)
-  spots_have spots p j l = spot_has (object d j) (spot_at spots j) (p.spots_are.each j (let a = p.spots_are.size in omega (arith, l, a))) (p.off j l)
+  spots_have spots p j l = spot_has (object d j) (spot_at spots j) (p.spots_are.each j (let a = p.spots_are.size in omega (arith, l, a)))

@@ -76,10 +76,11 @@ pub(crate) fn object_spots(
     ensures { IfOk result (λ spots. AreSpots (plan settled.now.drawing.now) settled.now.level
         swept.now.events spots.items) }
 {
-    spots_with(alloc, settled, &[], edges, swept)
+    let spots = spots_with(alloc, settled, &[], edges, swept)?;
+    Ok(spots)
 }
 
-/// Where the objects' points of the drawing lie, and then these places.
+/// Where the objects' points of the drawing lie, and behind them these places, in the same way.
 fn spots_with(
     alloc: Global,
     settled: &SettledDrawing,

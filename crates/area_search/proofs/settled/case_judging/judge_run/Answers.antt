@@ -124,4 +124,5 @@ returns c =
       no_cut (plan c.args.run.now.settled.now.drawing.now) c.args.run.now.settled.now.level (edges_of c.args.run.now.settled.now) c.args.run.now.settled.now.owners.now c.args.run.now.settled.now.facings.now c.requires.run.vs c.requires.run.settled
           c.args.run.now.labelled.now.mesh c.args.run.now.labelled.now.count c.requires.run.faces c.in_ok-besides.besides.items c.in_ok-besides.ensures
           (subst (λ (bs : List Beside). IsFirstOneFaced bs None) c.deref-7.ensures.value c.in-None.ensures),
+      c.in_ok-besides.ensures,
     )

@@ -31,6 +31,7 @@ answer_run-requires-clause-run c =
       settled = c.requires.settled;
       timed = c.requires.timed;
       placed = c.requires.placed;
+      places = c.requires.places;
       faces = subst (λ (m : HalfEdges). HasRunFaces d level vs m c.in_ok-labelled.labelled.count) (sym l.unchanged)
           (has_run_faces d level (edges_of c.args.settled.now) c.args.settled.now.owners.now c.args.settled.now.facings.now vs c.requires.settled
           c.in_ok-mesh.mesh t c.in_ok-labelled.labelled.mesh.face _ c.in_ok-labelled.labelled.count (same ∙ c.requires.cells) l.faces l.count);
