@@ -10,12 +10,14 @@ pub mod Closings
 pub mod Drawables
 pub mod FoundRegions
 pub mod GatheredLinks
+pub mod GoodRules
 pub mod HeldLinks
 pub mod JoinedPairs
 pub mod JudgedLinks
 pub mod JudgingSteps
 pub mod KeptPlaces
 pub mod KeptSteps
+pub mod LinkColumns
 pub mod LinkNames
 pub mod LinkPoints
 pub mod LinkedOutcomes
