@@ -24,6 +24,7 @@ pub mod LinkedOutcomes
 pub mod LinkedRows
 pub mod NamedAreas
 pub mod NamedObjects
+pub mod NumberedObjects
 pub mod ObjectLines
 pub mod PieceSteps
 pub mod PolygonLemmas
