@@ -79,7 +79,7 @@ fn ask_links(
         → has_large (transfer_so_far (layout_view layout.now) rows)
         (layout_view layout.now).areas ≡ false
         → objects ≡ objects_in (transfer_so_far (layout_view layout.now) rows)
-        → links_of (layout_view layout.now) links ≡ Ok (rules_view rules.entry.items)
+        → links_of (layout_view layout.now) links ≡ Ok (rules_view rules.items)
         → IfOk result (IsLinksJudged (layout_view layout.now) text links) }
 {
     let asked = asked_areas(alloc, layout, keys, places, points, &rules)?;

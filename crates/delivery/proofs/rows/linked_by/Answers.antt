@@ -13,7 +13,7 @@ pub returns-in-Faulty : goal.returns-in-Faulty
 returns-in-Faulty c text h =
     let l = layout_view c.args.layout.now in
     let j = subst (λ (x : LinksJudged). IsLinksJudged l text c.args.links.now x) c.in-Faulty.is
-    (c.in_ok-judge_links.ensures text h) in
+    (c.in_ok-found.ensures text h) in
     if_ok _ _ c.rejected.result (λ o e. faulty j.0 j.1 j.2 (e ∙ ap rejected j.3))
     c.rejected.ensures
 
@@ -21,7 +21,7 @@ pub returns-in-Oversized : goal.returns-in-Oversized
 returns-in-Oversized c text h =
     let l = layout_view c.args.layout.now in
     let j = subst (λ (x : LinksJudged). IsLinksJudged l text c.args.links.now x) c.in-Oversized.is
-    (c.in_ok-judge_links.ensures text h) in
+    (c.in_ok-found.ensures text h) in
     if_ok _ _ c.area_too_large.result (λ o e. oversized j.0 j.1 j.2 j.3 e)
     c.area_too_large.ensures
 
@@ -29,7 +29,7 @@ pub returns-in-BadLink : goal.returns-in-BadLink
 returns-in-BadLink c text h =
     let l = layout_view c.args.layout.now in
     let j = subst (λ (x : LinksJudged). IsLinksJudged l text c.args.links.now x) c.in-BadLink.is
-    (c.in_ok-judge_links.ensures text h) in
+    (c.in_ok-found.ensures text h) in
     if_ok _ _ c.bad_link.result
     (λ o e. sound (j.0, j.1, j.2, j.3, bad c.in-BadLink.line j.4 e))
     c.bad_link.ensures
@@ -39,14 +39,14 @@ tested-requires-clause-rows c =
     let l = layout_view c.args.layout.now in
     let text = c.requires.text.0 in
     let j = subst (λ (x : LinksJudged). IsLinksJudged l text c.args.links.now x) c.in-Clean.is
-    (c.in_ok-judge_links.ensures text c.requires.text.1) in
+    (c.in_ok-found.ensures text c.requires.text.1) in
     (c.args.links.now, j.0, j.4)
 
 pub returns-in-Clean : goal.returns-in-Clean
 returns-in-Clean c text h =
     let l = layout_view c.args.layout.now in
     let j = subst (λ (x : LinksJudged). IsLinksJudged l text c.args.links.now x) c.in-Clean.is
-    (c.in_ok-judge_links.ensures text h) in
+    (c.in_ok-found.ensures text h) in
     if_ok _ _ c.tested.result
     (λ o e. sound (
       j.0,

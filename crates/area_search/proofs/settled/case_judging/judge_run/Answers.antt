@@ -101,8 +101,8 @@ returns-in-Some-first_cut c =
     c.args.run.now.labelled.now.mesh c.args.run.now.labelled.now.count c.requires.run.faces c.in_ok-besides.besides.items c.in_ok-besides.ensures c.in-Some-first_cut.curve full (c.args.run.now.settled.now.level, c.requires.least)
     (subst (λ (bs : List Beside). IsFirstOneFaced bs (Some c.in-Some-first_cut.curve)) c.deref-7.ensures.value c.in-Some-first_cut.ensures)
 
-pub returns : goal.returns
-returns c =
+pub returns-in-None : goal.returns-in-None
+returns-in-None c =
     let o = c.in_ok-owners.ensures in
     let same = c.deref-3.ensures.value ∙ c.in_ok-faces.ensures in
     let size : length c.deref-3.result.now ≡ length c.args.run.now.spots.now = ap length same ∙ length-map c.args.run.now.spots.now (spot_face (plan c.args.run.now.settled.now.drawing.now) c.args.run.now.settled.now.level c.args.run.now.labelled.now.mesh.face) in (
