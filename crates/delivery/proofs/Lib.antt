@@ -7,10 +7,12 @@ pub mod CertificateLemmas
 pub mod Certified
 pub mod Closings
 pub mod Drawables
+pub mod GoodRules
 pub mod JoinedPairs
 pub mod JudgingSteps
 pub mod KeptPlaces
 pub mod KeptSteps
+pub mod LinkColumns
 pub mod LinkNames
 pub mod LinkPoints
 pub mod LinkedRows

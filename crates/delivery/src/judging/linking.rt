@@ -52,7 +52,12 @@ fn is_reference(form: &Form) -> bool
 fn has_reference(columns: &[Column]) -> bool
     ensures { result ≡ list_any (λ c. is_reference c.form) (columns_view columns.now) }
 {
-    columns.iter().any(|column| is_reference(&column.form))
+    for column in columns {
+        if is_reference(&column.form) {
+            return true;
+        }
+    }
+    false
 }
 
 // The columns with points of two axes, without rows.
