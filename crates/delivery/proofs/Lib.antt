@@ -18,6 +18,7 @@ pub mod LinkPoints
 pub mod LinkedRows
 pub mod NamedAreas
 pub mod NamedObjects
+pub mod NumberedObjects
 pub mod ObjectLines
 pub mod PieceSteps
 pub mod PolygonLemmas
