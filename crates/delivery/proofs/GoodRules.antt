@@ -13,9 +13,11 @@ use Rattle.resolver.specs.Resolved.{Text, VAlignment, Window}
 use Rattle.table_layout.specs.Layouts.{AreaLines, AreaOf, Column, Layout, Main, Role, SurfaceLines}
 use Rattle.table_layout.specs.Layouts.{Table}
 use Rattle.area_links.specs.Rules.{Rule, area_number, area_window, column_number, has_scales}
-use Rattle.area_links.specs.Rules.{line_rules, links_from, links_of, main_at, main_only, point_window}
+use Rattle.area_links.specs.Rules.{line_rules, links_from, links_of, main_at, main_only}
+use Rattle.area_links.specs.Rules.{point_window}
 use Rattle.area_links.specs.Rules.{rule_in, rule_of, rule_of_area, rule_of_columns, rule_of_table}
-use Rattle.area_links.specs.Rules.{rule_with, same, scaled_rule, table_number, table_of_form, target}
+use Rattle.area_links.specs.Rules.{rule_with, same, scaled_rule, table_number, table_of_form}
+use Rattle.area_links.specs.Rules.{target}
 use Rattle.area_links.specs.Rules.{then_rules, window_of_form, with_rule}
 use Rattle.delivery.specs.LinkRows.{IsGoodRule}
 
@@ -167,7 +169,8 @@ module _ (l : Layout) (line n : ℕ) (t : Table) (there : slice_get l.tables n �
       r h in
       let f = found (λ (a : AreaOf). (a.main == m) && same a.name name) 0 l.areas k.value k.first in
       good_scaled point reference k.value m g f.value
-      (ap (slice_get l.areas) (let e = f.number in let z : k.value ≡ f.place = omega (arith, e) in z)
+      (ap (slice_get l.areas)
+      (let e = f.number in let z : k.value ≡ f.place = omega (arith, e) in z)
       ∙ f.at)
       (eqb-true f.value.main m (both (f.value.main == m) (same f.value.name name) f.passes))
       (point_window t point) (area_window l k.value) refl r k.next
