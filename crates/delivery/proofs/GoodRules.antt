@@ -13,9 +13,11 @@ use Rattle.resolver.specs.Resolved.{Text, VAlignment, Window}
 use Rattle.table_layout.specs.Layouts.{AreaLines, AreaOf, Column, Layout, Main, Role, SurfaceLines}
 use Rattle.table_layout.specs.Layouts.{Table}
 use Rattle.area_links.specs.Rules.{Rule, area_number, area_window, column_number, has_scales}
-use Rattle.area_links.specs.Rules.{line_rules, links_from, links_of, main_at, main_only, point_window}
+use Rattle.area_links.specs.Rules.{line_rules, links_from, links_of, main_at, main_only}
+use Rattle.area_links.specs.Rules.{point_window}
 use Rattle.area_links.specs.Rules.{rule_in, rule_of, rule_of_area, rule_of_columns, rule_of_table}
-use Rattle.area_links.specs.Rules.{rule_with, same, scaled_rule, table_number, table_of_form, target}
+use Rattle.area_links.specs.Rules.{rule_with, same, scaled_rule, table_number, table_of_form}
+use Rattle.area_links.specs.Rules.{target}
 use Rattle.area_links.specs.Rules.{then_rules, window_of_form, with_rule}
 use Rattle.delivery.specs.LinkRows.{IsGoodRule}
 
@@ -167,7 +169,8 @@ module _ (l : Layout) (line n : ℕ) (t : Table) (there : slice_get l.tables n �
       r h in
       let f = found (λ (a : AreaOf). (a.main == m) && same a.name name) 0 l.areas k.value k.first in
       good_scaled point reference k.value m g f.value
-      (ap (slice_get l.areas) (let e = f.number in let z : k.value ≡ f.place = omega (arith, e) in z)
+      (ap (slice_get l.areas)
+      (let e = f.number in let z : k.value ≡ f.place = omega (arith, e) in z)
       ∙ f.at)
       (eqb-true f.value.main m (both (f.value.main == m) (same f.value.name name) f.passes))
       (point_window t point) (area_window l k.value) refl r k.next
@@ -209,15 +212,18 @@ good_line l line (a ∷ b ∷ c ∷ d ∷ e ∷ []) r h = absurd (cc)
 good_line l line (a ∷ b ∷ c ∷ d ∷ e ∷ f ∷ g ∷ fs) r h = absurd (cc)
 
 -- ---- all lines
+abbrev stated : List Rule → Result (List Rule) ℕ
+stated rules = Ok rules
+
+same_rules : (a b : List Rule) → stated a ≡ stated b → a ≡ b
+same_rules a b e = cc
+
 good_rules_of : (l : Layout) (n : ℕ) (fs : List (List ℕ)) (rest : Result (List Rule) ℕ)
     (rules : List Rule) → ((more : List Rule) → rest ≡ Ok more → All (IsGoodRule l) more)
     → line_rules l n fs rest ≡ Ok rules → All (IsGoodRule l) rules
 good_rules_of l n [] rest rules k h = k rules h
 good_rules_of l n (f ∷ fs) rest rules k h = by (rule_of l n (f ∷ fs)) refl rest k h
   where
-    same_rules : (a b : List Rule) → Ok a ≡ Ok b → a ≡ b
-    same_rules a b e = cc
-
     by : (o : Option Rule) → rule_of l n (f ∷ fs) ≡ o → (rest : Result (List Rule) ℕ)
         → ((more : List Rule) → rest ≡ Ok more → All (IsGoodRule l) more)
         → then_rules n o rest ≡ Ok rules → All (IsGoodRule l) rules
@@ -230,10 +236,7 @@ good_rules_of l n (f ∷ fs) rest rules k h = by (rule_of l n (f ∷ fs)) refl r
 good_from : (l : Layout) (n : ℕ) (lines : List (List ℕ)) (rules : List Rule)
     → links_from l n lines ≡ Ok rules → All (IsGoodRule l) rules
 good_from l n [] rules h =
-    subst (All (IsGoodRule l)) (nothing rules h) (All-nil (IsGoodRule l))
-  where
-    nothing : (rules : List Rule) → Ok [] ≡ Ok rules → [] ≡ rules
-    nothing rules e = cc
+    subst (All (IsGoodRule l)) (same_rules [] rules h) (All-nil (IsGoodRule l))
 good_from l n (text ∷ lines) rules h =
     good_rules_of l n (fields text) (links_from l (n + 1) lines) rules
     (λ more e. good_from l (n + 1) lines more e) h

@@ -127,6 +127,6 @@ links_more codes (u ∷ ts) (rows ∷ transfer) (suc n) r values h =
     (links_more codes ts transfer n r values h)
 
 -- ---- what is said where a call succeeds
-pub both_ok : {A E P Q : Type 0} (r : Result A E) → OnOk r P → OnOk r Q → OnOk r (P × Q)
-both_ok (Ok a) p q = (p, q)
-both_ok (Err e) p q = tt
+pub both_ok : {A E : Type 0} (P Q : Type 0) (r : Result A E) → OnOk r P → OnOk r Q → OnOk r (P × Q)
+both_ok P Q (Ok a) p q = (p, q)
+both_ok P Q (Err e) p q = tt

@@ -1,6 +1,7 @@
 -- The rows that a column of references names, by what links ask.
-use Rattle.std.proofs.Common.{◌≡◌, ℕ, zero, suc, ◌+◌, ◌<◌, ◌≤◌, Bool, true, false, ◌||◌, nat_eq, List}
-use Rattle.std.proofs.Common.{[], ◌∷◌, ◌++◌, length, map, take, drop, Option, Some, None, refl, sym}
+use Rattle.std.proofs.Common.{◌≡◌, ℕ, zero, suc, ◌+◌, ◌<◌, ◌≤◌, Bool, true, false, ◌||◌, nat_eq}
+use Rattle.std.proofs.Common.{List, [], ◌∷◌, ◌++◌, length, map, take, drop, Option, Some, None}
+use Rattle.std.proofs.Common.{refl, sym}
 use Rattle.std.proofs.Common.{ap, ◌∙◌, subst, arith, cond, if◌then◌else◌}
 use Rattle.std.specs.Prelude.{◌==◌, option_and_then, slice_get, slice_index_or}
 use Rattle.std.specs.List.{flat_map, position_from}

@@ -56,8 +56,11 @@ abbrev pub IsOnAxes : Form → Type 0
 IsOnAxes form = value_of form [] ≡ Numbers []
 
 module _ (codes : Codes) (line : ℕ) where
-  no_words : (form : Form) → IsOnAxes form → [] ≡ at_line line (point_of (column_reading form codes []))
-  no_words form e = by (value_fault form []) ∙ ap (λ (v : Value). at_line line (point_of (reading (value_fault form []) v))) (sym e)
+  no_words : (form : Form) → IsOnAxes form
+      → [] ≡ at_line line (point_of (column_reading form codes []))
+  no_words form e =
+      by (value_fault form [])
+      ∙ ap (λ (v : Value). at_line line (point_of (reading (value_fault form []) v))) (sym e)
     where
       by : (o : Option ValueFault) → [] ≡ at_line line (point_of (reading o (Numbers [])))
       by None = refl
@@ -121,7 +124,8 @@ pub row_points_are : (codes : Codes) (t : Table) (k : ℕ) (c : Column)
 row_points_are codes t k c g e r = by (is_counted t r)
   where
     by : (b : Bool)
-        → cell_points r.line (slice_get (if b then cells_of codes t.columns (drop 1 r.fields) else []) k)
+        → cell_points r.line
+        (slice_get (if b then cells_of codes t.columns (drop 1 r.fields) else []) k)
         ≡ at_line r.line (option_and_then (read_words codes r.line)
         (if b then words_at t.columns k (drop 1 r.fields) else None))
     by true = point_at_column codes r.line t.columns k c (drop 1 r.fields) g e

@@ -22,7 +22,8 @@ use Rattle.area_drawings.specs.KeptPoints.{PointColumn, points_in_column}
 use Rattle.area_drawings.specs.KeptRows.{Kept, is_area_point, kept}
 use Rattle.area_drawings.proofs.RowSteps.{column_asked}
 use Rattle.area_links.specs.Pairs.{after, number_if}
-use Rattle.area_links.specs.Pairs.{identification, object_numbers, object_of, pair_by, pairs_between}
+use Rattle.area_links.specs.Pairs.{identification, object_numbers, object_of, pair_by}
+use Rattle.area_links.specs.Pairs.{pairs_between}
 use Rattle.area_links.specs.Pairs.{pairs_in, pairs_of, pairs_with, row_pairs, row_point, row_word}
 use Rattle.area_links.specs.Rules.{Rule}
 use Rattle.area_links.specs.declared.kinds.LinkPair.{LinkPair}
@@ -109,7 +110,8 @@ module _ (l : Layout) (transfer : List (List Row)) (v : IsValid l) (r : Rule) (g
 
     pub few_columns : r.reference + 1 ≤ 4294967295
     few_columns =
-        let t = all_at (IsTable (length l.topics) l.tables) l.tables r.table g.t v.tables g.table_is in
+        let t = all_at (IsTable (length l.topics) l.tables) l.tables r.table g.t v.tables
+        g.table_is in
         let f = t.few in
         let w = slice_get_within g.t.columns r.reference g.reference g.reference_is in
         omega (arith, f, w)
@@ -161,7 +163,8 @@ module _ (l : Layout) (transfer : List (List Row)) (v : IsValid l) (r : Rule) (g
           (w : ls ≡ map row_line rows) where
         abbrev refers : Row → Option (Option ℕ)
         refers =
-            place_named l.codes transfer g.t r.reference g.reference g.a.main g.reference_is g.refers
+            place_named l.codes transfer g.t r.reference g.reference g.a.main g.reference_is
+            g.refers
 
         pair_is : (x : Row)
             → option_to_list (pair_by x.line (row_point l.codes g.t r.point x)

@@ -12,7 +12,10 @@ use Rattle.area_drawings.specs.KeptPoints.{PointColumn, points_kept}
 use Rattle.area_drawings.specs.KeptRows.{Kept}
 use Rattle.area_drawings.specs.KeptViews.{kept_in, points_of}
 use Rattle.area_drawings.specs.declared.kept_points.KeptPoints.{KeptPoints}
+use Rattle.area_links.specs.Pairs.{row_point}
 use Rattle.area_links.specs.Rules.{Rule}
+use Rattle.plane.specs.Rule.Plans.{Plan}
+use Rattle.plane.specs.declared.kinds.Point.{Point}
 use Rattle.delivery.specs.KeptRows.{of_tables, transfer_so_far}
 use Rattle.delivery.specs.KeptViews.{HasTaken}
 use Rattle.delivery.specs.ObjectLines.{AreKeptClean}
@@ -73,6 +76,15 @@ pub record AreLinksKept (l : Layout) (rows : List (ℕ × Row)) (places : List K
   pub kept : AreKeptClean l rows places keys
   pub points_are : HasLinkPoints l rows points
   pub rise : LinesRise (transfer_so_far l rows)
+
+-- ---- objects
+-- The row has a point in the area's column, and the point of that number in the drawing is that
+-- one, with the row's line.
+pub record IsNumbered (l : Layout) (t : Table) (a : AreaOf) (d : Plan) (r : Row)
+    (k : ℕ) : Type 0 where
+  pub point : Point
+  pub has : row_point l.codes t a.column r ≡ Some point
+  pub at : slice_get d.points k ≡ Some (record { at = point; line = r.line })
 
 -- ---- rules
 -- A rule names columns of a table of the layout, one with points of two axes and one that refers to

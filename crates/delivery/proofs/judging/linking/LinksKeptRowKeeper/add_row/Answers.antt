@@ -16,4 +16,4 @@ returns c =
           (c.take_row.auto.points ∙ c.deref_mut.ensures.len))
           ∙ k.1 rows h.judged (ap points_in c.deref_mut.ensures.value ∙ h.points);
     })
-    (both_ok c.take_row.result c.take_row.ensures.judged c.take_row.ensures.points)
+    (both_ok _ _ c.take_row.result c.take_row.ensures.judged c.take_row.ensures.points)
