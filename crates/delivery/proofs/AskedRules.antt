@@ -1,16 +1,16 @@
 -- The rules that ask an area, rule after rule, and what is asked of each area.
 use Rattle.std.proofs.Common.{◌≡◌, inl, inr, ℕ, zero, suc, ◌+◌, ◌<◌, ◌≤◌, Bool, true, false, ◌&&◌}
-use Rattle.std.proofs.Common.{List, [], ◌∷◌, ◌++◌, length, map, Option, Some, None, refl, sym, ap}
+use Rattle.std.proofs.Common.{get_or, List, [], ◌∷◌, ◌++◌, length, map, Option, Some, None, refl, sym, ap}
 use Rattle.std.proofs.Common.{◌∙◌, subst, arith, true≢false}
 use Rattle.std.specs.Prelude.{◌==◌, ◌⊎◌, if◌then◌else◌, slice_get}
-use Rattle.std.specs.List.{All, position_from}
+use Rattle.std.specs.List.{All, AllZip, position_from}
 use Rattle.std.proofs.lemmas.Bool.Decides.{nat_tests}
 use Rattle.std.proofs.lemmas.Bool.{eqb-true}
 use Rattle.std.proofs.lemmas.List.Elements.{All-nil, All-cons, All-head, All-tail}
 use Rattle.area_links.specs.Rules.{Rule}
 use Rattle.itf_reader.specs.Forms.{Row}
 use Rattle.table_layout.specs.Layouts.{Layout}
-use Rattle.delivery.specs.AskedLinks.{AreAsked, HasAlike, IsAmong, IsAsked, IsAskedOf, are_alike}
+use Rattle.delivery.specs.AskedLinks.{AreAsked, AreAskedTo, HasAlike, IsAmong, IsAsked, IsAskedOf, are_alike}
 use Rattle.delivery.specs.AskedLinks.{place_alike}
 use Rattle.delivery.specs.LinkRows.{IsGoodRule}
 use Rattle.delivery.specs.declared.links.asked.AskedArea.{AskedArea}
@@ -36,14 +36,16 @@ stays : (rules : List Rule) (r s : Rule) (n i : ℕ)
     → position_from (λ q. are_alike q r) n rules ≡ Some i
     → position_from (λ q. are_alike q r) n (rules ++ s ∷ []) ≡ Some i
 stays [] r s n i e = absurd (cc)
-stays (q ∷ rules) r s n i e = by (are_alike q r) e
+stays (q ∷ rules) r s n i e = by (are_alike q r) (stays rules r s (n + 1) i) e
   where
     by : (b : Bool)
+        → (position_from (λ x. are_alike x r) (n + 1) rules ≡ Some i
+        → position_from (λ x. are_alike x r) (n + 1) (rules ++ s ∷ []) ≡ Some i)
         → (if b then Some n else position_from (λ x. are_alike x r) (n + 1) rules) ≡ Some i
         → (if b then Some n else position_from (λ x. are_alike x r) (n + 1) (rules ++ s ∷ []))
         ≡ Some i
-    by true e = e
-    by false e = stays rules r s (n + 1) i e
+    by true again e = e
+    by false again e = again e
 
 -- the rule that is put behind is found
 last : (rules : List Rule) (r : Rule) (n : ℕ)
@@ -59,12 +61,6 @@ last (q ∷ rules) r n = by (are_alike q r) (last rules r (n + 1))
     by false h = h
 
 -- ---- the rules of an area so far
--- of the first k rules
-pub record AreAskedTo (number : ℕ) (rules : List Rule) (k : ℕ) (asked : List Rule) : Type 0 where
-  pub from_rules : All (IsAmong rules) asked
-  pub whole : (i : ℕ) (r : Rule) → i < k → slice_get rules i ≡ Some r → r.area ≡ number
-      → HasAlike asked r
-
 pub none_asked : (number : ℕ) (rules : List Rule) → AreAskedTo number rules 0 []
 none_asked number rules = record {
   from_rules = All-nil (IsAmong rules);
@@ -152,7 +148,13 @@ AreAskedBelow l rows rules xs =
 pub area_more : (l : Layout) (rows : List (List Row)) (rules : List Rule) (xs : List AskedArea)
     (x : AskedArea) → AreAskedBelow l rows rules xs → IsAsked l rows rules (length xs) x
     → AreAskedBelow l rows rules (xs ++ x ∷ [])
-area_more l rows rules xs x h one = by xs 0 (λ k y e. h k y e) one
+area_more l rows rules xs x h one k y e =
+    subst (λ (m : ℕ). IsAsked l rows rules m y) (let q : 0 + k ≡ k = omega arith in q)
+    (by xs 0
+    (λ j w f. subst (λ (m : ℕ). IsAsked l rows rules m w)
+    (let q : j ≡ 0 + j = omega arith in q) (h j w f))
+    (subst (λ (m : ℕ). IsAsked l rows rules m x)
+    (let q : length xs ≡ 0 + length xs = omega arith in q) one) k y e)
   where
     by : (ys : List AskedArea) (n : ℕ)
         → ((k : ℕ) (y : AskedArea) → slice_get ys k ≡ Some y → IsAsked l rows rules (n + k) y)
@@ -169,3 +171,36 @@ area_more l rows rules xs x h one = by xs 0 (λ k y e. h k y e) one
         (let q : n + suc j ≡ (n + 1) + j = omega arith in q) (g (suc j) w f))
         (subst (λ (m : ℕ). IsAsked l rows rules m x)
         (let q : n + suc (length ys) ≡ (n + 1) + length ys = omega arith in q) one) k y e)
+
+-- a place of a list of views
+pub mapped_there : {X Y : Type 0} (f : X → Y) (xs : List X) (i : ℕ) (other : X) → i < length xs
+    → slice_get (map f xs) i ≡ Some (f (get_or xs i other))
+mapped_there f [] i other lt = absurd (omega (arith, lt))
+mapped_there f (y ∷ xs) zero other lt = refl
+mapped_there f (y ∷ xs) (suc i) other lt = mapped_there f xs i other (omega (arith, lt))
+
+-- what holds of all views holds of one
+pub all_there : {X Y : Type 0} (P : Y → Type 0) (f : X → Y) (xs : List X) (i : ℕ) (other : X)
+    → i < length xs → All P (map f xs) → P (f (get_or xs i other))
+all_there P f [] i other lt a = absurd (omega (arith, lt))
+all_there P f (y ∷ xs) zero other lt a = All-head P (f y) (map f xs) a
+all_there P f (y ∷ xs) (suc i) other lt a =
+    all_there P f xs i other (omega (arith, lt)) (All-tail P (f y) (map f xs) a)
+
+-- a place of a list
+pub at_place : {X : Type 0} (xs : List X) (i : ℕ) (other : X) → i < length xs
+    → slice_get xs i ≡ Some (get_or xs i other)
+at_place [] i other lt = absurd (omega (arith, lt))
+at_place (y ∷ xs) zero other lt = refl
+at_place (y ∷ xs) (suc i) other lt = at_place xs i other (omega (arith, lt))
+
+-- what holds of two lists, place by place, holds at one place
+pub zip_there : {X Y Z : Type 0} (R : Y → Z → Type 0) (f : X → Y) (xs : List X) (zs : List Z)
+    (i : ℕ) (x : X) (z : Z) → i < length zs → AllZip R (map f xs) zs
+    → R (f (get_or xs i x)) (get_or zs i z)
+zip_there R f [] [] i x z lt h = absurd (omega (arith, lt))
+zip_there R f [] (w ∷ zs) i x z lt h = absurd h
+zip_there R f (y ∷ xs) [] i x z lt h = absurd h
+zip_there R f (y ∷ xs) (w ∷ zs) zero x z lt h = h.0
+zip_there R f (y ∷ xs) (w ∷ zs) (suc i) x z lt h =
+    zip_there R f xs zs i x z (omega (arith, lt)) h.1

@@ -2,18 +2,19 @@
 use Rattle.std.proofs.Common.{◌≡◌, inl, inr, ℕ, ℤ, zero, suc, ◌+◌, ◌<◌, Bool, true, false, ◌&&◌, List}
 use Rattle.std.proofs.Common.{[], ◌∷◌, ◌++◌, length, map, Option, Some, None, refl, sym, ap, ◌∙◌}
 use Rattle.std.proofs.Common.{subst, arith, true≢false}
-use Rattle.std.specs.Prelude.{◌==◌, slice_get, slice_index_or}
+use Rattle.std.specs.Prelude.{◌==◌, if◌then◌else◌, slice_get, slice_index_or}
 use Rattle.std.specs.List.{All, AllZip, flat_map, position_from}
 use Rattle.std.proofs.lemmas.Bool.{eqb-true}
 use Rattle.std.proofs.lemmas.List.Elements.{All-head, All-tail}
 use Rattle.area_drawings.specs.Drawings.{area_tolerance}
-use Rattle.area_links.specs.Pairs.{pairs_of}
+use Rattle.area_links.specs.Pairs.{pairs_in, pairs_of, pairs_with}
 use Rattle.area_links.specs.Rules.{Rule}
 use Rattle.area_links.specs.Views.{rules_view}
 use Rattle.area_links.specs.declared.kinds.LinkPair.{LinkPair}
+use Rattle.ili_grammar.specs.Syntax.{Codes}
 use Rattle.itf_reader.specs.Forms.{Row}
 use Rattle.plane.specs.Rule.Plans.{Plan}
-use Rattle.table_layout.specs.Layouts.{AreaOf, Layout}
+use Rattle.table_layout.specs.Layouts.{AreaOf, Layout, Table}
 use Rattle.reports.specs.Kinds.{answer_kind, are_fine, is_fine}
 use Rattle.reports.specs.Outcomes.{Misplaced}
 use Rattle.reports.specs.declared.lines.AreaAnswer.{AreaAnswer}
@@ -31,6 +32,25 @@ both true b e = (refl, e)
 both false b e = absurd (true≢false (sym e))
 
 -- ---- rules that ask the same
+-- the line of a rule says nothing of its pairs
+abbrev made : ℕ → ℕ → ℕ → ℕ → Rule
+made t p r k = record { line = 0; table = t; point = p; reference = r; area = k }
+
+without_line : (codes : Codes) (t : Option Table) (a : Rule) (rows : List Row)
+    (m : Option Table) (column : ℕ) (mains : List Row)
+    → pairs_with codes t a rows m column mains
+    ≡ pairs_with codes t (made a.table a.point a.reference a.area) rows m column mains
+without_line codes None a rows m column mains = refl
+without_line codes (Some t) a rows None column mains = refl
+without_line codes (Some t) a rows (Some m) column mains = refl
+
+by_area : (l : Layout) (rows : List (List Row)) (a : Rule) (o : Option AreaOf)
+    → pairs_in l rows a o ≡ pairs_in l rows (made a.table a.point a.reference a.area) o
+by_area l rows a None = refl
+by_area l rows a (Some x) =
+    without_line l.codes (slice_get l.tables a.table) a (slice_index_or rows a.table [])
+    (slice_get l.tables x.main) x.column (slice_index_or rows x.main [])
+
 -- the pairs of two rules that ask the same are the same
 alike_pairs : (l : Layout) (rows : List (List Row)) (a b : Rule) → are_alike a b ≡ true
     → pairs_of l rows a ≡ pairs_of l rows b
@@ -39,13 +59,12 @@ alike_pairs l rows a b e =
     (a.area == b.area) e in
     let y = both ((a.table == b.table) && (a.point == b.point)) (a.reference == b.reference) x.0 in
     let z = both (a.table == b.table) (a.point == b.point) y.0 in
-    same a.table b.table a.point b.point a.reference b.reference a.area b.area
+    by_area l rows a (slice_get l.areas a.area)
+    ∙ (same a.table b.table a.point b.point a.reference b.reference a.area b.area
     (eqb-true a.table b.table z.0) (eqb-true a.point b.point z.1)
     (eqb-true a.reference b.reference y.1) (eqb-true a.area b.area x.1)
+    ∙ sym (by_area l rows b (slice_get l.areas b.area)))
   where
-    made : ℕ → ℕ → ℕ → ℕ → Rule
-    made t p r k = record { line = 0; table = t; point = p; reference = r; area = k }
-
     same : (t u p q r s k m : ℕ) → t ≡ u → p ≡ q → r ≡ s → k ≡ m
         → pairs_of l rows (made t p r k) ≡ pairs_of l rows (made u q s m)
     same t u p q r s k m e f g h =
@@ -59,15 +78,18 @@ found_at : (rules : List Rule) (r : Rule) (n i : ℕ)
     → position_from (λ q. are_alike q r) n rules ≡ Some i
     → (q : Rule) × (j : ℕ) × (i ≡ n + j) × (slice_get rules j ≡ Some q) × (are_alike q r ≡ true)
 found_at [] r n i e = absurd (cc)
-found_at (q ∷ rules) r n i e = by (are_alike q r) refl e
+found_at (q ∷ rules) r n i e = by (are_alike q r) refl (found_at rules r (n + 1) i) e
   where
     by : (b : Bool) → are_alike q r ≡ b
+        → (position_from (λ x. are_alike x r) (n + 1) rules ≡ Some i
+        → (x : Rule) × (j : ℕ) × (i ≡ (n + 1) + j) × (slice_get rules j ≡ Some x)
+        × (are_alike x r ≡ true))
         → (if b then Some n else position_from (λ x. are_alike x r) (n + 1) rules) ≡ Some i
         → (x : Rule) × (j : ℕ) × (i ≡ n + j) × (slice_get (q ∷ rules) j ≡ Some x)
         × (are_alike x r ≡ true)
-    by true h e = (q, 0, (let z : n ≡ i = cc in omega (arith, z)), refl, h)
-    by false h e =
-        let m = found_at rules r (n + 1) i e in
+    by true h again e = (q, 0, (let z : n ≡ i = cc in omega (arith, z)), refl, h)
+    by false h again e =
+        let m = again e in
         (m.0, suc m.1, (let z = m.2 in omega (arith, z)), m.3, m.4)
 
 -- ---- places of lists
@@ -143,7 +165,8 @@ module _ (l : Layout) (rows : List (List Row)) (rules : List Rule) (asked : List
         at = q.1;
         place = p.1;
         pairs =
-            ap (λ (n : ℕ). slice_get (asked_pairs q.0) n) (f.2)
+            ap (λ (n : ℕ). slice_get (asked_pairs q.0) n)
+            (let e : p.0 ≡ f.1 = (let z = f.2 in omega (arith, z)) in e)
             ∙ (ap (λ (pss : List (List LinkPair)). slice_get pss f.1) is.pairs_are
             ∙ (get_mapped (pairs_of l rows) (rules_view q.0.rules.items) f.1 f.0 f.3
             ∙ ap Some (alike_pairs l rows f.0 r f.4)));

@@ -29,7 +29,7 @@ module _ (t : ℤ) (d : Plan) where
   held [] lines h e = All-nil (LinkHolds t d)
   held (p ∷ ps) lines h e = elim h as (λ z. All (LinkHolds t d) (p ∷ ps)) [
     | inl k ↦ All-cons (LinkHolds t d) p ps k.0 (held ps lines k.1 e)
-    | inr k ↦ absurd (let q = sym k.2 ∙ e in cc)
+    | inr k ↦ absurd (let q = sym k.1.1 ∙ e in cc)
   ]
 
   abbrev Fails : LinkPair → Type 0
@@ -53,8 +53,9 @@ module _ (t : ℤ) (d : Plan) where
     ]
     | inr a ↦ elim k as (λ z. lines ≡ more) [
       | inl b ↦ absurd (a.0 b.0)
-      | inr b ↦ a.2 ∙ ap (λ (ls : List ℕ). p.line ∷ ls) (one_misplaced ps a.1 b.1 a.3 b.3)
-          ∙ sym b.2
+      | inr b ↦ a.1.1
+          ∙ (ap (λ (ls : List ℕ). p.line ∷ ls) (one_misplaced ps a.1.0 b.1.0 a.1.2 b.1.2)
+          ∙ sym b.1.1)
     ]
   ]
 
@@ -100,15 +101,16 @@ module _ (l : Layout) (rows : List (List Row)) (ds : List Plan)
   pub some_fails : (rules : List Rule) (ms : List Misplaced) → AreTested l rows ds rules ms
       → some_misplaced ms ≡ true → Any (PairsPass SomeDoesNot l rows) rules
   some_fails [] ms h f = absurd (let q = sym (ap some_misplaced h) ∙ f in cc)
-  some_fails (r ∷ rules) ms h f = by h.0 h.2 h.4
+  some_fails (r ∷ rules) ms h f = by h.0 h.2 h.4 (some_fails rules h.1 h.3)
     where
       by : (lines : List ℕ) → AreLinesOf l rows ds r lines
           → ms ≡ map (misplaced_by r.line) lines ++ h.1
+          → (some_misplaced h.1 ≡ true → Any (PairsPass SomeDoesNot l rows) rules)
           → Any (PairsPass SomeDoesNot l rows) (r ∷ rules)
-      by [] k e =
+      by [] k e again =
           any_there (PairsPass SomeDoesNot l rows) r rules
-          (some_fails rules h.1 h.3 (sym (ap some_misplaced e) ∙ f))
-      by (n ∷ lines) k e =
+          (again (sym (ap some_misplaced e) ∙ f))
+      by (n ∷ lines) k e again =
           any_here (PairsPass SomeDoesNot l rows) r rules (
             k.0,
             k.1,

@@ -6,7 +6,7 @@ use Rattle.delivery.specs.LinkRows.{HasLinked}
 use Rattle.delivery.specs.Pieces.{AreKept}
 use Rattle.delivery.specs.declared.judging.linking.LinksKept.{LinksKept}
 
-pub judged_kept : (l : Layout) (text : List ℕ) (k : LinksKept) → AreKept HasLinked l text k
+abbrev pub judged_kept : (l : Layout) (text : List ℕ) (k : LinksKept) → AreKept HasLinked l text k
     → AreKept HasTaken l text k.judged
 judged_kept l text k h = record {
   rows = h.rows;

@@ -38,6 +38,7 @@ pub mod SurfaceLemmas
 pub mod SurfaceRows
 pub mod SurfaceSteps
 pub mod TestedAreas
+pub mod TestedLinks
 pub mod ToldRegions
 pub mod ValidInput
 pub mod Verifications

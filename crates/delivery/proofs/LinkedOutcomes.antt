@@ -1,5 +1,5 @@
 -- The outcome of links by what is answered, and that two outcomes of one text agree.
-use Rattle.std.proofs.Common.{◌≡◌, inl, inr, ℕ, Bool, true, false, ◌||◌, List, [], ◌∷◌, ◌++◌, None}
+use Rattle.std.proofs.Common.{◌≡◌, inl, inr, ℕ, Bool, true, false, ◌&&◌, ◌||◌, List, [], ◌∷◌, ◌++◌, None}
 use Rattle.std.proofs.Common.{length, refl, sym, ap, ◌∙◌, subst}
 use Rattle.std.specs.Prelude.{if◌then◌else◌}
 use Rattle.std.specs.List.{list_any}
@@ -47,7 +47,7 @@ fine_all [] f g = refl
 fine_all (x ∷ xs) f g =
     let a = neither (answer_is_fault x) (some_fault xs) f in
     let b = neither (answer_is_undecided x) (some_undecided xs) g in
-    ap (λ (c : Bool). if c then are_fine xs else false) (fine_kind (answer_kind x) a.0 b.0)
+    ap (λ (c : Bool). c && are_fine xs) (fine_kind (answer_kind x) a.0 b.0)
     ∙ fine_all xs a.1 b.1
 
 -- ---- the outcome by what is answered

@@ -73,7 +73,9 @@ dropped : {X : Type 0} (xs : List X) (n : ℕ) (x : X) → slice_get xs n ≡ So
     → drop n xs ≡ x ∷ drop (n + 1) xs
 dropped [] n x e = absurd (cc)
 dropped (y ∷ xs) zero x e = ap (λ z. z ∷ xs) (same_some y x e)
-dropped (y ∷ xs) (suc n) x e = dropped xs n x e
+dropped (y ∷ xs) (suc n) x e =
+    dropped xs n x e
+    ∙ ap (λ (m : ℕ). x ∷ drop m (y ∷ xs)) (let q : suc (n + 1) ≡ suc n + 1 = omega arith in q)
 
 either : (k n : ℕ) → k < n + 1 → (P : Type 0) → (k < n → P) → (k ≡ n → P) → P
 either zero zero lt P f g = g refl

@@ -64,15 +64,14 @@ inside_within w p i =
 pub inner_inside : (w : Window2) (ps : List LinkPair)
     → All (IsInside w.low w.high) (inner_places w ps)
 inner_inside w [] = All-nil (IsInside w.low w.high)
-inner_inside w (p ∷ ps) = by (is_within w p.at) refl
+inner_inside w (p ∷ ps) = by (is_within w p.at) refl (inner_inside w ps)
   where
-    by : (b : Bool) → is_within w p.at ≡ b
+    by : (b : Bool) → is_within w p.at ≡ b → All (IsInside w.low w.high) (inner_places w ps)
         → All (IsInside w.low w.high)
         (if b then p.at ∷ inner_places w ps else inner_places w ps)
-    by true e =
-        All-cons (IsInside w.low w.high) p.at (inner_places w ps) (within_inside w p.at e)
-        (inner_inside w ps)
-    by false e = inner_inside w ps
+    by true e rest =
+        All-cons (IsInside w.low w.high) p.at (inner_places w ps) (within_inside w p.at e) rest
+    by false e rest = rest
 
 all_append : (P : Point → Type 0) (xs ys : List Point) → All P xs → All P ys → All P (xs ++ ys)
 all_append P [] ys a b = b
@@ -105,7 +104,7 @@ module _ (g : Plan) (w : Window2) where
       → AreTelling g (inner_places w ps ++ more) rs
       → AreTold g w ps rs × AreTelling g more (regions_left w ps rs)
   told [] more rs t = (tt, t)
-  told (p ∷ ps) more rs t = by (is_within w p.at) rs t
+  told (p ∷ ps) more rs t = by (is_within w p.at) (told ps more) rs t
     where
       Given : Bool → List Region → Type 0
       Given b rs =
@@ -117,14 +116,19 @@ module _ (g : Plan) (w : Window2) where
           × AreTold g w ps (if b then after_first rs else rs))
           × AreTelling g more (regions_left w ps (if b then after_first rs else rs))
 
-      by : (b : Bool) (rs : List Region) → Given b rs → Wanted b rs
-      by true [] t = absurd (omega (arith, t.0))
-      by true (r ∷ rs) t =
-          let rest = told ps more rs
+      Told : Type 0
+      Told =
+          (rs : List Region) → AreTelling g (inner_places w ps ++ more) rs
+          → AreTold g w ps rs × AreTelling g more (regions_left w ps rs)
+
+      by : (b : Bool) → Told → (rs : List Region) → Given b rs → Wanted b rs
+      by true again [] t = absurd (omega (arith, t.0))
+      by true again (r ∷ rs) t =
+          let rest = again rs
           (telling_rest g p.at (inner_places w ps ++ more) r rs t) in
           ((λ k. t.1 0 k (omega arith), rest.0), rest.1)
-      by false rs t =
-          let rest = told ps more rs t in
+      by false again rs t =
+          let rest = again rs t in
           ((tt, rest.0), rest.1)
 
 -- ---- what they say
@@ -185,15 +189,14 @@ module _ (t : ℤ) (d g : Plan) (is_bent : Bool) (origin : List ℕ)
   misplaced_by [] rs a = refl
   misplaced_by (p ∷ ps) rs a =
       by (is_of (region_of d.window p rs) p.object) refl
+      (misplaced_by ps (regions_after d.window p rs) a.1)
     where
-      rest : AreMisplaced t d ps (lines_by d.window ps (regions_after d.window p rs))
-      rest = misplaced_by ps (regions_after d.window p rs) a.1
-
       by : (b : Bool) → is_of (region_of d.window p rs) p.object ≡ b
+          → AreMisplaced t d ps (lines_by d.window ps (regions_after d.window p rs))
           → AreMisplaced t d (p ∷ ps)
           (line_unless b p.line ++ lines_by d.window ps (regions_after d.window p rs))
-      by true e = inl (holds_by p rs (is_within d.window p.at) refl a.0 e, rest)
-      by false e =
+      by true e rest = inl (holds_by p rs (is_within d.window p.at) refl a.0 e, rest)
+      by false e rest =
           inr (
             (λ h. true≢false (sym (held_by p rs (is_within d.window p.at) refl a.0 h) ∙ e)),
             (lines_by d.window ps (regions_after d.window p rs), refl, rest),

@@ -1,5 +1,5 @@
 -- What the rules of a file of links ask of each area, and what is found.
-use Rattle.std.specs.Prelude.{◌≡◌, ℕ, ℤ, ◌+◌, Bool, true, ◌==◌, ◌&&◌, List, [], ◌∷◌, length, map}
+use Rattle.std.specs.Prelude.{◌≡◌, ℕ, ℤ, ◌+◌, ◌<◌, Bool, true, ◌==◌, ◌&&◌, List, [], ◌∷◌, length, map}
 use Rattle.std.specs.Prelude.{Option, Some, None, slice_get, slice_index_or}
 use Rattle.std.specs.Global.{Vec}
 use Rattle.std.specs.List.{All, AllZip, position_from}
@@ -42,6 +42,12 @@ IsAmong rules r = (i : ℕ) × (slice_get rules i ≡ Some r)
 pub record IsAskedOf (number : ℕ) (rules asked : List Rule) : Type 0 where
   pub from_rules : All (IsAmong rules) asked
   pub whole : (r : Rule) → IsAmong rules r → r.area ≡ number → HasAlike asked r
+
+-- the same of the first k rules
+pub record AreAskedTo (number : ℕ) (rules : List Rule) (k : ℕ) (asked : List Rule) : Type 0 where
+  pub from_rules : All (IsAmong rules) asked
+  pub whole : (i : ℕ) (r : Rule) → i < k → slice_get rules i ≡ Some r → r.area ≡ number
+      → HasAlike asked r
 
 -- ---- the pairs of the rules of each area
 -- the code's pairs of a rule

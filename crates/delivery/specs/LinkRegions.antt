@@ -1,5 +1,5 @@
 -- The regions of the points of pairs, and what they say of the pairs.
-use Rattle.std.specs.Prelude.{◌≡◌, ◌↔◌, ℕ, Bool, true, false, ◌==◌, ◌&&◌, if◌then◌else◌, int_le}
+use Rattle.std.specs.Prelude.{◌≡◌, ◌↔◌, ℕ, ℤ, Bool, true, false, ◌==◌, ◌&&◌, if◌then◌else◌, int_le}
 use Rattle.std.specs.Prelude.{List, [], ◌∷◌, ◌++◌, Option, Some, None, ⊤}
 use Rattle.std.specs.List.{flat_map}
 use Rattle.area_links.specs.declared.kinds.LinkPair.{LinkPair}
@@ -11,10 +11,13 @@ use Rattle.plane.specs.Rule.Plans.{Plan}
 use Rattle.plane.specs.declared.kinds.Point.{Point}
 use Rattle.plane.specs.declared.window.Window2.{Window2}
 
+-- a number lies between two others, or is one of them
+abbrev pub is_between : ℤ → ℤ → ℤ → Bool
+is_between low high a = int_le low a && int_le a high
+
 -- the point lies in the window, its border included
 abbrev pub is_within : Window2 → Point → Bool
-is_within w p =
-    (int_le w.low.x p.x && int_le p.x w.high.x) && (int_le w.low.y p.y && int_le p.y w.high.y)
+is_within w p = is_between w.low.x w.high.x p.x && is_between w.low.y w.high.y p.y
 
 -- the points of pairs that lie in the window
 abbrev pub inner_places : Window2 → List LinkPair → List Point

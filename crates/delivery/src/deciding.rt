@@ -204,7 +204,7 @@ fn decide_unlinked<'a, S: Shelf>(
         (S.readable shelf.new) (S.space shelf.new) }
 {
     match read_file(alloc, shelf, File::Links, name) {
-        Ok(_) => misbuilt(alloc, line, code),
+        Ok(_links) => misbuilt(alloc, line, code),
         Err(refusal) => not_read(alloc, File::Links, refusal),
     }
 }

@@ -1,5 +1,5 @@
 // What the rules of a file of links ask of each area.
-ghost use Rattle.std.specs.Prelude.{◌≡◌, ℕ, List, IfOk, map};
+ghost use Rattle.std.specs.Prelude.{◌≡◌, ◌+◌, ℕ, List, IfOk, OnOk, Some, false, map, slice_get};
 ghost use Rattle.area_drawings.specs.KeptViews.{kept_in};
 ghost use Rattle.area_links.specs.Pairs.{pairs_of};
 ghost use Rattle.area_links.specs.Views.{rule_view, rules_view};
@@ -8,7 +8,8 @@ ghost use Rattle.std.specs.List.{All};
 ghost use Rattle.table_layout.specs.Valid.{IsValid};
 ghost use Rattle.table_layout.specs.Values.{layout_view};
 ghost use Rattle.delivery.specs.AskedLinks.{AreAsked, IsAsked, IsAskedOf, are_alike, pairs_in};
-ghost use Rattle.delivery.specs.AskedLinks.{place_alike};
+ghost use Rattle.delivery.specs.AskedLinks.{AreAskedTo, HasAlike, place_alike};
+ghost use Rattle.area_links.specs.Rules.{Rule};
 ghost use Rattle.delivery.specs.KeptRows.{transfer_so_far};
 ghost use Rattle.delivery.specs.LinkRows.{AreLinksKept, IsGoodRule, points_in};
 
@@ -46,6 +47,37 @@ pub fn place_alike(rules: &[LinkRule], rule: &LinkRule) -> Option<usize>
     None
 }
 
+// The rule is of the area of that number, and none of these asks the same.
+fn is_missing(asked: &[LinkRule], rule: &LinkRule, number: u32) -> bool
+    ensures { result ≡ false → rule.now.area ≡ number
+        → HasAlike (rules_view asked.now) (rule_view rule.now) }
+{
+    if rule.area != number {
+        return false;
+    }
+    match place_alike(asked, rule) {
+        Some(_) => false,
+        None => true,
+    }
+}
+
+// Adds a rule to those that ask the area of that number, where it is missing.
+fn add_missing(
+    asked: &mut Vec<LinkRule>,
+    rule: &LinkRule,
+    number: u32,
+) -> Result<(), Memory>
+    ensures { OnOk result ((rules : List Rule) (k : ℕ)
+        → slice_get rules k ≡ Some (rule_view rule.now)
+        → AreAskedTo number rules k (rules_view asked.old.items)
+        → AreAskedTo number rules (k + 1) (rules_view asked.new.items)) }
+{
+    if is_missing(asked, rule, number) {
+        asked.push(*rule)?;
+    }
+    Ok(())
+}
+
 // Of some rules those of the area of that number, of rules that ask the same the first. It takes
 // time in proportion to the rules times those that are answered.
 fn rules_of_area(alloc: Global, rules: &[LinkRule], number: u32) -> Result<Vec<LinkRule>, Memory>
@@ -53,9 +85,7 @@ fn rules_of_area(alloc: Global, rules: &[LinkRule], number: u32) -> Result<Vec<L
 {
     let mut asked = Vec::new(alloc);
     for rule in rules {
-        if rule.area == number && place_alike(&asked, rule).is_none() {
-            asked.push(*rule)?;
-        }
+        add_missing(&mut asked, rule, number)?;
     }
     Ok(asked)
 }

@@ -1,27 +1,32 @@
 // Whether the points of pairs lie in the regions of their objects.
-ghost use Rattle.std.specs.Prelude.{◌≡◌, ◌≤◌, ◌++◌, Some, IfOk, OnOk, length, map};
+ghost use Rattle.std.specs.Prelude.{◌≡◌, ◌≤◌, ◌++◌, IfOk, OnOk, length};
 ghost use Rattle.area_search.specs.Grounds.{IsAnswerBy};
 ghost use Rattle.area_search.specs.declared.kinds.AreaAnswer.TheVariants.{Proved};
 ghost use Rattle.certificate.specs.declared.notes.Certificate.{Certificate};
 ghost use Rattle.plane.specs.Rule.Plans.{plan};
-ghost use Rattle.delivery.specs.LinkRegions.{inner_places, is_of, is_within, lines_by};
-ghost use Rattle.delivery.specs.LinkRegions.{region_of, regions_after, regions_left};
 ghost use Rattle.delivery.specs.Links.{AreMisplaced};
+ghost use Rattle.delivery.specs.LinkRegions.{inner_places, is_between, is_of, is_within, lines_by};
+ghost use Rattle.delivery.specs.LinkRegions.{region_of, regions_after, regions_left};
 
 use area_links::LinkPair;
-use area_search::laws::regions_are_exact;
+use area_search::laws::{answers_are_right, one_right_ground, regions_are_exact};
 use area_search::{Region, find_objects};
 use plane::{Drawing, Point, Window2};
 use ports::Memory;
 use std::alloc::Global;
 
+// The number lies between two others, or is one of them.
+fn is_between(low: i64, high: i64, a: i64) -> bool
+    ensures { result ≡ is_between low high a }
+{
+    low <= a && a <= high
+}
+
 // The point lies in the window, its border included.
 fn is_within(window: &Window2, at: Point) -> bool
     ensures { result ≡ is_within window.now at }
 {
-    let across = window.low.x <= at.x && at.x <= window.high.x;
-    let upward = window.low.y <= at.y && at.y <= window.high.y;
-    across && upward
+    is_between(window.low.x, window.high.x, at.x) && is_between(window.low.y, window.high.y, at.y)
 }
 
 /// Adds the points of pairs that lie in the window of the drawing.
@@ -112,7 +117,8 @@ pub fn misplaced(alloc: Global, drawing: &Drawing, pairs: &[LinkPair]) -> Result
     ensures { IfOk result (λ lines. AreMisplaced drawing.now.tolerance (plan drawing.now) pairs.now
         lines.items) }
 {
-    area_search::laws::answers_are_right();
+    answers_are_right();
+    one_right_ground();
     regions_are_exact();
     let mut places = Vec::new(alloc);
     add_inner(drawing, pairs, &mut places)?;

@@ -21,7 +21,7 @@ use super::asked::AskedArea;
 use super::regions::{add_inner, misplaced_lines};
 use crate::area_answers::answer_by;
 use area_links::LinkPair;
-use area_search::laws::{one_right_ground, regions_are_exact};
+use area_search::laws::{answers_are_right, one_right_ground, regions_are_exact};
 use area_search::{AreaAnswer as Found, FoundObjects, Region, find_objects};
 use plane::{Drawing, Point};
 use ports::Memory;
@@ -117,6 +117,7 @@ fn tested_answer(
         (area_view area.now) (plan drawing.now) (asked_pairs asked.now) x.area cs
         (results_view x.results)) }
 {
+    answers_are_right();
     let places = all_inner(alloc, drawing, &asked.pairs)?;
     let found = find_objects(alloc, drawing, &places)?;
     let results = results_of(alloc, drawing, asked, &found)?;

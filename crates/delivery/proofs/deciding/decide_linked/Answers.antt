@@ -22,8 +22,8 @@ returns-in-Ok-clause-outcome g c text source j =
     })
     (c.linked_by.ensures text j)
 
-pub returns-in-Err-clause-outcome : goal.returns-in-Err-clause-outcome
-returns-in-Err-clause-outcome g c text source j =
+pub returns-clause-outcome : goal.returns-clause-outcome
+returns-clause-outcome g c text source j =
     let held = g.S.Shelf.held c.args.shelf.now in
     let counted : List ℕ → Type 0 =
     ReadRose (g.S.Shelf.read_faults c.args.shelf.now)

@@ -14,8 +14,8 @@ pub returns-in-Ok-clause-outcome : goal.returns-in-Ok-clause-outcome
 returns-in-Ok-clause-outcome g c l text source k =
     if_ok _ _ c.misbuilt.result
     (λ o e. record {
-      gathered = texts l (text ∷ c.in-Ok.field-0.items ∷ []);
-      reads = inr (inr (c.in-Ok.field-0.items, c.in-Ok.ensures.whole, refl));
+      gathered = texts l (text ∷ c.in-Ok._links.items ∷ []);
+      reads = inr (inr (c.in-Ok._links.items, c.in-Ok.ensures.whole, refl));
       amounts = at_fault c.args.line (fault_of c.args.code) k e;
     })
     c.misbuilt.ensures

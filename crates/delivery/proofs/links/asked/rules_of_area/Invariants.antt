@@ -1,6 +1,6 @@
 use Rattle.std.proofs.Common.{take}
 use Rattle.area_links.specs.Views.{rules_view}
-use Rattle.delivery.proofs.AskedRules.{AreAskedTo}
+use Rattle.delivery.specs.AskedLinks.{AreAskedTo}
 use Rattle.delivery.proofs.links.asked.rules_of_area.Given as goal
 
 abbrev pub invariant-loop-rule : goal.invariant-loop-rule
