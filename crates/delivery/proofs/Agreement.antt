@@ -21,7 +21,7 @@ use Rattle.delivery.specs.Deciding.{Decides, formless, formed}
 use Rattle.area_drawings.specs.AreaLimits.{has_too_large}
 use Rattle.area_links.specs.Rules.{Rule, links_of}
 use Rattle.std.specs.Prelude.{Err, Ok, Result}
-use Rattle.delivery.specs.Links.{AreLinked, AreTestedBy, IsLinked, bad, tested}
+use Rattle.delivery.specs.Links.{AreLinked, AreTestedBy, bad, tested}
 use Rattle.delivery.proofs.LinkedOutcomes.{agree_by_rules}
 use Rattle.delivery.specs.FiledTexts.{AreVerified, IsVerified}
 use Rattle.commands.specs.Gathering as gathering

@@ -20,7 +20,6 @@ use Rattle.forks.specs.Grounds.{IsGround, own, bent}
 use Rattle.tubes.specs.FewEdges.{HasFewEdges}
 use Rattle.area_drawings.specs.Drawings.{area_tolerance}
 use Rattle.area_drawings.specs.KeptViews.{HasTolerance}
-use Rattle.table_layout.specs.Values.{layout_view}
 use Rattle.area_search.specs.declared.kinds.AreaAnswer.{AreaAnswer as Found}
 use Rattle.area_search.specs.declared.kinds.AreaAnswer.TheVariants as found
 use Rattle.area_search.specs.declared.kinds.AreaFinding.{AreaFinding}

@@ -1,6 +1,6 @@
 -- The rules that ask an area, rule after rule, and what is asked of each area.
 use Rattle.std.proofs.Common.{◌≡◌, inl, inr, ℕ, zero, suc, ◌+◌, ◌<◌, ◌≤◌, Bool, true, false, ◌&&◌}
-use Rattle.std.proofs.Common.{get_or, List, [], ◌∷◌, ◌++◌, length, map, Option, Some, None, refl, sym, ap}
+use Rattle.std.proofs.Common.{get_or, List, [], ◌∷◌, ◌++◌, length, map, Some, None, refl, sym, ap}
 use Rattle.std.proofs.Common.{◌∙◌, subst, arith, true≢false}
 use Rattle.std.specs.Prelude.{◌==◌, ◌⊎◌, if◌then◌else◌, slice_get}
 use Rattle.std.specs.List.{All, AllZip, position_from}
@@ -10,8 +10,7 @@ use Rattle.std.proofs.lemmas.List.Elements.{All-nil, All-cons, All-head, All-tai
 use Rattle.area_links.specs.Rules.{Rule}
 use Rattle.itf_reader.specs.Forms.{Row}
 use Rattle.table_layout.specs.Layouts.{Layout}
-use Rattle.delivery.specs.AskedLinks.{AreAsked, AreAskedTo, HasAlike, IsAmong, IsAsked, IsAskedOf, are_alike}
-use Rattle.delivery.specs.AskedLinks.{place_alike}
+use Rattle.delivery.specs.AskedLinks.{AreAskedTo, HasAlike, IsAmong, IsAsked, IsAskedOf, are_alike}
 use Rattle.delivery.specs.LinkRows.{IsGoodRule}
 use Rattle.delivery.specs.declared.links.asked.AskedArea.{AskedArea}
 

@@ -1,12 +1,12 @@
 -- What is found of the places of pairs in a drawing that is proved.
-use Rattle.std.proofs.Common.{◌≡◌, ℕ, ℤ, ◌<◌, Bool, true, false, List, [], ◌∷◌, ◌++◌, length, refl, sym, ap, ◌∙◌}
+use Rattle.std.proofs.Common.{◌≡◌, ℕ, ℤ, ◌<◌, Bool, true, false, List, [], ◌∷◌, length, refl, sym, ap, ◌∙◌}
 use Rattle.std.proofs.Common.{append-nil, arith, subst, true≢false}
 use Rattle.std.specs.Prelude.{◌↔◌}
-use Rattle.std.specs.List.{All, AllZip}
+use Rattle.std.specs.List.{AllZip}
 use Rattle.certificate.specs.declared.notes.Certificate.{Certificate}
 use Rattle.area_drawings.specs.Drawings.{area_tolerance}
 use Rattle.certificate.specs.Spelling.{Plain}
-use Rattle.certificate_checker.specs.Subjects.{Claims, claims}
+use Rattle.certificate_checker.specs.Subjects.{claims}
 use Rattle.area_links.specs.declared.kinds.LinkPair.{LinkPair}
 use Rattle.area_search.specs.Grounds.{HasArea, HasSettledGround, IsAnswerBy, IsRightGround}
 use Rattle.area_search.specs.Grounds.{ProvesGround}

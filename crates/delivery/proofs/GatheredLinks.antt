@@ -1,6 +1,6 @@
 -- What is gathered of the pairs of all rules.
-use Rattle.std.proofs.Common.{◌≡◌, inl, inr, ℕ, ℤ, zero, suc, ◌+◌, ◌<◌, Bool, true, false, ◌&&◌, List}
-use Rattle.std.proofs.Common.{[], ◌∷◌, ◌++◌, length, map, Option, Some, None, refl, sym, ap, ◌∙◌}
+use Rattle.std.proofs.Common.{◌≡◌, ℕ, zero, suc, ◌+◌, Bool, true, false, ◌&&◌, List}
+use Rattle.std.proofs.Common.{[], ◌∷◌, length, map, Option, Some, None, refl, sym, ap, ◌∙◌}
 use Rattle.std.proofs.Common.{subst, arith, true≢false}
 use Rattle.std.specs.Prelude.{◌==◌, if◌then◌else◌, slice_get, slice_index_or}
 use Rattle.std.specs.List.{All, AllZip, flat_map, position_from}
@@ -16,14 +16,12 @@ use Rattle.itf_reader.specs.Forms.{Row}
 use Rattle.plane.specs.Rule.Plans.{Plan}
 use Rattle.table_layout.specs.Layouts.{AreaOf, Layout, Table}
 use Rattle.reports.specs.Kinds.{answer_kind, are_fine, is_fine}
-use Rattle.reports.specs.Outcomes.{Misplaced}
 use Rattle.reports.specs.declared.lines.AreaAnswer.{AreaAnswer}
-use Rattle.delivery.specs.AreaAnswers.{AreAnswers}
-use Rattle.delivery.specs.AskedLinks.{AreAsked, AreResults, AreTestedAnswers, HasAlike, IsAmong}
+use Rattle.delivery.specs.AskedLinks.{AreAsked, AreTestedAnswers, IsAmong}
 use Rattle.delivery.specs.AskedLinks.{IsAsked, are_alike, asked_pairs, count_at, count_in}
 use Rattle.delivery.specs.AskedLinks.{lines_at, lines_in, place_alike, rule_count, rule_lines}
 use Rattle.delivery.specs.AskedLinks.{rule_misplaced, rules_count}
-use Rattle.delivery.specs.Links.{AreLinesOf, AreMisplaced, AreTested, misplaced_by, pair_count}
+use Rattle.delivery.specs.Links.{AreLinesOf, AreMisplaced, AreTested, pair_count}
 use Rattle.delivery.specs.LinkRows.{IsGoodRule}
 use Rattle.delivery.specs.declared.links.asked.AskedArea.{AskedArea}
 

@@ -1,5 +1,5 @@
 -- The rules that a file of links states are good.
-use Rattle.std.proofs.Common.{◌≡◌, ℕ, zero, suc, ◌+◌, Bool, true, false, ◌&&◌, List, [], ◌∷◌}
+use Rattle.std.proofs.Common.{◌≡◌, ℕ, suc, ◌+◌, Bool, true, false, ◌&&◌, List, [], ◌∷◌}
 use Rattle.std.proofs.Common.{Option, Some, None, Result, Ok, Err, refl, sym, ap, ◌∙◌, subst, arith}
 use Rattle.std.proofs.Common.{if◌then◌else◌}
 use Rattle.std.specs.Prelude.{◌==◌, codes, option_and_then, slice_get}
@@ -18,7 +18,7 @@ use Rattle.area_links.specs.Rules.{point_window}
 use Rattle.area_links.specs.Rules.{rule_in, rule_of, rule_of_area, rule_of_columns, rule_of_table}
 use Rattle.area_links.specs.Rules.{rule_with, same, scaled_rule, table_number, table_of_form}
 use Rattle.area_links.specs.Rules.{target}
-use Rattle.area_links.specs.Rules.{then_rules, window_of_form, with_rule}
+use Rattle.area_links.specs.Rules.{then_rules, window_of_form}
 use Rattle.delivery.specs.LinkRows.{IsGoodRule}
 
 -- ---- chains

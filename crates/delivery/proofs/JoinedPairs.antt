@@ -9,7 +9,7 @@ use Rattle.std.specs.Option.{option_map, option_to_list}
 use Rattle.std.proofs.lemmas.Bool.Decides.{nat_tests}
 use Rattle.std.proofs.lemmas.List.Elements.{All-head, All-tail}
 use Rattle.itf_reader.specs.Forms.{Row}
-use Rattle.itf_reader.specs.RowLines.{LinesRise, row_lines, table_lines, vertex_lines}
+use Rattle.itf_reader.specs.RowLines.{LinesRise, table_lines, vertex_lines}
 use Rattle.itf_reader.proofs.Among.{Among, Climbs, Rises, among-append, among_climbs}
 use Rattle.itf_reader.proofs.Among.{increase_climbs, keep, none, nothing}
 use Rattle.ident_refs.specs.KeptRows.{row_line}

@@ -1,10 +1,9 @@
 -- What is kept of rows, one row more.
-use Rattle.std.proofs.Common.{◌≡◌, ℕ, zero, suc, ◌+◌, ◌<◌, ◌≤◌, Bool, true, false, cond, nat_eq}
+use Rattle.std.proofs.Common.{◌≡◌, ℕ, zero, suc, ◌+◌, ◌<◌, ◌≤◌, Bool, true, false}
 use Rattle.std.proofs.Common.{List, [], ◌∷◌, ◌++◌, length, map, take, drop, get_or, set, Some, Result, Ok}
 use Rattle.std.proofs.Common.{Err, OnOk, refl, sym, ap, ◌∙◌, arith, append_assoc, append-nil}
 use Rattle.std.specs.Prelude.{slice_get, IfSome, if◌then◌else◌}
 use Rattle.std.specs.List.{flat_map}
-use Rattle.std.proofs.lemmas.Bool.{eqb-true}
 use Rattle.ili_grammar.specs.Syntax.{Codes}
 use Rattle.std.proofs.lemmas.List.{length-map, map_push, map_more}
 use Rattle.table_layout.specs.Layouts.{Table, Layout}

@@ -1,12 +1,12 @@
 -- The columns of points that links may name, and what is kept of them, one row more.
-use Rattle.std.proofs.Common.{◌≡◌, ℕ, zero, suc, ◌+◌, ◌<◌, Bool, true, false, ◌||◌, List, [], ◌∷◌}
-use Rattle.std.proofs.Common.{◌++◌, length, map, take, drop, get_or, refl, sym, ap, ◌∙◌, arith}
+use Rattle.std.proofs.Common.{◌≡◌, ℕ, zero, suc, ◌+◌, ◌<◌, Bool, true, false, List, [], ◌∷◌}
+use Rattle.std.proofs.Common.{◌++◌, length, map, take, get_or, refl, sym, ap, ◌∙◌, arith}
 use Rattle.std.proofs.Common.{append-nil, if◌then◌else◌, Result, OnOk, Ok, Err}
 use Rattle.std.specs.Prelude.{slice_get, IfSome}
 use Rattle.std.specs.List.{list_any}
 use Rattle.ili_grammar.specs.Syntax.{Codes}
 use Rattle.resolver.specs.Values.{form_of}
-use Rattle.table_layout.specs.Layouts.{Column, Layout, Table}
+use Rattle.table_layout.specs.Layouts.{Column, Table}
 use Rattle.table_layout.specs.Values.{columns_view}
 use Rattle.table_layout.specs.declared.layouts.Column.{Column as CodeColumn}
 use Rattle.itf_reader.specs.Forms.{Row}
@@ -14,7 +14,6 @@ use Rattle.itf_reader.specs.RowReadings.{Cell, cells_view}
 use Rattle.itf_reader.specs.declared.rows.values.RowValues.{RowValues}
 use Rattle.itf_writer.specs.Feeds.{with_row_at}
 use Rattle.area_drawings.specs.KeptPoints.{PointColumn, point_column, points_kept, with_points}
-use Rattle.area_drawings.specs.KeptPoints.{row_cells}
 use Rattle.area_drawings.proofs.RowSteps as steps
 use Rattle.delivery.specs.KeptRows.{changed_at, tables_found}
 use Rattle.delivery.specs.KeptViews.{AreReadAs}

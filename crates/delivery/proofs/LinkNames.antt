@@ -2,8 +2,8 @@
 use Rattle.std.proofs.Common.{◌≡◌, ℕ, zero, suc, ◌+◌, ◌<◌, ◌≤◌, Bool, true, false, ◌||◌, nat_eq}
 use Rattle.std.proofs.Common.{List, [], ◌∷◌, ◌++◌, length, map, take, drop, Option, Some, None}
 use Rattle.std.proofs.Common.{refl, sym}
-use Rattle.std.proofs.Common.{ap, ◌∙◌, subst, arith, cond, if◌then◌else◌}
-use Rattle.std.specs.Prelude.{◌==◌, option_and_then, slice_get, slice_index_or}
+use Rattle.std.proofs.Common.{ap, ◌∙◌, subst, arith, if◌then◌else◌}
+use Rattle.std.specs.Prelude.{option_and_then, slice_get, slice_index_or}
 use Rattle.std.specs.List.{flat_map, position_from}
 use Rattle.std.specs.Option.{option_map, option_to_list}
 use Rattle.std.proofs.lemmas.Bool.{eqb-true}
@@ -23,7 +23,7 @@ use Rattle.itf_reader.specs.RowFindings.{is_counted, widths}
 use Rattle.ident_refs.specs.KeyFindings.{referred_table}
 use Rattle.ident_refs.specs.NamedRows.{Named, columns_names, form_names, row_names, rows_named}
 use Rattle.ident_refs.specs.Rows.{has_identification}
-use Rattle.area_links.specs.Pairs.{Words, identification, number_in, object_of, row_word, word_of}
+use Rattle.area_links.specs.Pairs.{Words, identification, object_of, row_word, word_of}
 use Rattle.area_links.specs.Pairs.{words_at}
 use Rattle.delivery.specs.LinkJoins.{object_at}
 use Rattle.delivery.proofs.JoinedPairs.{all_namings, naming}

@@ -1,6 +1,6 @@
 -- The points that are kept of a column are those that its rows have there, by what links ask.
 use Rattle.std.proofs.Common.{◌≡◌, ℕ, zero, suc, ◌+◌, Bool, true, false, ◌&&◌, ◌||◌, nat_eq, List}
-use Rattle.std.proofs.Common.{[], ◌∷◌, ◌++◌, map, take, drop, Option, Some, None, Result, Ok, Err}
+use Rattle.std.proofs.Common.{[], ◌∷◌, ◌++◌, take, drop, Option, Some, None, Result, Ok, Err}
 use Rattle.std.proofs.Common.{refl, sym, ap, ◌∙◌, subst, arith, if◌then◌else◌}
 use Rattle.std.specs.Prelude.{◌-◌, ◌==◌, option_and_then, slice_get}
 use Rattle.std.proofs.lemmas.Bool.Decides.{nat_tests}
@@ -16,13 +16,13 @@ use Rattle.field_values.specs.Fields.{is_undefined, value_fault, width}
 use Rattle.field_values.specs.Readings.{Value, Numbers, Bytes, reading, value_of, column_reading}
 use Rattle.itf_reader.specs.Forms.{Row}
 use Rattle.itf_reader.specs.RowFindings.{is_counted}
-use Rattle.itf_reader.specs.RowReadings.{Cell, Undefined, cell_by, cell_of, cells_of}
+use Rattle.itf_reader.specs.RowReadings.{Undefined, cell_by, cell_of, cells_of}
 use Rattle.plane.specs.declared.kinds.Placed.{Placed}
 use Rattle.plane.specs.declared.kinds.Point.{Point}
-use Rattle.area_drawings.specs.KeptPoints.{cell_points, point_column, points_in_column, points_kept}
+use Rattle.area_drawings.specs.KeptPoints.{cell_points, points_in_column, points_kept}
 use Rattle.area_drawings.specs.KeptPoints.{row_points}
-use Rattle.area_links.specs.Pairs.{Words, point_of, row_point, row_words, words_at}
-use Rattle.delivery.specs.LinkRows.{is_point, is_reference, link_columns, link_points}
+use Rattle.area_links.specs.Pairs.{Words, point_of, row_point, words_at}
+use Rattle.delivery.specs.LinkRows.{is_point, is_reference, link_points}
 use Rattle.delivery.specs.LinkRows.{point_columns}
 use Rattle.delivery.proofs.JoinedPairs.{all_placed, lined}
 

@@ -1,11 +1,10 @@
 -- The outcome of links by what is answered, and that two outcomes of one text agree.
-use Rattle.std.proofs.Common.{◌≡◌, inl, inr, ℕ, Bool, true, false, ◌&&◌, ◌||◌, List, [], ◌∷◌, ◌++◌, None}
+use Rattle.std.proofs.Common.{◌≡◌, ℕ, Bool, true, false, ◌&&◌, ◌||◌, List, [], ◌∷◌, ◌++◌, None}
 use Rattle.std.proofs.Common.{length, refl, sym, ap, ◌∙◌, subst}
 use Rattle.std.specs.Prelude.{if◌then◌else◌}
-use Rattle.std.specs.List.{list_any}
 use Rattle.std.proofs.lemmas.List.Folds.{list_any-append}
 use Rattle.area_drawings.proofs.Windows.{same_drawings}
-use Rattle.area_links.specs.Rules.{Rule, links_of}
+use Rattle.area_links.specs.Rules.{Rule}
 use Rattle.certificate.specs.Spelling.{Plain}
 use Rattle.itf_reader.specs.Forms.{Row}
 use Rattle.plane.specs.Rule.Plans.{Plan}
@@ -14,7 +13,7 @@ use Rattle.reports.specs.Kinds.{answer_kind, are_fine, has_fault, has_undecided,
 use Rattle.reports.specs.Kinds.{is_undecided, kind_of}
 use Rattle.reports.specs.Lines as lines
 use Rattle.reports.specs.Lines.{Line}
-use Rattle.reports.specs.Outcomes.{Misplaced, Outcome, accepted_with, bad_link, by_kinds, judged_lines}
+use Rattle.reports.specs.Outcomes.{Misplaced, Outcome, accepted_with, judged_lines}
 use Rattle.reports.specs.Outcomes.{link_lines, linked, reported, unfiled_outcome, with_verdict}
 use Rattle.reports.specs.Surfaces.{surfaces}
 use Rattle.reports.specs.declared.lines.AreaAnswer.{AreaAnswer}
@@ -26,7 +25,7 @@ use Rattle.reports.specs.declared.status.Status.TheVariants as status
 use Rattle.delivery.specs.Answers.{Agree, same}
 use Rattle.delivery.specs.AreaAnswers.{AreAnswers}
 use Rattle.delivery.specs.Judging.{objects as objects_of}
-use Rattle.delivery.specs.Links.{AreLinked, AreTested, AreTestedBy, bad, pair_count, tested}
+use Rattle.delivery.specs.Links.{AreTested, AreTestedBy, pair_count}
 use Rattle.delivery.specs.Surfaces.{AreSurfaceAnswers}
 use Rattle.delivery.proofs.AreaLemmas.{AreaLaws, accepted_lines, answer_is_fault}
 use Rattle.delivery.proofs.AreaLemmas.{answer_is_undecided, judged_agree, judged_fault}

@@ -1,14 +1,14 @@
 -- A rule of a layout, and what is kept of the rows of its two tables.
 use Rattle.std.proofs.Common.{◌≡◌, ℕ, zero, suc, ◌+◌, ◌<◌, ◌≤◌, List, [], ◌∷◌, ◌++◌, length, map}
 use Rattle.std.proofs.Common.{get_or}
-use Rattle.std.proofs.Common.{Option, Some, None, refl, sym, ap, ◌∙◌, subst, arith}
+use Rattle.std.proofs.Common.{Option, Some, refl, sym, ap, ◌∙◌, arith}
 use Rattle.std.specs.Prelude.{slice_get, slice_index_or}
 use Rattle.std.specs.List.{flat_map}
 use Rattle.std.specs.Option.{option_map, option_to_list}
 use Rattle.std.proofs.lemmas.Option.{slice_get_within}
 use Rattle.ili_grammar.specs.Syntax.{Codes}
 use Rattle.resolver.specs.Resolved.{Reference}
-use Rattle.table_layout.specs.Layouts.{AreaOf, Column, Layout, Table}
+use Rattle.table_layout.specs.Layouts.{AreaOf, Layout, Table}
 use Rattle.table_layout.specs.Valid.{IsArea, IsAreaTable, IsTable, IsValid}
 use Rattle.itf_reader.specs.Forms.{Row}
 use Rattle.itf_reader.specs.Layouts.{wanted_of}
@@ -17,7 +17,6 @@ use Rattle.itf_reader.specs.RowLines.{LinesRise}
 use Rattle.ident_refs.specs.KeptRows.{row_line}
 use Rattle.ident_refs.specs.NamedRows.{Named, rows_named}
 use Rattle.plane.specs.declared.kinds.Placed.{Placed}
-use Rattle.plane.specs.declared.kinds.Point.{Point}
 use Rattle.area_drawings.specs.KeptPoints.{PointColumn, points_in_column}
 use Rattle.area_drawings.specs.KeptRows.{Kept, is_area_point, kept}
 use Rattle.area_drawings.proofs.RowSteps.{column_asked}
@@ -31,7 +30,7 @@ use Rattle.delivery.specs.KeptRows.{all_kept, of_tables}
 use Rattle.delivery.specs.LinkJoins.{RiseFrom, joined, numbered, object_at}
 use Rattle.delivery.specs.LinkRows.{IsGoodRule, all_link_points, link_points}
 use Rattle.delivery.proofs.Drawables.{all_at, area_table}
-use Rattle.delivery.proofs.JoinedPairs.{all_namings, all_placed, joined_rows, numbered_rows}
+use Rattle.delivery.proofs.JoinedPairs.{all_placed, joined_rows, numbered_rows}
 use Rattle.delivery.proofs.JoinedPairs.{row_numbers, rows_rise}
 use Rattle.delivery.proofs.LinkNames.{names_are, object_is, place_named}
 use Rattle.delivery.proofs.LinkPoints.{area_point, column_linked, points_are}

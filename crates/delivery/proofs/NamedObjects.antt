@@ -1,13 +1,11 @@
 -- Rows without findings: the references of a helper table name the objects that are meant.
-use Rattle.std.proofs.Common.{◌≡◌, ℕ, zero, suc, ◌+◌, ◌<◌, ◌≤◌, Bool, true, false, ◌&&◌, ◌||◌, cond}
+use Rattle.std.proofs.Common.{◌≡◌, ℕ, zero, suc, ◌+◌, ◌<◌, Bool, true, false, ◌&&◌, ◌||◌, cond}
 use Rattle.std.proofs.Common.{nat_eq, List, [], ◌∷◌, ◌++◌, length, map, take, drop, Option, Some, None}
-use Rattle.std.proofs.Common.{refl, sym, ap, ◌∙◌, subst, arith, append-nil, if◌then◌else◌}
-use Rattle.std.specs.Prelude.{◌==◌, slice_get, slice_index_or}
-use Rattle.std.specs.List.{All, flat_map, list_all, list_any, position_from}
+use Rattle.std.proofs.Common.{refl, sym, ap, ◌∙◌, subst, arith, if◌then◌else◌}
+use Rattle.std.specs.Prelude.{slice_get, slice_index_or}
+use Rattle.std.specs.List.{flat_map, list_all, list_any, position_from}
 use Rattle.std.specs.Option.{option_map}
-use Rattle.std.specs.Str.{bytes_eq}
 use Rattle.std.proofs.lemmas.Bool.Decides.{nat_tests}
-use Rattle.std.proofs.lemmas.List.Elements.{All-head, All-tail}
 use Rattle.std.proofs.lemmas.List.Folds.{list_any-append}
 use Rattle.ili_grammar.specs.Syntax.{Codes}
 use Rattle.ili_grammar.proofs.ModelsBack.{same_bytes}
@@ -18,16 +16,15 @@ use Rattle.field_values.specs.declared.value.ValueFault.{ValueFault}
 use Rattle.field_values.specs.declared.value.ValueFault.TheVariants.{Undefined as UndefinedFault}
 use Rattle.itf_reader.specs.declared.findings.Code.{Code}
 use Rattle.itf_reader.specs.declared.findings.Code.TheVariants.{Tid}
-use Rattle.itf_reader.specs.Findings.{Finding}
 use Rattle.itf_reader.specs.Forms.{Row}
 use Rattle.itf_reader.specs.Layouts.{wanted_of}
 use Rattle.itf_reader.specs.RowForms.{EachRow, IsCounted}
-use Rattle.itf_reader.specs.RowFindings.{widths, is_counted, column_code, columns_findings}
+use Rattle.itf_reader.specs.RowFindings.{widths, column_code, columns_findings}
 use Rattle.itf_reader.specs.StrokeFindings.{finding_at, code_of}
 use Rattle.domain_rules.proofs.Places.{empty_both}
 use Rattle.ident_refs.specs.KeyFindings.{duplicate, first_named, tid_findings, referred_table}
 use Rattle.ident_refs.specs.KeyFindings.{table_keys, tables_keys}
-use Rattle.ident_refs.specs.NamedRows.{Named, word_names, form_names, columns_names, row_names}
+use Rattle.ident_refs.specs.NamedRows.{Named, form_names, columns_names, row_names}
 use Rattle.ident_refs.specs.NamedRows.{names_at}
 use Rattle.ident_refs.specs.Rows.{identification, has_identification, first_such}
 use Rattle.ports.specs.SortedKeys.{is_key}

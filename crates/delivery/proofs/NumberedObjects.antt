@@ -2,9 +2,8 @@
 use Rattle.std.proofs.Common.{◌≡◌, ℕ, zero, suc, ◌+◌, List, [], ◌∷◌, ◌++◌, Option, Some, None, refl}
 use Rattle.std.proofs.Common.{sym, ap, ◌∙◌, arith}
 use Rattle.std.specs.Prelude.{slice_get, slice_index_or}
-use Rattle.std.specs.List.{All, flat_map}
+use Rattle.std.specs.List.{All}
 use Rattle.std.specs.Option.{option_map, option_to_list}
-use Rattle.ili_grammar.specs.Syntax.{Codes}
 use Rattle.table_layout.specs.Layouts.{AreaOf, Column, Layout, Table}
 use Rattle.table_layout.specs.Valid.{IsArea, IsAreaTable, IsValid}
 use Rattle.itf_reader.specs.Forms.{Row}
@@ -12,7 +11,7 @@ use Rattle.domain_rules.specs.CleanPlaces.{HasPlaces}
 use Rattle.plane.specs.Rule.Plans.{Plan}
 use Rattle.plane.specs.declared.kinds.Placed.{Placed}
 use Rattle.plane.specs.declared.kinds.Point.{Point}
-use Rattle.area_drawings.specs.Drawings.{IsDrawing, columns_in, first_word, points_at, points_by}
+use Rattle.area_drawings.specs.Drawings.{IsDrawing, columns_in, first_word, points_by}
 use Rattle.area_drawings.specs.Drawings.{points_in}
 use Rattle.area_drawings.specs.KeptRows.{is_area_point}
 use Rattle.area_drawings.proofs.RowSteps.{column_asked}

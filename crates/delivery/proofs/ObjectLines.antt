@@ -1,6 +1,6 @@
 -- The lines of each object are those of the rows that name it.
 use Rattle.std.proofs.Common.{◌≡◌, ℕ, zero, suc, ◌+◌, ◌<◌, Bool, true, false, nat_eq, List, [], ◌∷◌}
-use Rattle.std.proofs.Common.{◌++◌, length, map, Option, Some, None, refl, sym, ap, ◌∙◌, subst, arith}
+use Rattle.std.proofs.Common.{◌++◌, length, map, Option, Some, None, refl, sym, ap, ◌∙◌, arith}
 use Rattle.std.proofs.Common.{append_assoc, append-nil, if◌then◌else◌, cond}
 use Rattle.std.specs.Prelude.{slice_get}
 use Rattle.std.specs.List.{filter}
@@ -12,7 +12,7 @@ use Rattle.ident_refs.specs.KeptRows.{row_line}
 use Rattle.plane.specs.declared.kinds.Curve.{Curve}
 use Rattle.area_drawings.specs.Strokes.{strokes_curves}
 use Rattle.delivery.specs.KeptRows.{changed_at}
-use Rattle.delivery.specs.ObjectLines.{no_lines, with_line, added_at, grouped, drawn}
+use Rattle.delivery.specs.ObjectLines.{no_lines, with_line, grouped, drawn}
 use Rattle.delivery.specs.Surfaces.{Boundary, boundary, surface_curves}
 
 -- the place of object i is named

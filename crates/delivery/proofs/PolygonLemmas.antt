@@ -13,7 +13,7 @@ use Rattle.plane.specs.declared.kinds.CurveKind.TheVariants as kind
 use Rattle.plane.specs.declared.kinds.Point.{Point}
 use Rattle.plane.specs.Rule.Cuts.{HasNoCut}
 use Rattle.plane.specs.Rule.Partition.{IsPartition}
-use Rattle.plane.specs.Rule.Plans.{IsHalfArc, Plan, object, plan}
+use Rattle.plane.specs.Rule.Plans.{Plan, object, plan}
 use Rattle.area_search.specs.declared.kinds.FacedDrawing.{FacedDrawing}
 use Rattle.area_search.specs.Faced.{IsFacedDrawing, edge}
 use Rattle.polygons.specs.Outlines.{AreChosen, outline, outlines}

@@ -3,12 +3,11 @@ use Rattle.std.proofs.Common.{◌≡◌, inl, inr, ℕ, zero, suc, ◌+◌, ◌�
 use Rattle.std.proofs.Common.{[], ◌∷◌, None}
 use Rattle.std.proofs.Common.{◌++◌, length, map, drop, Option, Some, refl, sym, ap, ◌∙◌, subst, arith}
 use Rattle.std.proofs.Common.{if◌then◌else◌}
-use Rattle.std.specs.Prelude.{◌==◌, ◌||◌, nat_lt, slice_get, slice_index_or, IfOk, Result}
+use Rattle.std.specs.Prelude.{◌||◌, nat_lt, slice_get, slice_index_or, IfOk, Result}
 use Rattle.std.specs.List.{All, filter, flat_map, list_any, position_from}
 use Rattle.std.proofs.lemmas.Bool.{eqb-true}
 use Rattle.std.proofs.lemmas.List.{length-append, length-map}
 use Rattle.std.proofs.lemmas.List.Elements.{All-nil, All-cons, All-filter, All-head, All-tail}
-use Rattle.ili_grammar.specs.Syntax.{Codes}
 use Rattle.resolver.specs.Resolved.{LineForm}
 use Rattle.table_layout.specs.Layouts.{Role, Main, AreaLines, SurfaceLines, Table, Layout}
 use Rattle.table_layout.specs.Valid.{IsValid, IsRole, IsSurfaceTable, IsTable}
@@ -16,7 +15,7 @@ use Rattle.itf_reader.specs.Findings.{is_before}
 use Rattle.itf_reader.specs.Forms.{Row}
 use Rattle.itf_reader.specs.Layouts.{wanted_of}
 use Rattle.itf_reader.specs.RowForms.{EachRow, IsCounted}
-use Rattle.itf_reader.specs.RowFindings.{columns_findings, is_counted, lines_findings, row_findings}
+use Rattle.itf_reader.specs.RowFindings.{columns_findings, lines_findings, row_findings}
 use Rattle.itf_reader.specs.RowFindings.{widths}
 use Rattle.itf_reader.specs.StrokeFindings.{Seen, finding_at}
 use Rattle.itf_reader.specs.declared.findings.Code.TheVariants.{Count}
@@ -27,8 +26,6 @@ use Rattle.ident_refs.specs.KeyFindings.{key_findings, tables_keys, tid_findings
 use Rattle.ident_refs.specs.NamedRows.{Named, columns_names, row_names, rows_named}
 use Rattle.ident_refs.specs.Rows.{has_identification}
 use Rattle.plane.specs.Lists.{Has}
-use Rattle.plane.specs.declared.kinds.Curve.{Curve}
-use Rattle.plane.specs.declared.window.Window2.{Window2}
 use Rattle.area_drawings.specs.AreaLimits.{area_limit}
 use Rattle.area_drawings.specs.AreaLimits as limits
 use Rattle.area_drawings.specs.Drawings.{IsWindowOf, curves_by, lines_in, row_curves}
@@ -41,7 +38,7 @@ use Rattle.delivery.specs.Judging.{IsClean}
 use Rattle.delivery.specs.KeptRows.{all_kept}
 use Rattle.delivery.specs.ObjectLines.{CanAllDraw, all_skipped, drawn, grouped, lines_of}
 use Rattle.delivery.specs.ObjectLines.{named_rows, no_lines}
-use Rattle.delivery.specs.Surfaces.{Boundary, boundaries, boundary, is_of, reference_of}
+use Rattle.delivery.specs.Surfaces.{Boundary, boundaries, is_of, reference_of}
 use Rattle.delivery.specs.Surfaces.{IsAnswer, IsSurfaceAnswer, are_all_skipped, is_wide}
 use Rattle.delivery.specs.Surfaces.{surface_curves}
 use Rattle.reports.specs.declared.lines.SurfaceAnswer.{SurfaceAnswer}

@@ -1,6 +1,6 @@
 -- What is answered to areas and tested of links, one area after the other.
-use Rattle.std.proofs.Common.{◌≡◌, ℕ, zero, suc, ◌+◌, ◌<◌, ◌≤◌, Bool, true, List, [], ◌∷◌, ◌++◌}
-use Rattle.std.proofs.Common.{length, map, drop, Option, Some, None, refl, sym, ap, ◌∙◌, subst, arith}
+use Rattle.std.proofs.Common.{◌≡◌, ℕ, zero, suc, ◌+◌, ◌<◌, true, List, [], ◌∷◌, ◌++◌}
+use Rattle.std.proofs.Common.{length, drop, Some, refl, sym, ap, ◌∙◌, subst, arith}
 use Rattle.std.specs.Prelude.{slice_get, slice_index_or}
 use Rattle.std.proofs.lemmas.List.{length-append}
 use Rattle.area_drawings.specs.Drawings.{area_tolerance}
@@ -9,7 +9,7 @@ use Rattle.plane.specs.Rule.Plans.{Plan}
 use Rattle.table_layout.specs.Layouts.{AreaOf, Layout}
 use Rattle.reports.specs.Kinds.{answer_kind, is_fine}
 use Rattle.reports.specs.declared.lines.AreaAnswer.{AreaAnswer}
-use Rattle.delivery.specs.AreaAnswers.{AreAnswers, IsAnswer}
+use Rattle.delivery.specs.AreaAnswers.{AreAnswers}
 use Rattle.delivery.specs.AskedLinks.{AreResults, AreTestedAnswers, IsTestedAnswer, asked_pairs}
 use Rattle.delivery.specs.declared.links.asked.AskedArea.{AskedArea}
 use Rattle.delivery.proofs.AnswerLemmas.{GoesOn, all_answered, begin, go_on}

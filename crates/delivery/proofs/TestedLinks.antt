@@ -1,20 +1,19 @@
 -- The outcome of what is tested of links.
-use Rattle.std.proofs.Common.{◌≡◌, ℕ, true, List, length, refl, sym, ap, ◌∙◌, subst}
-use Rattle.std.specs.Prelude.{Ok, Some, slice_get}
-use Rattle.std.specs.List.{All, flat_map}
+use Rattle.std.proofs.Common.{◌≡◌, ℕ, List, length, sym, ap, ◌∙◌, subst}
+use Rattle.std.specs.Prelude.{Ok}
+use Rattle.std.specs.List.{flat_map}
 use Rattle.area_drawings.specs.Drawings.{AreDrawings}
 use Rattle.area_links.specs.Rules.{Rule, links_of}
 use Rattle.itf_reader.specs.Forms.{Row}
 use Rattle.plane.specs.Rule.Plans.{Plan}
 use Rattle.table_layout.specs.Layouts.{Layout}
-use Rattle.reports.specs.Kinds.{are_fine}
 use Rattle.reports.specs.Outcomes.{Misplaced, Outcome, linked}
 use Rattle.reports.specs.Surfaces.{surfaces}
 use Rattle.reports.specs.declared.lines.AreaAnswer.{AreaAnswer}
 use Rattle.reports.specs.declared.lines.SurfaceAnswer.{SurfaceAnswer}
 use Rattle.delivery.specs.AskedLinks.{AreAsked, AreTestedAnswers, rule_misplaced, rules_count}
 use Rattle.delivery.specs.Judging.{objects as objects_of}
-use Rattle.delivery.specs.Links.{AreTested, AreTestedBy, pair_count}
+use Rattle.delivery.specs.Links.{AreTested, AreTestedBy}
 use Rattle.delivery.specs.Surfaces.{AreSurfaceAnswers}
 use Rattle.delivery.specs.declared.links.asked.AskedArea.{AskedArea}
 use Rattle.delivery.proofs.GatheredLinks.{counted, tested}

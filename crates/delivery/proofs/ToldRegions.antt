@@ -1,12 +1,11 @@
 -- What the regions of the points of pairs say of the pairs.
-use Rattle.std.proofs.Common.{◌≡◌, inl, inr, ℕ, ℤ, zero, suc, ◌+◌, ◌<◌, ◌≤◌, Bool, true, false, ◌&&◌}
+use Rattle.std.proofs.Common.{◌≡◌, inl, inr, ℕ, ℤ, suc, ◌<◌, ◌≤◌, Bool, true, false, ◌&&◌}
 use Rattle.std.proofs.Common.{int_le, List, [], ◌∷◌, ◌++◌, length, Option, Some, None, refl, sym}
-use Rattle.std.proofs.Common.{ap, ◌∙◌, subst, arith, append_assoc, true≢false}
-use Rattle.std.specs.Prelude.{◌↔◌, ◌≤ℤ◌, ◌==◌, if◌then◌else◌, slice_index_or}
-use Rattle.std.specs.List.{All, AllZip, flat_map}
+use Rattle.std.proofs.Common.{ap, ◌∙◌, subst, arith, true≢false}
+use Rattle.std.specs.Prelude.{◌↔◌, ◌≤ℤ◌, ◌==◌, if◌then◌else◌}
+use Rattle.std.specs.List.{All, AllZip}
 use Rattle.std.proofs.lemmas.Bool.Decides.{nat_tests}
 use Rattle.std.proofs.lemmas.Int.{ints}
-use Rattle.std.proofs.lemmas.List.{length-append}
 use Rattle.std.proofs.lemmas.List.Elements.{All-nil, All-cons, All-head, All-tail}
 use Rattle.area_links.specs.declared.kinds.LinkPair.{LinkPair}
 use Rattle.area_search.specs.Grounds.{IsRightGround}
@@ -19,7 +18,7 @@ use Rattle.plane.specs.Rule.Windows.{IsInside}
 use Rattle.plane.specs.declared.kinds.Point.{Point}
 use Rattle.plane.specs.declared.window.Window2.{Window2}
 use Rattle.delivery.specs.Links.{AreMisplaced, LinkHolds}
-use Rattle.delivery.specs.LinkRegions.{AreTold, FirstTells, Tells, after_first, all_inner}
+use Rattle.delivery.specs.LinkRegions.{AreTold, FirstTells, after_first, all_inner}
 use Rattle.delivery.specs.LinkRegions.{first_region, inner_places, is_of, is_within, line_unless}
 use Rattle.delivery.specs.LinkRegions.{lines_by, region_of, regions_after, regions_left, results_by}
 

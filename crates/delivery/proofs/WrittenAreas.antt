@@ -1,8 +1,8 @@
 -- The polygons of areas: all answers are fine where an outcome is accepted, then there are polygons,
 -- and they are given by the drawings.
-use Rattle.std.proofs.Common.{◌≡◌, ◌⊎◌, inl, inr, ℕ, zero, suc, ℤ, ◌<◌, arith, Bool, true, false, ◌&&◌, ◌||◌, List, [], ◌∷◌, length, map, Some, None, refl, sym, ap, ◌∙◌, subst}
+use Rattle.std.proofs.Common.{◌≡◌, ◌⊎◌, inl, inr, ℕ, zero, suc, ℤ, ◌<◌, arith, Bool, true, false, ◌&&◌, ◌||◌, List, [], ◌∷◌, length, Some, refl, sym, ap, ◌∙◌, subst}
 use Rattle.std.specs.List.{All}
-use Rattle.std.proofs.lemmas.List.{ext_get_or, length-map}
+use Rattle.std.proofs.lemmas.List.{ext_get_or}
 use Rattle.std.proofs.lemmas.List.Elements.{All-nil, All-cons}
 use Rattle.area_drawings.proofs.Windows.{same_drawings}
 use Rattle.area_drawings.specs.Drawings.{AreDrawings, area_tolerance}
@@ -23,14 +23,12 @@ use Rattle.plane.specs.Rule.Plans.{Plan, object}
 use Rattle.plane.specs.declared.kinds.Curve.{Curve}
 use Rattle.plane.specs.declared.kinds.CurveKind.{CurveKind}
 use Rattle.plane.specs.declared.kinds.CurveKind.TheVariants as curve_kind
-use Rattle.plane.specs.declared.kinds.Placed.{Placed}
 use Rattle.plane.specs.declared.kinds.Point.{Point}
 use Rattle.polygons.proofs.GivenRings.{one_polygon}
 use Rattle.polygons.specs.Outlines.{outline, outlines}
-use Rattle.polygons.specs.Regions.{ArePolygonsOf, AreRingsAbout}
+use Rattle.polygons.specs.Regions.{ArePolygonsOf}
 use Rattle.polygons.specs.Text as polygons
 use Rattle.polygons.specs.Text.{with_lines}
-use Rattle.polygons.specs.declared.kinds.Polygon.{Polygon}
 use Rattle.reports.specs.Kinds.{answer_kind, is_fault, is_undecided, is_fine, are_fine}
 use Rattle.reports.specs.Outcomes.{Outcome, areas_outcome}
 use Rattle.reports.specs.Surfaces.{surfaces}

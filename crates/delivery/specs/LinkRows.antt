@@ -10,7 +10,7 @@ use Rattle.itf_reader.specs.RowLines.{LinesRise}
 use Rattle.ident_refs.specs.declared.sorted.Keys.{Keys}
 use Rattle.area_drawings.specs.KeptPoints.{PointColumn, points_kept}
 use Rattle.area_drawings.specs.KeptRows.{Kept}
-use Rattle.area_drawings.specs.KeptViews.{kept_in, points_of}
+use Rattle.area_drawings.specs.KeptViews.{points_of}
 use Rattle.area_drawings.specs.declared.kept_points.KeptPoints.{KeptPoints}
 use Rattle.area_links.specs.Pairs.{row_point}
 use Rattle.area_links.specs.Rules.{Rule}

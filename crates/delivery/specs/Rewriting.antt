@@ -1,5 +1,5 @@
 -- What the text of a transfer amounts to that is written in its canonical text.
-use Rattle.std.specs.Prelude.{◌≡◌, ◌≢◌, ℕ, List}
+use Rattle.std.specs.Prelude.{◌≡◌, ℕ, List}
 use Rattle.itf_reader.specs.Forms.{Row}
 use Rattle.itf_reader.specs.Layouts.{form_of}
 use Rattle.itf_reader.specs.Readings.{Structure}

@@ -62,11 +62,7 @@ fn is_missing(asked: &[LinkRule], rule: &LinkRule, number: u32) -> bool
 }
 
 // Adds a rule to those that ask the area of that number, where it is missing.
-fn add_missing(
-    asked: &mut Vec<LinkRule>,
-    rule: &LinkRule,
-    number: u32,
-) -> Result<(), Memory>
+fn add_missing(asked: &mut Vec<LinkRule>, rule: &LinkRule, number: u32) -> Result<(), Memory>
     ensures { OnOk result ((rules : List Rule) (k : ℕ)
         → slice_get rules k ≡ Some (rule_view rule.now)
         → AreAskedTo number rules k (rules_view asked.old.items)

@@ -1,4 +1,3 @@
-use Rattle.std.proofs.Common.{refl}
 use Rattle.plane.specs.Rule.Plans.{plan}
 use Rattle.table_layout.specs.Values.{area_view, layout_view}
 use Rattle.delivery.proofs.AnswerLemmas.{CountLaws, answer_proved, can_be_written}

@@ -1,4 +1,4 @@
-use Rattle.std.proofs.Common.{ℕ, List, [], ◌∷◌, ◌++◌, Option, refl, inr, subst}
+use Rattle.std.proofs.Common.{ℕ, List, [], ◌∷◌, ◌++◌, Option, inr, subst}
 use Rattle.ports.specs.Faults.{ReadRose}
 use Rattle.ports.specs.Files.{Files}
 use Rattle.table_layout.specs.Values.{layout_view}

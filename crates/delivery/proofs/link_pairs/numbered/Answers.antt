@@ -1,4 +1,4 @@
-use Rattle.std.proofs.Common.{ℕ, List, [], ◌∷◌, ◌++◌, Option, ◌∙◌, ap, sym, arith}
+use Rattle.std.proofs.Common.{ℕ, [], ◌∷◌, ◌++◌, Option, ◌∙◌, ap, sym, arith}
 use Rattle.std.specs.Global.{Vec}
 use Rattle.delivery.proofs.JoinedPairs.{no_number, numbers_next, rise_next, some_number}
 use Rattle.delivery.proofs.link_pairs.numbered.Goals as goal

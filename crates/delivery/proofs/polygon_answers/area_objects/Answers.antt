@@ -1,4 +1,4 @@
-use Rattle.std.proofs.Common.{◌≡◌, ap, ◌∙◌, sym, refl, subst, length, List, Some}
+use Rattle.std.proofs.Common.{ap, ◌∙◌, sym, refl, subst, length}
 use Rattle.plane.specs.Rule.Plans.{plan}
 use Rattle.delivery.specs.AreaPolygons.{IsPolygonAnswer}
 use Rattle.delivery.specs.declared.polygon_answers.PolygonAnswer.TheVariants.{Skipped}

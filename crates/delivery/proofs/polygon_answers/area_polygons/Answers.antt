@@ -2,7 +2,7 @@ use Rattle.std.proofs.Common.{◌≡◌, ◌<◌, ℕ, List, false, length, rule
 use Rattle.plane.specs.declared.kinds.Curve.{Curve}
 use Rattle.plane.specs.declared.kinds.CurveKind.TheVariants as kind
 use Rattle.plane.specs.Rule.Plans.{plan}
-use Rattle.tubes.specs.DrawnEdges.{AreAllStraight, AreStraights, nth_curve}
+use Rattle.tubes.specs.DrawnEdges.{AreAllStraight, nth_curve}
 use Rattle.delivery.proofs.PolygonLemmas.{is_area, object_polygons}
 use Rattle.delivery.proofs.polygon_answers.area_polygons.Goals as goal
 

@@ -1,4 +1,4 @@
-use Rattle.std.proofs.Common.{◌≡◌, List, [], ◌∷◌, ap, ◌∙◌, sym, subst, length, rules}
+use Rattle.std.proofs.Common.{◌≡◌, List, [], ◌∷◌, ap, ◌∙◌, sym, subst, rules}
 use Rattle.std.specs.List.{All}
 use Rattle.plane.specs.declared.drawing.Drawing.{Drawing}
 use Rattle.delivery.specs.AreaPolygons.{IsSkippedOrArea}

@@ -1,8 +1,7 @@
-use Rattle.std.proofs.Common.{◌≡◌, true, List, subst, sym, ap}
+use Rattle.std.proofs.Common.{◌≡◌, true, List, subst, sym}
 use Rattle.certificate.specs.Spelling.{views}
 use Rattle.commands.specs.CommandViews.{target_of}
 use Rattle.commands.proofs.Results.{if_ok}
-use Rattle.delivery.specs.AreaPolygons.{AreWrittenAreas}
 use Rattle.delivery.proofs.WrittenAreas.{all_fine, judged_bounded}
 use Rattle.polygons.specs.Text.{views as polygons_in}
 use Rattle.reports.specs.AreaKinds.{plans}

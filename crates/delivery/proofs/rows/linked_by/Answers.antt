@@ -1,4 +1,4 @@
-use Rattle.std.proofs.Common.{List, ap, ◌∙◌, subst}
+use Rattle.std.proofs.Common.{ap, ◌∙◌, subst}
 use Rattle.table_layout.specs.Values.{layout_view}
 use Rattle.area_links.specs.Views.{rules_view}
 use Rattle.reports.specs.Outcomes.{rejected}

@@ -4,7 +4,7 @@ use Rattle.commands.proofs.Results.{if_ok}
 use Rattle.reports.specs.Outcomes.{canonical}
 use Rattle.delivery.specs.Judging.{objects}
 use Rattle.delivery.specs.KeptRows.{transfer_so_far}
-use Rattle.delivery.specs.Rewriting.{canon_of, without_text, written}
+use Rattle.delivery.specs.Rewriting.{without_text, written}
 use Rattle.delivery.proofs.rows.rewritten.Goals as goal
 
 pub returns-then-layout-eq84 : goal.returns-then-layout-eq84

@@ -1,6 +1,4 @@
-use Rattle.std.proofs.Common.{◌≡◌, false, true, List, sym, subst, ◌∙◌, rules}
-use Rattle.plane.specs.Rule.Plans.{plan}
-use Rattle.plane.specs.declared.kinds.Curve.{Curve}
+use Rattle.std.proofs.Common.{◌≡◌, false, List, subst, ◌∙◌, rules}
 use Rattle.plane.specs.declared.kinds.Edge.{Edge}
 use Rattle.surface_rings.specs.Surfaces.{IsRingAnswer}
 use Rattle.tubes.specs.DrawnEdges.{AreAllStraight}

@@ -1,4 +1,4 @@
-use Rattle.std.proofs.Common.{◌≡◌, ◌<◌, ℕ, length, ap, ◌∙◌, refl, subst, arith}
+use Rattle.std.proofs.Common.{ℕ, ap, ◌∙◌, refl, subst, arith}
 use Rattle.std.proofs.lemmas.List.{length-map}
 use Rattle.plane.specs.Rule.Plans.{plan}
 use Rattle.surface_rings.specs.Surfaces.{IsRingAnswer}

@@ -5,7 +5,7 @@ use Rattle.resolver.specs.Values.{line_of}
 use Rattle.ident_refs.specs.KeptViews.{named_view}
 use Rattle.area_drawings.specs.Drawings.{lines_in}
 use Rattle.area_drawings.specs.KeptRows.{Kept}
-use Rattle.area_drawings.specs.KeptViews.{kept_in, kept_of}
+use Rattle.area_drawings.specs.KeptViews.{kept_of}
 use Rattle.area_drawings.proofs.KeptAt.{kept_is, kept_within}
 use Rattle.ident_refs.specs.KeptRows.{row_line}
 use Rattle.std.proofs.lemmas.List.{length-map}

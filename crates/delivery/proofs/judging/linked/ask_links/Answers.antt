@@ -1,7 +1,6 @@
-use Rattle.std.proofs.Common.{List, sym, ap, ◌∙◌, subst}
+use Rattle.std.proofs.Common.{List, sym, subst}
 use Rattle.std.specs.List.{All, AllZip}
 use Rattle.table_layout.specs.Values.{layout_view}
-use Rattle.area_links.specs.Rules.{Rule}
 use Rattle.area_links.specs.Views.{rules_view}
 use Rattle.area_links.specs.declared.kinds.LinkRule.{LinkRule}
 use Rattle.reports.specs.AreaKinds.{plans}

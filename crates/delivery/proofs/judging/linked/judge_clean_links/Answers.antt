@@ -3,7 +3,6 @@ use Rattle.table_layout.specs.Values.{layout_view}
 use Rattle.area_links.specs.Answers.{Gives}
 use Rattle.area_links.specs.declared.kinds.LinkFault.{LinkFault}
 use Rattle.area_links.specs.Rules.{links_of}
-use Rattle.commands.proofs.Results.{if_ok}
 use Rattle.delivery.specs.KeptRows.{transfer_so_far}
 use Rattle.delivery.proofs.judging.linked.judge_clean_links.Goals as goal
 
@@ -19,8 +18,7 @@ returns-in-Err-Line c text rows t k few count =
     let l = layout_view c.args.layout.now in
     let links = links_of l c.args.links.now in
     let given : links ≡ Err c.in-Err-Line.line =
-    subst (λ (f : LinkFault). Gives links (Err f)) c.in-Err-Line.field-0-is c.in-Err-Line.ensures in
-    (
+    subst (λ (f : LinkFault). Gives links (Err f)) c.in-Err-Line.field-0-is c.in-Err-Line.ensures in (
       transfer_so_far l rows,
       t,
       k.kept.clean,

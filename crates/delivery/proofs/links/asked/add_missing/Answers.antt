@@ -2,7 +2,7 @@ use Rattle.std.proofs.Common.{◌≡◌, ◌++◌, [], ◌∷◌, ◌+◌, ap, s
 use Rattle.std.proofs.lemmas.List.{map-append}
 use Rattle.area_links.specs.Views.{rule_view, rules_view}
 use Rattle.delivery.specs.AskedLinks.{AreAskedTo}
-use Rattle.delivery.proofs.AskedRules.{asked_more, not_asked}
+use Rattle.delivery.proofs.AskedRules.{asked_more}
 use Rattle.delivery.proofs.links.asked.add_missing.Goals as goal
 
 pub returns-in_ok-push : goal.returns-in_ok-push

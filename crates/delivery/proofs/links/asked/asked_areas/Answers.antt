@@ -1,4 +1,4 @@
-use Rattle.std.proofs.Common.{◌≡◌, ℕ, List, [], ◌∷◌, ◌++◌, length, ◌∙◌, ap, arith, sym, subst}
+use Rattle.std.proofs.Common.{◌≡◌, ℕ, List, [], ◌∷◌, ◌++◌, length, ap, arith, sym, subst}
 use Rattle.std.proofs.lemmas.List.{length-append, length-map}
 use Rattle.area_links.specs.Views.{rules_view}
 use Rattle.table_layout.specs.Values.{area_view, layout_view}

@@ -1,5 +1,4 @@
-use Rattle.std.proofs.Common.{◌≡◌, ℕ, List, Some, length}
-use Rattle.std.specs.Prelude.{slice_get}
+use Rattle.std.proofs.Common.{◌≡◌, ℕ, List, length}
 use Rattle.area_drawings.specs.KeptViews.{kept_in}
 use Rattle.area_links.specs.Views.{rules_view}
 use Rattle.itf_reader.specs.Forms.{Row}

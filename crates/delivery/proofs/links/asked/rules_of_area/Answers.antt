@@ -1,4 +1,4 @@
-use Rattle.std.proofs.Common.{◌≤◌, length, arith, ap, sym, subst}
+use Rattle.std.proofs.Common.{◌≤◌, length, arith}
 use Rattle.std.proofs.lemmas.List.{length-map}
 use Rattle.area_links.specs.Views.{rule_view, rules_view}
 use Rattle.delivery.proofs.AskedRules.{all_asked, mapped_there}

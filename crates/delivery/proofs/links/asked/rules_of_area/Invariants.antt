@@ -1,4 +1,3 @@
-use Rattle.std.proofs.Common.{take}
 use Rattle.area_links.specs.Views.{rules_view}
 use Rattle.delivery.specs.AskedLinks.{AreAskedTo}
 use Rattle.delivery.proofs.links.asked.rules_of_area.Given as goal

@@ -30,8 +30,7 @@ returns c =
     let t = c.args.drawing.now.tolerance in
     let d = plan c.args.drawing.now in
     let x = c.in_ok-answer.answer in
-    let f = c.in_ok-found.found.answer in
-    (
+    let f = c.in_ok-found.found.answer in (
       certificates_in x.certificate,
       record {
         answer = c.in_ok-answer.ensures.answer;
