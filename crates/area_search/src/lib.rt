@@ -6,7 +6,8 @@
 //!   without a point, a curve with one region on both sides. A fault is named by the least numbers,
 //!   but for two curves that meet badly, of which any pair may be named. Where there is none, a
 //!   certificate that proves the drawing to be a partition without such a curve, at the least level
-//!   that settles it.
+//!   that settles it. Of those that do, it is the one that is chosen (`laws::one_certificate`), so
+//!   it is a function of the drawing.
 //! - **Of which drawing.** Two curves that meet badly, and a point on a curve, are those of the
 //!   drawing itself. All else is said of its ground: the drawing itself where some level settles
 //!   it, else what becomes of it when its forks are bent by the overlap that it permits (`forks`),
