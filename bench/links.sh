@@ -143,7 +143,9 @@ def place_near(chance, parcel, corners):
 
 def middle(chance, parcel):
     """A place on a straight of a parcel, near its middle, or one of its vertices."""
-    start, end = chance.choice(parcel.ring.straights or parcel.ring.chords)
+    if not parcel.ring.straights:
+        return chance.choice(parcel.corners())
+    start, end = chance.choice(parcel.ring.straights)
     even = (start[0] + end[0]) % 2 == 0 and (start[1] + end[1]) % 2 == 0
     return ((start[0] + end[0]) // 2, (start[1] + end[1]) // 2) if even else start
 

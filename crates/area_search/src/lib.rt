@@ -26,7 +26,7 @@
 //!   the levels of the bent drawing are tried (`unsettled`). What the certificate says is what the
 //!   run, the places, the faces and the links are; `certificate_checker` judges it without any of
 //!   them.
-//! - **Places.** `find_objects` answers as `find_area` does, and says of each place that it is given
+//! - **Places.** `find_objects` answers as `find_area` does, and says of each place that is given
 //!   in which object's region of the ground it lies, or that it is on a curve or outside of all
 //!   lines, where the answer is a certificate; this is so of no other region (`laws`). The places
 //!   are located with the objects' points, and their regions are read off the same faces.

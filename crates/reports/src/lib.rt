@@ -11,7 +11,7 @@
 //!   by their lines in the transfer, and areas by their topic, table and attribute
 //!   (`specs/AreaNames`).
 //! - **Order of a report.** Findings come first, or one line for each table or area; then the line
-//!   of a trial, if it is one, or those of links, if no area and no SURFACE is at fault or undecided;
+//!   of a trial, if it is one, or those of links, if no area or SURFACE is at fault or undecided;
 //!   the verdict is last. A call that could not read or compile, or that met a limit, has one line,
 //!   and two for wrong words.
 //! - **Kinds of lines** (`specs/Kinds`). One line that names a fault rejects the transfer, else one

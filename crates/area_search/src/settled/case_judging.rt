@@ -11,7 +11,7 @@ use crate::kinds::AreaFinding;
 use ports::Memory;
 use std::alloc::Global;
 
-/// A fault; or the faces beside each curve, and for each face one more than its point, 0 for face 0.
+/// A fault; or the faces beside each curve, and of each face one more than its point, 0 for face 0.
 #[derive(Drop)]
 pub(crate) enum Judged {
     Faulty(AreaFinding),
