@@ -4,9 +4,9 @@ believe, in the order of reading: files with the names that others use; for the 
 file is about and the sentence that stands above each name in specs/; for the answers those above
 `HasCause`. What serves one file alone is in the sums.
 
-It finds `run` in the code of `delivery`, takes the names in its clauses, and follows names from
-definition to definition through the folders specs/ of all crates, by the `use` lines of each file.
-No file is named here. The parts of the page are told apart by the labels of the clauses and by three
+It finds `IsCall` in specs/ of `delivery`, whose fields are the clauses of `run` and `answer`, takes
+the names in them, and follows names from definition to definition through the folders specs/ of all
+crates, by the `use` lines of each file. No file is named here. The parts of the page are told apart by the labels of the clauses and by three
 names, `IsArea`, `ArePartedAreas` and `HasCause`. What std and the kit's crates define is not followed,
 nor the types of the code, which the page names. A name that some binder hides is followed too, where
 the file knows it, so the list may be a little too long; it is never too short.
@@ -33,7 +33,7 @@ CASES = re.compile(r"  (?:pub )?([A-Za-z_][\w']*(?: [A-Za-z_][\w']*)*) :")
 FIELD = re.compile(r"(?<=[{;])\s*[a-z_]\w*(?= =)|^\s+[a-z_]\w*(?= =)|\bpub [a-z_]\w*(?= :)")
 NAMES = re.compile(r"(?:pub )?use ([\w.\-]+)\.\{(.*)\}")
 MODULE = re.compile(r"(?:pub )?use ([\w.]+)(?: as (\w+))?$")
-CLAUSE = re.compile(r"    ensures (\w*) ?\{(.*)")
+CLAUSE = re.compile(r"  pub (\w+) : (.*)")
 
 # The parts of the page: how the claim on areas is cut in two, the answers whose causes come next, as
 # far as they have one, and the clauses of `run` of each part.
@@ -268,43 +268,33 @@ class Contract:
     """The clauses of `run`: for each label the sentence above it, and what the clause names."""
 
     def __init__(self, sources):
-        lines = run_file()
-        uses = Uses()
-        for line in lines:
-            if line.startswith("ghost use "):
-                uses.use(line.removeprefix("ghost ").rstrip(";"))
+        module = call_module(sources)
         self.sentences, self.starts = {}, {}
-        for label, sentence, text in clauses(lines):
+        for label, sentence, text in clauses(module):
             self.sentences[label] = sentence
-            named = [sources.find(*uses.names[word]) for word in WORD.findall(text)
-                     if word in uses.names]
-            self.starts[label] = [one for one in named if one]
+            self.starts[label] = [one for one in sources.named(module.name, [text]) if one]
 
 
-def run_file():
-    """The lines of the one file of `delivery` that holds `run`."""
-    found = []
-    for folder, _, files in os.walk(os.path.join(TOP, "crates", "delivery", "src")):
-        for file in files:
-            with open(os.path.join(folder, file), encoding="utf8") as source:
-                text = source.read()
-            if re.search(r"^pub fn run\b", text, re.MULTILINE):
-                found.append(text.split("\n"))
+def call_module(sources):
+    """The one file of specs/ of `delivery` that defines what a call says."""
+    found = [module for name, module in sources.modules.items()
+             if name.startswith("Rattle.delivery.") and "IsCall" in module.definitions]
     if len(found) != 1:
-        sys.exit(f"delivery has {len(found)} functions run")
+        sys.exit(f"delivery has {len(found)} definitions IsCall")
     return found[0]
 
 
-def clauses(lines):
-    """Label, sentence and text of each clause of `run`. A clause without a sentence of its own has
-    that of the clause before."""
-    begin = next(i for i, line in enumerate(lines) if re.match(r"pub fn run\b", line))
-    end = lines.index("{", begin)
+def clauses(module):
+    """Label, sentence and text of each field of `IsCall`. A field without a sentence of its own has
+    that of the field before."""
+    with open(module.path, encoding="utf8") as file:
+        lines = file.read().split("\n")
+    begin = next(i for i, line in enumerate(lines) if line.startswith("pub record IsCall "))
     found, sentence, above = [], [], False
-    for line in lines[begin:end]:
-        clause, said = CLAUSE.match(line), line.startswith("    // ")
+    for line in lines[begin:lines.index("", begin)]:
+        clause, said = CLAUSE.match(line), line.startswith("  -- ")
         if said:
-            sentence = (sentence if above else []) + [line.removeprefix("    // ")]
+            sentence = (sentence if above else []) + [line.removeprefix("  -- ")]
         elif clause:
             found.append((clause.group(1), " ".join(sentence), clause.group(2)))
         elif found:

@@ -5,7 +5,7 @@ use Rattle.plane.specs.Rule.Cuts.{HasNoCut, IsArea}
 use Rattle.plane.specs.Rule.Partition.{IsPartition}
 use Rattle.plane.specs.Rule.Plans.{IsHalfArc, Plan}
 use Rattle.certificate.specs.declared.notes.Certificate.{Certificate}
-use Rattle.certificate_checker.specs.Subjects.{claims}
+use Rattle.certificate_checker.specs.Subjects.{Claims, claims}
 use Rattle.certificate_checker.specs.Verdicts.{Proves}
 use Rattle.forks.specs.Bent.{IsBentOf}
 use Rattle.forks.specs.Grounds as grounds
@@ -15,6 +15,7 @@ use Rattle.tubes.specs.Settled.{IsFirstBreak}
 use Rattle.area_search.specs.declared.kinds.AreaFinding.{AreaFinding}
 use Rattle.area_search.specs.declared.kinds.AreaAnswer.{AreaAnswer}
 use Rattle.area_search.specs.declared.kinds.AreaAnswer.TheVariants.{Proved, Fault, Undecided}
+use Rattle.area_search.specs.Chosen.{IsChosen}
 use Rattle.area_search.specs.Answers.{Agree, AreClear, IsAnswer, IsLeastLevel, IsSettled}
 use Rattle.area_search.specs.Answers.{IsUnsettled}
 use Rattle.area_search.specs.Answers.{meeting, on, undecided, outside, two, empty, cut, proved}
@@ -24,7 +25,9 @@ use Rattle.area_search.specs.Grounds.{AreThere, HasArea, HasSettledGround, IsAns
 use Rattle.area_search.specs.Grounds.{IsRightGround, ProvesGround, named, named_finding, of_bent}
 use Rattle.area_search.proofs.AnswerLaws.{BadIsNotApart, BreaksByArc, ProvesPartition, ProvesUncut}
 use Rattle.area_search.proofs.AnswerLaws.{StraightsAreSettled, agree, fault_is_true, is_proved}
-use Rattle.area_search.proofs.AnswerLaws.{no_on, no_pair, pair_has_half_arc, pair_order, same_pair}
+use Rattle.area_search.proofs.AnswerLaws.{no_on, no_pair, pair_has_half_arc, pair_order}
+use Rattle.area_search.proofs.AnswerLaws.{same_level, same_pair}
+use Rattle.area_search.proofs.ChosenLemmas.OneCertificate.{one_chosen}
 use Rattle.area_search.proofs.Grounds.{CurvesAreThere, empty_there, not_settled, own_undecided}
 
 -- ---- one ground
@@ -68,6 +71,26 @@ one_right law t d g h x y os ps r s = by_ground r.is_ground
     by_ground : IsGround t d x g os → g ≡ h
     by_ground (grounds.own e q o) = q ∙ sym (own_ground t d h y ps s (r.own e))
     by_ground (grounds.bent e b) = law t d g h os ps b (bent_ground t d h y ps s (r.bent e))
+
+-- and it is the drawing itself or the bent one, whoever says so
+one_kind : (t : ℤ) (d g h : Plan) (x y : Bool) (os ps : List ℕ)
+    → IsRightGround t d x g os → IsRightGround t d y h ps → x ≡ y
+one_kind t d g h false false os ps r s = refl
+one_kind t d g h false true os ps r s = absurd (not_settled d (s.bent refl) (r.own refl))
+one_kind t d g h true false os ps r s = absurd (not_settled d (r.bent refl) (s.own refl))
+one_kind t d g h true true os ps r s = refl
+
+-- of the claims that prove it at its least level one is chosen
+pub one_chosen_of_ground : OneBent → (t : ℤ) (d : Plan) (x y : Bool) (c e : Claims)
+    → ProvesGround t d x c → ProvesGround t d y e → (x ≡ y) × (c ≡ e)
+one_chosen_of_ground law t d x y c e p q =
+    let one = one_right law t d q.g p.g y x q.origin p.origin q.right p.right in (
+      one_kind t d p.g q.g x y p.origin q.origin p.right q.right,
+      one_chosen p.g c e p.proves (subst (λ (h : Plan). Proves h e) one q.proves)
+          (same_level p.g c.level e.level p.least
+          (subst (λ (h : Plan). IsLeastLevel h e.level) one q.least))
+          p.chosen (subst (λ (h : Plan). IsChosen h e) one q.chosen),
+    )
 
 abbrev pub StraightsStay : Type 0
 StraightsStay = (t : ℤ) (d g : Plan) (os : List ℕ) → IsBentOf t d g os → AreStraights d → g ≡ d
@@ -117,8 +140,8 @@ never_decided d a c u h n =
 
 -- ---- a certificate
 pub own_proof : (d : Plan) (c : Certificate) → IsAnswer d (Proved c)
-    → Proves d (claims c) × IsLeastLevel d c.level × (c.bent ≡ false)
-own_proof d _ (proved c p l n) = (p, l, n.own)
+    → Proves d (claims c) × IsLeastLevel d c.level × (c.bent ≡ false) × IsChosen d (claims c)
+own_proof d _ (proved c p l n k) = (p, l, n.own, k)
 
 pub never_both : (b : Bool) → b ≡ true → b ≡ false → ⊥
 never_both b e f = absurd (cc (e, f))
@@ -134,7 +157,7 @@ module _ (laws : Laws) where
   pub proves_ground : (t : ℤ) (d : Plan) (c : Certificate) → IsAnswerBy t d (Proved c)
       → ProvesGround t d c.bent (claims c)
   proves_ground t d c (by.own h n) =
-      let (p, l, own) = own_proof d c h in
+      let (p, l, own, k) = own_proof d c h in
       record {
         g = d;
         origin = _;
@@ -146,11 +169,12 @@ module _ (laws : Laws) where
         clear = clear_of d (laws.partition d (claims c) p);
         proves = p;
         least = l;
+        chosen = k;
         area = area_of d c p;
       }
   proves_ground t d c (by.bent g os b clear u bo cg s h e) =
       let (x, q, r) = was_proved os c b e in
-      let (p, l, own) = own_proof g x (subst (IsAnswer g) q h) in
+      let (p, l, own, k) = own_proof g x (subst (IsAnswer g) q h) in
       let is_bent : c.bent ≡ true = ap (λ (y : Certificate). y.bent) r in
       record {
         g = g;
@@ -163,6 +187,7 @@ module _ (laws : Laws) where
         clear = clear;
         proves = subst (λ (y : Certificate). Proves g (claims y)) (sym r) p;
         least = subst (λ (y : Certificate). IsLeastLevel g y.level) (sym r) l;
+        chosen = subst (λ (y : Certificate). IsChosen g (claims y)) (sym r) k;
         area = area_of g x p;
       }
   proves_ground t d c (by.undecided g os i j clear u bo ug br e) = absurd (cc e)
@@ -236,7 +261,7 @@ module _ (laws : Laws) where
   named_agree os _ _ (meetings i j k l) = meetings i j k l
   named_agree os _ _ (faults f) = faults (named_finding os f)
   named_agree os _ _ (pairs i j) = pairs i j
-  named_agree os _ _ (certificates c e q) = certificates (of_bent c) (of_bent e) q
+  named_agree os _ _ (certificates c e q b) = certificates (of_bent c) (of_bent e) q refl
 
   pub agree_by : (t : ℤ) (d : Plan) (a b : AreaAnswer) → IsAnswerBy t d a → IsAnswerBy t d b
       → Agree a b

@@ -37,7 +37,7 @@ decided d _ (outside j c t l) s = tt
 decided d _ (two i j c t l) s = tt
 decided d _ (empty i left c t l) s = tt
 decided d _ (cut i c t l) s = tt
-decided d _ (proved c p l n) s = tt
+decided d _ (proved c p l n k) s = tt
 
 pub own_settled : (t : ℤ) (d : Plan) (a : AreaAnswer) → IsAnswerOfSettled d a → IsAnswerBy t d a
 own_settled t d a h = by.own h.answer (decided d a h.answer h.settled)
@@ -57,7 +57,7 @@ own_undecided d _ c u (outside j n s l) = absurd (not_settled d u s)
 own_undecided d _ c u (two i j n s l) = absurd (not_settled d u s)
 own_undecided d _ c u (empty i left n s l) = absurd (not_settled d u s)
 own_undecided d _ c u (cut i n s l) = absurd (not_settled d u s)
-own_undecided d _ c u (proved e p l n) = absurd (not_settled d u (e.level, l))
+own_undecided d _ c u (proved e p l n k) = absurd (not_settled d u (e.level, l))
 
 pub undecided_by : (t : ℤ) (d : Plan) (a : AreaAnswer) → AreClear d → IsUnsettled d
     → by.IsUndecidedBent t d → IsAnswer d a → IsAnswerBy t d a
@@ -78,7 +78,7 @@ names_curve d _ (outside j c t l) = tt
 names_curve d _ (two i j c t l) = tt
 names_curve d _ (empty i left c t l) = empty_there d i left l.empty
 names_curve d _ (cut i c t l) = l.there
-names_curve d _ (proved c p l n) = tt
+names_curve d _ (proved c p l n k) = tt
 
 -- ---- the bent drawing
 abbrev PointsStay : Type 0

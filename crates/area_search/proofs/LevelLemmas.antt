@@ -1,5 +1,5 @@
 -- A sweep of the edges of a level shows whether it settles the drawing.
--- Serves `answer_by_sweep`.
+-- Serves `shown_by_sweep`.
 pub mod LevelSearch
 pub mod CellSideLemmas
 pub mod OwnCornerLemmas

@@ -51,7 +51,7 @@ undecided_found t d places f a e c u b h =
 own_regions : (t : ℤ) (d : Plan) (places : List Point) (a : AreaAnswer) (rs : List Region)
     → IsAnswer d a → AreOwnRegions a d places rs → AreRegionsBy a t d places rs
 own_regions t d places (Proved c) rs h r =
-    let (p, l, own) = own_proof d c h in
+    let (p, l, own, k) = own_proof d c h in
     record {
       g = d;
       origin = _;

@@ -26,3 +26,10 @@ pub mod CaseCalls
 pub mod NamedNotes
 pub mod TubedLaws
 pub mod FacedRuns
+pub mod SpotFaces
+pub mod FacesBeside
+pub mod RunPlaces
+pub mod FacePlaces
+pub mod FaceNumberLists
+pub mod NumberedPlaces
+pub mod NumberedFaces

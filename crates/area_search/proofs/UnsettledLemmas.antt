@@ -4,3 +4,4 @@ pub mod MarkedNumbers
 pub mod PointsOnCurves
 pub mod SetAsideCurves
 pub mod AloneCurves
+pub mod MarkedPoints

@@ -13,6 +13,7 @@ use Rattle.area_search.specs.declared.kinds.AreaFinding.{AreaFinding}
 use Rattle.area_search.specs.declared.kinds.AreaFinding.TheVariants as fault
 use Rattle.area_search.specs.declared.kinds.AreaAnswer.{AreaAnswer}
 use Rattle.area_search.specs.declared.kinds.AreaAnswer.TheVariants.{Proved, Fault, Undecided}
+use Rattle.area_search.specs.Chosen.{IsChosen}
 use Rattle.area_search.specs.Answers.{AreClear, HasNoBadPair, IsAnswer, IsLeastLevel, IsSettled}
 use Rattle.area_search.specs.Answers.{IsUnsettled}
 
@@ -90,8 +91,9 @@ NamesCurveOf n (Proved c) = ⊤
 NamesCurveOf n (Undecided i j) = ⊤
 
 -- ---- what the answer says of the ground
--- The claims prove the ground of the drawing, which is an area, at the least level that settles it;
--- and the drawing itself has no bad pair and no point on a curve.
+-- The claims prove the ground of the drawing, which is an area, at the least level that settles it,
+-- and of those that do they are chosen; and the drawing itself has no bad pair and no point on a
+-- curve.
 pub record ProvesGround (t : ℤ) (d : Plan) (is_bent : Bool) (c : Claims) : Type 0 where
   pub g : Plan
   pub origin : List ℕ
@@ -99,6 +101,7 @@ pub record ProvesGround (t : ℤ) (d : Plan) (is_bent : Bool) (c : Claims) : Typ
   pub clear : AreClear d
   pub proves : Proves g c
   pub least : IsLeastLevel g c.level
+  pub chosen : IsChosen g c
   pub area : IsArea g
 
 -- The ground of the drawing is an area, and the drawing itself has no bad pair and no point on a

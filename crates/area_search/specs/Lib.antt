@@ -1,4 +1,5 @@
 pub mod Faults
+pub mod Chosen
 pub mod Answers
 pub mod Faced
 pub mod Grounds

@@ -5,6 +5,7 @@ pub mod CaseOwners
 pub mod CaseRoots
 pub mod CaseNotes
 pub mod CaseSides
+pub mod FaceNumbers
 pub mod Writing
 pub mod Meshing
 pub mod Spots

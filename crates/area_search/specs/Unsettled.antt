@@ -2,3 +2,4 @@
 pub mod Alone
 pub mod CurvePoints
 pub mod SetAside
+pub mod MarkedPoints

@@ -1,5 +1,5 @@
-// A drawing into its answer, level by level: at each level its edges into the complete run that
-// settles it, or into the reason why that level does not.
+// A drawing into its answer or its faces, level by level: at each level its edges into the complete
+// run that settles it, or into the reason why that level does not.
 //
 // The levels from 0 to 5 are tried in turn by a sweep of their edges. Where it ends, no corner of a
 // tube is another curve's too (`corners`) and both sides of each cell face one tube or none, the
@@ -17,7 +17,7 @@
 //       all_levels                finding: the levels from 0 to 5
 //         shown_at                finding: what is shown of one level
 //           breaks_level          level_breaks: the last two curves whose edges were bad
-//           answer_by_sweep       by_sweep
+//           shown_by_sweep        by_sweep
 //             is_tube_missing     missing_tubes
 //             edge_list           tubes
 //             sweep               line_sweep
@@ -25,13 +25,14 @@
 //             settled_facings     settled_runs: of a complete run
 //               has_foreign_corner    corners, own_corners
 //               are_paired        cell_sides
-//             answer_settled      settled: the level settles the drawing
-//               spots_with        finishing, spots: objects' points, and places
-//               mesh_of_run       meshing
-//               label             faces
-//               judge_run         case_judging
-//               regions_of        place_regions
-//               certify_run       case_certificates
+//       answer_of_level           settled_levels: a level settles the drawing
+//         answer_settled          settled
+//           spots_with            finishing, spots: objects' points, and places
+//           mesh_of_run           meshing
+//           label                 faces
+//           judge_run             case_judging
+//           regions_of            place_regions
+//           certify_run           case_certificates
 //       answer_at_fault           at_fault: two curves are bad
 //       answer_unsettled          unsettled: no level settles the drawing
 //         sweep_straights         meetings
@@ -45,6 +46,9 @@
 //         alone_curves            alone
 //         first_break_among       level_breaks
 //
+// `settled_faces` (`numbered_faces`) tries the same levels by `all_levels`, and reads the faces of
+// the drawing off the run of the level that settles it (`settled::drawing_faces`).
+//
 // `faces_of_straights` (`straights`) goes the same way with level 0 alone, which settles each
 // drawing of straights of which no two are bad: `edge_list`, `sweep`, `settled_facings`, and of the
 // run the mesh with its faces (`settled::faced`).
@@ -55,7 +59,9 @@ mod cell_sides;
 mod corners;
 mod finding;
 mod missing_tubes;
+mod numbered_faces;
 mod own_corners;
+mod settled_levels;
 mod settled_runs;
 mod straights;
 
@@ -63,5 +69,6 @@ pub(crate) use at_fault::meeting;
 pub(crate) use cell_sides::mark_unpaired;
 pub(crate) use finding::settled_answer;
 pub use finding::{find_area, find_objects};
+pub use numbered_faces::settled_faces;
 pub(crate) use settled_runs::settled_facings;
 pub use straights::faces_of_straights;

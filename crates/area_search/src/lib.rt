@@ -6,7 +6,8 @@
 //!   without a point, a curve with one region on both sides. A fault is named by the least numbers,
 //!   but for two curves that meet badly, of which any pair may be named. Where there is none, a
 //!   certificate that proves the drawing to be a partition without such a curve, at the least level
-//!   that settles it.
+//!   that settles it. Of those that do, it is the one that is chosen (`laws::one_certificate`), so
+//!   it is a function of the drawing.
 //! - **Of which drawing.** Two curves that meet badly, and a point on a curve, are those of the
 //!   drawing itself. All else is said of its ground: the drawing itself where some level settles
 //!   it, else what becomes of it when its forks are bent by the overlap that it permits (`forks`),
@@ -32,6 +33,8 @@
 //!   are located with the objects' points, and their regions are read off the same faces.
 //! - **Faces.** `faces_of_straights` gives the mesh of a drawing of straights that is a partition,
 //!   with its faces and the face of each object's point, for whoever asks what bounds a region.
+//!   `settled_faces` gives the faces of any drawing that a level settles by numbers, of its points
+//!   and beside its curves, whatever is at fault in them.
 //! - **Degenerate cases.** No line, no point, several rings, holes, lines that end inside a region,
 //!   rings that touch in a vertex, equal points and points at vertices are all taken.
 //! - **Not here:** names of areas, lines of the transfer, and the text of a certificate.
@@ -59,4 +62,7 @@ mod settled;
 mod unsettled;
 
 pub use kinds::{AreaAnswer, AreaFinding, FacedDrawing, FoundObjects, Region};
-pub use level::{faces_of_straights, find_area, find_objects};
+pub use level::{faces_of_straights, find_area, find_objects, settled_faces};
+pub use numbers::numbers_with;
+pub use settled::mesh_of_run;
+pub use unsettled::points_on_marked;

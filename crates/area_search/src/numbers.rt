@@ -7,7 +7,7 @@ use ports::Memory;
 use std::alloc::Global;
 
 /// The numbers with this mark, in their order.
-pub(crate) fn numbers_with(alloc: Global, marks: &[bool], mark: bool) -> Result<Vec<u32>, Memory>
+pub fn numbers_with(alloc: Global, marks: &[bool], mark: bool) -> Result<Vec<u32>, Memory>
     requires { length marks.now < 2 ^ 30 }
     ensures { IfOk result (λ numbers. AreMarkedTo marks.now mark (length marks.now)
         numbers.items) }

@@ -11,7 +11,8 @@
 // asked for, by the owners of their faces (`place_regions`), and the certificate
 // (`case_certificates`), by links from each half-edge to the border, a tube or a point
 // (`case_roots`) and by labels (`case_notes`). Of a drawing of straights the mesh with its faces is
-// an answer too (`faced`).
+// an answer too (`faced`), and of any drawing the faces of its points and beside its curves
+// (`drawing_faces`), by numbers of their own (`face_numbers`).
 //
 // Not here: whether the level settles the drawing, which the run has shown before (`level`).
 mod case;
@@ -20,6 +21,8 @@ mod case_judging;
 mod case_notes;
 mod case_roots;
 mod case_sides;
+mod drawing_faces;
+mod face_numbers;
 mod faced;
 mod finishing;
 mod meshing;
@@ -30,6 +33,8 @@ mod spots;
 mod writing;
 
 pub(crate) use case::SettledDrawing;
+pub(crate) use drawing_faces::faces_of_drawing;
 pub(crate) use faced::faces_of_run;
 pub(crate) use finishing::{answer_settled, object_spots};
+pub use meshing::mesh_of_run;
 pub(crate) use spots::first_spot_on;

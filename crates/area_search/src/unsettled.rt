@@ -20,10 +20,13 @@ ghost use Rattle.area_search.specs.Unsettled.SetAside.{AreAside};
 mod alone;
 mod aside;
 mod bent;
+mod marked_points;
 mod on_curves;
 mod rest;
 mod settling;
 mod standing;
+
+pub use marked_points::points_on_marked;
 
 use crate::kinds::{AreaAnswer, AreaFinding, FoundObjects, without_regions};
 use crate::level::meeting;

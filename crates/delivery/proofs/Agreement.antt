@@ -10,8 +10,8 @@ use Rattle.itf_reader.specs.Readings.{Structure}
 use Rattle.table_layout.specs.Layouts.{Layout}
 use Rattle.commands.specs.declared.files.File.{File}
 use Rattle.reports.specs.declared.status.Status.{Status}
-use Rattle.reports.specs.declared.status.Status.TheVariants.{ReadFault, WriteFault}
-use Rattle.delivery.specs.Answers.{GathersFor, Passes, AgreeFilings, Agree, AgreeUnlessUnread, Answers, IsStopped, IsAnswer}
+use Rattle.reports.specs.declared.status.Status.TheVariants.{Accepted, ReadFault, WriteFault}
+use Rattle.delivery.specs.Answers.{GathersFor, Passes, Agree, AgreeUnlessUnread, Answers, IsStopped, IsAnswer}
 use Rattle.delivery.specs.AreaAnswers.{AreAnswers}
 use Rattle.delivery.specs.Verifying.{IsVerification}
 use Rattle.plane.specs.Rule.Plans.{Plan}
@@ -29,24 +29,32 @@ use Rattle.commands.specs.Gathering.{Gathered, Reads, ReadsAll, Compiles, Gather
 use Rattle.delivery.specs.Causes.{HasOutcome}
 use Rattle.delivery.specs.Judging.{lines_of, findings, objects, IsMisbuilt, IsTextOf, IsClean, AreJudged, IsJudgedBy, at_fault, faulty, oversized, sound, IsChecked}
 use Rattle.commands.specs.ModelTexts.{Refusal, IsRefused, HasLayout}
-use Rattle.reports.specs.Outcomes.{bad_link, Filing, Outcome, misbuilt, rejected, areas_outcome, verified, canonical, report_of}
+use Rattle.reports.specs.Outcomes.{bad_link, Outcome, filed_text, misbuilt, rejected, areas_outcome, verified, canonical, report_of}
 use Rattle.delivery.specs.Rewriting.{canon_of, IsRewritten, misread, without_text, written}
 use Rattle.commands.specs.Reading.{IsWhole, IsLonger}
-use Rattle.delivery.proofs.AreaLemmas.{AreaLaws, same_lines, areas_agree}
+use Rattle.delivery.proofs.AreaLemmas.{AreaLaws, same_certificates, same_lines, areas_agree}
+use Rattle.delivery.proofs.WrittenAreas.{one_text as one_polygons}
+use Rattle.delivery.specs.AreaPolygons.{ArePolygonsFor}
+use Rattle.certificate.specs.Spelling.{Plain, spelling}
+use Rattle.commands.specs.declared.task.Filed.{Filed}
+use Rattle.commands.specs.declared.task.Filed.TheVariants as filed
+use Rattle.polygons.specs.Text as polygons
 use Rattle.delivery.proofs.Causes.{by_write}
 use Rattle.commands.proofs.OneCommand.{one_command}
 use Rattle.commands.proofs.ModelTextLemmas.{one_layout, one_refusal, not_refused}
 
 -- ---- an outcome agrees with itself
-same_filings : (f : Option Filing) → AgreeFilings f f
-same_filings None = tt
-same_filings (Some f) = refl
-
 agrees_itself : (o : Outcome) → Agree o o
-agrees_itself o = record { status = refl; lines = same_lines o.lines; filings = same_filings o.filing }
+agrees_itself o = record { status = refl; lines = same_lines o.lines; filings = refl }
 
 agree_same : (o p : Outcome) → o ≡ p → Agree o p
 agree_same o p e = subst (Agree o) e (agrees_itself o)
+
+-- ---- what is filed for a target
+same_text : (f : Filed) (l : Layout) (ds : List Plan) (cs es : List Plain) (ps qs : List polygons.Plain) → cs ≡ es → ArePolygonsFor f l ds ps → ArePolygonsFor f l ds qs → filed_text f cs ps ≡ filed_text f es qs
+same_text filed.Certificates l ds cs es ps qs e h k = ap spelling e
+same_text (filed.Trial n) l ds cs es ps qs e h k = ap spelling e
+same_text filed.Polygons l ds cs es ps qs e h k = ap polygons.polygons_text (one_polygons l l.areas ds ps qs h k)
 
 -- ---- a file has one text, and this is within its limit or not
 one_text : (files : Files) (name : List ℕ) (limit : ℕ) (a b : List ℕ) → IsWhole (Some files) name limit a → IsWhole (Some files) name limit b → a ≡ b
@@ -230,10 +238,19 @@ module _ (name : List ℕ) (l : Layout) (text : List ℕ) where
 module _ (laws : AreaLaws) where
   agree_areas : (target : Target) (l : Layout) (rows : List (List Row)) (o p : Outcome) → AreJudged target l rows o → AreJudged target l rows p → Agree o p
   agree_areas target l rows o p j k =
+      let same = same_drawings l rows l.areas j.drawings k.drawings j.drawn k.drawn in
+      let here = subst (λ (ds : List Plan). AreAnswers l l.areas ds j.answers j.certificates) same j.answered in
+      let texts : (areas_outcome l (objects rows) target j.surface_answers j.answers j.certificates j.polygons).status ≡ Accepted → (areas_outcome l (objects rows) target k.surface_answers k.answers k.certificates k.polygons).status ≡ Accepted
+      → filed_text target.filed j.certificates j.polygons ≡ filed_text target.filed k.certificates k.polygons
+      = λ f g.
+      same_text target.filed l k.drawings j.certificates k.certificates j.polygons k.polygons
+      (same_certificates laws l l.areas k.drawings j.answers k.answers j.certificates k.certificates here k.answered)
+      (subst (λ (ds : List Plan). ArePolygonsFor target.filed l ds j.polygons) same (j.bounded (ap (λ (x : Outcome). x.status) j.is ∙ f)))
+      (k.bounded (ap (λ (x : Outcome). x.status) k.is ∙ g)) in
       subst (λ (x : Outcome). Agree x p) (sym j.is)
       (subst (Agree (areas_outcome l (objects rows) target j.surface_answers j.answers j.certificates j.polygons)) (sym k.is)
       (areas_agree laws l (objects rows) target rows j.surface_answers k.surface_answers j.surfaces_answered k.surfaces_answered k.drawings j.answers k.answers j.certificates k.certificates j.polygons k.polygons
-      (subst (λ (ds : List Plan). AreAnswers l l.areas ds j.answers j.certificates) (same_drawings l rows l.areas j.drawings k.drawings j.drawn k.drawn) j.answered) k.answered))
+      texts here k.answered))
 
   agree_verified : (l : Layout) (filed : List ℕ) (rows : List (List Row)) (o p : Outcome) → AreVerified l filed rows o → AreVerified l filed rows p → Agree o p
   agree_verified l filed rows o p j k =

@@ -28,7 +28,7 @@ use Rattle.delivery.specs.AreaAnswers.{IsAnswer, faulty, undecided, proved, faul
 use Rattle.reports.specs.AreaKinds.{proof_answer, plans}
 use Rattle.delivery.specs.AreaCertificates.{claims_of}
 use Rattle.area_drawings.specs.AreaLimits.{IsSmallPlan}
-use Rattle.delivery.proofs.CertificateLemmas.{proved_view}
+use Rattle.delivery.proofs.CertificateLemmas.{chosen_view, proved_view}
 use Rattle.reports.specs.AreaNames.{HasTitle, topic_name, table_name}
 use Rattle.reports.specs.declared.lines.AreaAnswer.{AreaAnswer}
 
@@ -52,6 +52,7 @@ module _ (l : Layout) (a : AreaOf) (d : Plan) where
     clear = h.clear;
     proves = proved_view h.g c h.proves;
     least = h.least;
+    chosen = chosen_view h.g c h.proves h.chosen;
     area = h.area;
   }
 

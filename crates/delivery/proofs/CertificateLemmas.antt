@@ -5,6 +5,7 @@ use Rattle.certificate.specs.declared.notes.Certificate.{Certificate}
 use Rattle.certificate.specs.declared.notes.HalfNote.{HalfNote}
 use Rattle.certificate_checker.specs.Subjects.{Claims, claims}
 use Rattle.certificate_checker.specs.Verdicts.{Proves}
+use Rattle.area_search.specs.Chosen.{IsChosen}
 use Rattle.plane.specs.Rule.Plans.{Plan}
 use Rattle.delivery.specs.AreaCertificates.{claims_of, notes_of}
 
@@ -32,3 +33,7 @@ proved_paired d c p = even_paired c.notes.items _ p.rules.counts.notes
 -- what proves a drawing as it lies in memory proves it by its text
 pub proved_view : (d : Plan) (c : Certificate) → Proves d (claims c) → Proves d (claims_of (view c))
 proved_view d c p = subst (Proves d) (claims_paired c (proved_paired d c p)) p
+
+-- and what is chosen as it lies in memory is chosen by its text
+pub chosen_view : (d : Plan) (c : Certificate) → Proves d (claims c) → IsChosen d (claims c) → IsChosen d (claims_of (view c))
+chosen_view d c p x = subst (IsChosen d) (claims_paired c (proved_paired d c p)) x

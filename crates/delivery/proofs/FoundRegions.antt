@@ -28,8 +28,14 @@ use Rattle.delivery.specs.AreaAnswers.{IsAnswer, fault_answer, faulty, proved, u
 use Rattle.delivery.specs.AreaCertificates.{claims_of}
 use Rattle.delivery.specs.Links.{AreMisplaced}
 use Rattle.delivery.specs.LinkRegions.{all_inner, inner_places, lines_by, results_by}
-use Rattle.delivery.proofs.AreaLemmas.{GroundsAreOne, area_proved, ground_settled}
+use Rattle.delivery.proofs.AreaLemmas.{area_proved, ground_settled}
 use Rattle.delivery.proofs.ToldRegions.{AreTelling, results_misplaced}
+
+-- a drawing has one ground
+abbrev pub GroundsAreOne : Type 0
+GroundsAreOne =
+    (t : ℤ) (d g h : Plan) (x y : Bool) (os ps : List ℕ) → IsRightGround t d x g os
+    → IsRightGround t d y h ps → g ≡ h
 
 -- the region that is found tells the region of the place
 abbrev pub RegionsAreExact : Type 0

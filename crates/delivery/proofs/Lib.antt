@@ -3,11 +3,13 @@ pub mod AnswerLemmas
 pub mod AreaLemmas
 pub mod AskedRules
 pub mod BadLines
+pub mod Calls
 pub mod Causes
 pub mod CertificateLemmas
 pub mod Certified
 pub mod Closings
 pub mod Drawables
+pub mod EarlyEnds
 pub mod FoundRegions
 pub mod GatheredLinks
 pub mod GoodRules

@@ -150,7 +150,7 @@ module _ (laws : AreaLaws) (l : Layout) (rows : List (List Row)) (rules : List R
               (link_lines ms (length rules) count) (link_lines ns (length rules) count)
               (lines.verdict verdict.Rejected)
               (ap (λ (x : List Misplaced). link_lines x (length rules) count) e) sh sk h k;
-          filings = tt;
+          filings = refl;
         }
     agree_tested false e =
         record {
@@ -159,7 +159,7 @@ module _ (laws : AreaLaws) (l : Layout) (rows : List (List Row)) (rules : List R
               (link_lines ms (length rules) count) (link_lines ns (length rules) count)
               (lines.verdict (verdict.Accepted (objects_of rows)))
               (ap (λ (x : List Misplaced). link_lines x (length rules) count) e) sh sk h k;
-          filings = tt;
+          filings = refl;
         }
 
     agree_by : (b c f g : Bool) → (some_fault xs || surface_fault l ss) ≡ b
@@ -170,7 +170,7 @@ module _ (laws : AreaLaws) (l : Layout) (rows : List (List Row)) (rules : List R
           status = refl;
           lines = judged_agree laws l rows ss ts ds xs ys cs es (lines.verdict verdict.Rejected ∷ [])
               (lines.verdict verdict.Rejected ∷ []) (same refl, tt) sh sk h k;
-          filings = tt;
+          filings = refl;
         }
     agree_by false true f g p q u v =
         record {
@@ -178,7 +178,7 @@ module _ (laws : AreaLaws) (l : Layout) (rows : List (List Row)) (rules : List R
           lines = judged_agree laws l rows ss ts ds xs ys cs es
               (lines.verdict verdict.Undecided ∷ []) (lines.verdict verdict.Undecided ∷ [])
               (same refl, tt) sh sk h k;
-          filings = tt;
+          filings = refl;
         }
     agree_by false false f g p q u v =
         let fine = (neither (some_fault xs) (surface_fault l ss) p).0 in

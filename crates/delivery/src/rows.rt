@@ -47,17 +47,17 @@ use reports::{Answers, AreaAnswer, SurfaceAnswer, are_fine};
 use std::alloc::Global;
 use table_layout::Layout;
 
-// A transfer that was judged: what its areas are drawn from, or an outcome before that.
+/// A transfer that was judged: what its areas are drawn from, or an outcome before that.
 #[derive(Drop)]
-enum Sound<'a> {
-    // No finding: the number of objects, the drawings of all areas, and the answers to all
-    // SURFACEs.
+pub enum Sound<'a> {
+    /// No finding: the number of objects, the drawings of all areas, and the answers to all
+    /// SURFACEs.
     Drawn(u128, Vec<Drawing>, Vec<SurfaceAnswer>),
     Ended(Outcome<'a>),
 }
 
-// The outcome of a transfer that has no sound rows, or an area over its limit.
-fn sound_rows<'a>(alloc: Global, judged: Judged) -> Result<Sound<'a>, Memory>
+/// The outcome of a transfer that has no sound rows, or an area over its limit.
+pub fn sound_rows<'a>(alloc: Global, judged: Judged) -> Result<Sound<'a>, Memory>
     ensures { (l : GivenLayout) (text : List ℕ) → IsJudged l text judged
         → IfOk result (IsSound l text) }
 {

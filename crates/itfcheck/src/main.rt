@@ -1,7 +1,7 @@
 //! The program: the words of the command line, real files, and the standard output.
 //!
-//! It hands the words to `delivery::run`, whose contract says what the answer means, and ends
-//! with the number of the answer. Nothing goes to standard error. A word that is not UTF-8 is
+//! It hands the words to `delivery::answer`, whose contract says what each number means, and ends
+//! with that number. Nothing goes to standard error. A word that is not UTF-8 is
 //! handed over as the empty word, which no command takes. Where the words do not fit into memory
 //! the program ends with 8, as `run` does.
 #![tactic(auto)]
@@ -9,7 +9,7 @@
 #[cfg(test)]
 mod tests;
 
-use delivery::{Status, Word, run};
+use delivery::{Status, Word, answer};
 use ports::{Memory, RealShelf, RealSink};
 use std::alloc::Global;
 use std::env::{Env, FillError};
@@ -49,14 +49,14 @@ fn words_of(rt: &HostRuntime, alloc: Global) -> Result<Vec<Word>, Memory> {
 
 fn main(rt: HostRuntime) -> ExitCode {
     let alloc = rt.alloc();
-    let status = match words_of(&rt, alloc) {
-        Ok(words) => run(
+    let number = match words_of(&rt, alloc) {
+        Ok(words) => answer(
             alloc,
             &words,
             &mut RealShelf::new(rt),
             &mut RealSink::new(rt),
         ),
-        Err(Memory) => Status::Memory,
+        Err(Memory) => Status::Memory.number(),
     };
-    ExitCode::from(status.number())
+    ExitCode::from(number)
 }

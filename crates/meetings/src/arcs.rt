@@ -75,7 +75,7 @@ pub fn arc_meeting_among(
 {
     plane::arcs::boxes_of_bad_curves_meet();
     let curves = drawing.curves.as_slice();
-    let reaches = reaches(alloc, curves)?;
+    let reaches = curve_reaches(alloc, curves)?;
     let test = ArcTest { curves };
     match least(alloc, &reaches, marked, &test)? {
         Some(pair) => Ok(Some(BadPair {
@@ -91,7 +91,7 @@ pub fn arc_meeting_among(
 pub fn has_many_pairs(alloc: Global, drawing: &Drawing, marked: &[bool]) -> Result<bool, Memory>
     requires { length marked.now ≡ length drawing.now.curves.items }
 {
-    let reaches = reaches(alloc, &drawing.curves)?;
+    let reaches = curve_reaches(alloc, &drawing.curves)?;
     are_many(alloc, &reaches, marked)
 }
 
@@ -102,7 +102,8 @@ fn has_half_arc(curves: &[Curve]) -> bool
     curves.iter().any(|curve| curve.kind == CurveKind::HalfArc)
 }
 
-fn reaches(alloc: Global, curves: &[Curve]) -> Result<Vec<Reach>, Memory>
+/// The box of each curve (`reach`). The only error is out of memory. It takes 32 bytes for each.
+pub fn curve_reaches(alloc: Global, curves: &[Curve]) -> Result<Vec<Reach>, Memory>
     requires { IsEachPlaced curves.now }
     ensures { IfOk result (λ r. AreReachesTo curves.now (length curves.now) r.items) }
 {
@@ -113,7 +114,8 @@ fn reaches(alloc: Global, curves: &[Curve]) -> Result<Vec<Reach>, Memory>
     Ok(reaches)
 }
 
-fn half_arc_marks(alloc: Global, curves: &[Curve]) -> Result<Vec<bool>, Memory>
+/// Marks for the half arcs. The only error is out of memory.
+pub fn half_arc_marks(alloc: Global, curves: &[Curve]) -> Result<Vec<bool>, Memory>
     ensures { IfOk result (λ r. AreMarksTo curves.now (length curves.now) r.items) }
 {
     let mut marks = Vec::with_capacity(alloc, curves.len())?;

@@ -7,7 +7,7 @@
 //!   `has_many_pairs`: whether these would be many pairs to look at. `is_bad`: whether two curves,
 //!   given by their numbers, are bad.
 //!   `sweep_straights`: the run of the straights' edges, or two that are bad. `is_on`: whether a
-//!   point is on a curve. `reach`: a box that holds a curve.
+//!   point is on a curve. `reach`: a box that holds a curve; `curve_reaches`: one for each.
 //! - **The rule that it serves.** Lines of an area meet in control points alone. What it names is
 //!   not apart in the sense of that rule (`plane::rule::bad_curves_are_not_apart`).
 //! - **How.** The straights' edges are swept (`line_sweep`). Pairs with a half arc are tested where
@@ -37,7 +37,7 @@ mod placing;
 mod reaching;
 mod straight_runs;
 
-pub use arcs::{arc_meeting, arc_meeting_among, has_many_pairs};
+pub use arcs::{arc_meeting, arc_meeting_among, curve_reaches, half_arc_marks, has_many_pairs};
 pub use badness::is_bad;
 pub use edges::Straights;
 pub use finding::bad_meeting;

@@ -1,46 +1,37 @@
 -- The faces of the points of a settled drawing, and what they say of points outside and of points in one face.
-use Rattle.std.proofs.Common.{◌≡◌, ◌↔◌, inl, ℕ, zero, suc, ◌<◌, ◌≤◌, true, false, Option, Some, None, List, [], ◌∷◌, map, length, take, slice_index, refl, sym, ap, subst, ◌∙◌, arith, pos}
+use Rattle.std.proofs.Common.{◌≡◌, ◌↔◌, ℕ, zero, suc, ◌<◌, Some, None, List, [], ◌∷◌, map, length, slice_index, refl, sym, ap, subst, ◌∙◌, arith, pos}
 use Rattle.std.proofs.lemmas.List.{length-map}
 use Rattle.half_edges.specs.HalfEdges.{HalfEdges}
 use Rattle.plane.specs.CurveRuns.FacePlaces.{PointHasFace}
-use Rattle.plane.specs.Faces.Cells.{position}
-use Rattle.plane.specs.Faces.Classes.{face_of, numbers}
-use Rattle.plane.specs.Faces.Labels.{label_at}
 use Rattle.plane.specs.Faces.Replays.{Replay, replay}
 use Rattle.plane.specs.Rule.Partition.{IsOuter, Joined}
 use Rattle.plane.specs.Rule.Places.{point}
 use Rattle.plane.specs.Rule.Plans.{Plan, object}
-use Rattle.plane.specs.Runs.Moves.{Move, live_from, steps_from}
+use Rattle.plane.specs.Runs.Moves.{Move, steps_from}
 use Rattle.plane.specs.declared.kinds.Edge.{Edge}
 use Rattle.plane.specs.declared.kinds.Point.{Point}
-use Rattle.point_location.specs.Places.{IsCell}
 use Rattle.tubes.specs.Settled.{edge_at, edges_at}
 use Rattle.tubes.specs.TubedEdges.{drawn_bays}
 use Rattle.tubes.specs.declared.kinds.Facing.{Facing}
 use Rattle.tubes.specs.declared.kinds.Owner.{Owner}
 use Rattle.area_search.specs.declared.settled.case.Spot.{Spot}
-use Rattle.area_search.specs.declared.settled.case.Spot.TheVariants as spot
 use Rattle.area_search.specs.declared.kinds.AreaAnswer.TheVariants.{Fault}
 use Rattle.area_search.specs.declared.kinds.AreaFinding.TheVariants.{Outside, Two}
 use Rattle.area_search.specs.declared.settled.owners.Shared.{Shared}
 use Rattle.area_search.specs.Answers.{AreAlone, AreClear, AreInside, IsAnswer, IsSettled, outside, two}
-use Rattle.area_search.specs.Settled.Cases.{ArePlacedOff, HasRunFaces, IsCase, IsOffCurves, IsSpot, face_over, spot_at, spot_face, spot_faces}
+use Rattle.area_search.specs.Settled.Cases.{ArePlacedOff, HasRunFaces, IsCase, IsOffCurves, IsSpot, spot_at, spot_face, spot_faces}
 use Rattle.area_search.specs.Faults.{AreTwo}
 use Rattle.area_search.specs.Settled.Owners.{AreShared, IsLeastShare, Share}
 use Rattle.area_search.specs.Settled.PointFaces.{IsFirstOutside}
-use Rattle.area_search.proofs.PlaneLaws.{joined_points, list_is, outer_point, tube_inside, tube_outside}
-use Rattle.area_search.proofs.SettledLemmas.ListPlaces.{label_before, over_or}
+use Rattle.area_search.proofs.PlaneLaws.{joined_points, outer_point}
 use Rattle.area_search.proofs.SettledLemmas.RunFaces.{face_in}
-use Rattle.area_search.proofs.SettledLemmas.CaseSpots.{clear_is, clear_spots, lower_at}
+use Rattle.area_search.proofs.SettledLemmas.CaseSpots.{clear_spots}
+use Rattle.area_search.proofs.SettledLemmas.SpotFaces.{spot_has_face}
 
 pub nth_spot_face : (f : Spot → ℕ) (ss : List Spot) (j : ℕ) → j < length ss → slice_index (map f ss) j ≡ f (spot_at ss j)
 nth_spot_face f [] j l = absurd (omega (arith, l))
 nth_spot_face f (s ∷ ss) zero l = refl
 nth_spot_face f (s ∷ ss) (suc j) l = nth_spot_face f ss j (omega (arith, l))
-
-pub face_over_is : (faces : List ℕ) (o : Option ℕ) → over_or (numbers (face_in faces)) 0 o ≡ face_over faces o
-face_over_is faces None = refl
-face_over_is faces (Some e) = refl
 
 module _ (d : Plan) (level : ℕ) (edges : List Edge) (owners : List Owner) (facings : List Facing) (vs : List Move) (is : IsCase d level edges owners facings vs)
     (spots : List Spot) (placed : ArePlacedOff d level vs spots) (mesh : HalfEdges) (n : ℕ) (f : HasRunFaces d level vs mesh n) where
@@ -66,28 +57,8 @@ module _ (d : Plan) (level : ℕ) (edges : List Edge) (owners : List Owner) (fac
   HasFace v k = PointHasFace d (drawn_bays d level) r (face_in mesh.face) v k
 
   -- ---- the face of a point by its spot
-  cell_face : (v : Point) (i : ℕ) (l u : Option ℕ) (c : IsCell (edges_at d level) vs v i l u) → face_of r (face_in mesh.face) (position c.events i) ≡ face_over mesh.face l
-  cell_face v i l u c =
-      let list : r.list c.events ≡ live_from [] (take c.events vs) = list_is [] vs c.events c.known in
-      let within : i ≤ length (live_from [] (take c.events vs)) = subst (λ (es : List ℕ). i ≤ length es) list (c.located (pos 0)).index in
-      ap (label_at (numbers (face_in mesh.face)) 0 i) list
-      ∙ label_before (numbers (face_in mesh.face)) 0 i (live_from [] (take c.events vs)) within
-      ∙ ap (over_or (numbers (face_in mesh.face)) 0) (sym c.lower_is)
-      ∙ face_over_is mesh.face l
-
   pub by_spot : (v : Point) (s : Spot) → IsSpot d level vs v s → IsOffCurves s → HasFace v (spot_face d level mesh.face s)
-  by_spot v (spot.On c) h o = absurd o
-  by_spot v (spot.InTube c true) h o = tube_inside (pos 0) d (drawn_bays d level) m E (steps_from [] vs) (face_in mesh.face) v c h.0 h.1
-  by_spot v (spot.InTube c false) h o = tube_outside (pos 0) d (drawn_bays d level) m E (steps_from [] vs) (face_in mesh.face) v c h.0 h.1
-  by_spot v (spot.Cell i l u) h o =
-      let c = h.0 in
-      inl (record {
-        strip = c.events;
-        index = i;
-        located = c.located (pos 0);
-        clear = λ e b. clear_is d level edges owners facings vs is l e h.1 (lower_at d level edges owners facings vs is v i e l u c b);
-        number = cell_face v i l u c;
-      })
+  by_spot v s h o = spot_has_face d level edges owners facings vs is mesh.face v s h o
 
   pub own_face : (j : ℕ) → j < length d.points → HasFace (object d j) (slice_index fs j)
   own_face j l =

@@ -1,5 +1,5 @@
 -- The labelled mesh of a settled drawing: its faces are those of the run, and faces do not matter to what is turned.
-use Rattle.std.proofs.Common.{◌≡◌, ℕ, zero, suc, ◌*◌, ◌<◌, List, [], ◌∷◌, length, slice_index, refl, subst, arith, pos}
+use Rattle.std.proofs.Common.{◌≡◌, ℕ, zero, suc, ◌*◌, ◌^◌, ◌<◌, List, [], ◌∷◌, length, slice_index, refl, sym, subst, ◌∙◌, arith, pos}
 use Rattle.event_mesh.specs.Turned.{IsTurned}
 use Rattle.faces.specs.Joined.{AreKnown}
 use Rattle.faces.specs.Labels.{AreFaces, greatest}
@@ -9,15 +9,17 @@ use Rattle.plane.specs.Lists.{Has}
 use Rattle.plane.specs.Rule.Plans.{Plan}
 use Rattle.plane.specs.Runs.Gaps.{Gap, closed_gaps}
 use Rattle.plane.specs.Runs.Moves.{Move, steps_from}
+use Rattle.plane.specs.Runs.Steps.{Run}
 use Rattle.plane.specs.declared.kinds.Edge.{Edge}
 use Rattle.straight_predicates.specs.EdgeLists.{edge_of}
 use Rattle.tubes.specs.Settled.{edge_at, edges_at}
 use Rattle.tubes.specs.declared.kinds.Facing.{Facing}
 use Rattle.tubes.specs.declared.kinds.Owner.{Owner}
 use Rattle.area_search.specs.Settled.Cases.{HasRunFaces, IsCase, IsRunMesh}
+use Rattle.area_search.specs.Settled.Meshing.{HasEdges}
 use Rattle.area_search.proofs.PlaneLaws.{closed_edges, run_known}
 use Rattle.area_search.proofs.SettledLemmas.RunFaces.{are_faces}
-use Rattle.area_search.proofs.SettledLemmas.CaseEdges.{edges_size}
+use Rattle.area_search.proofs.SettledLemmas.CaseEdges.{edges_size, owners_size}
 
 greatest_at : (ns : List ℕ) (h : ℕ) → h < length ns → slice_index ns h < suc (greatest ns)
 greatest_at [] h l = absurd (omega (arith, l))
@@ -39,6 +41,22 @@ module _ (d : Plan) (level : ℕ) (edges : List Edge) (owners : List Owner) (fac
       let w = closed_edges vs g c is.fit (subst (Has g) e h) side in
       let k = run_known m E vs w.0 c is.settled.run.run w.1 w.2 in
       omega (arith, k, s, same_size)
+
+  -- the mesh of the run, made by the number of owners
+  module _ (n : ℕ) (count : n ≡ length owners) where
+    counted : n ≡ m
+    counted = count ∙ owners_size d level edges owners facings vs is
+
+    pub owner_few : m < 2 ^ 31 → n < 2 ^ 31
+    owner_few few = omega (arith, few, counted)
+
+    pub owner_edges : HasEdges n (steps_from [] vs)
+    owner_edges = (E, subst (λ (k : ℕ). Run k E (steps_from [] vs)) (sym counted) is.settled.run.run)
+
+    pub owner_mesh : (mesh : HalfEdges) → ((F : ℕ → Edge) → Run n F (steps_from [] vs) → IsTurned n F (steps_from [] vs) mesh (length (steps_from [] vs)))
+        → IsTurned m E (steps_from [] vs) mesh (length (steps_from [] vs))
+    unfolding owner_edges
+    owner_mesh mesh f = subst (λ (k : ℕ). IsTurned k E (steps_from [] vs) mesh (length (steps_from [] vs))) counted (f E owner_edges.1)
 
   module _ (mesh : HalfEdges) (turned : IsTurned (length edges) (edge_of edges) (steps_from [] vs) mesh (length (steps_from [] vs))) where
     turned_here : IsTurned m E (steps_from [] vs) mesh (length (steps_from [] vs))

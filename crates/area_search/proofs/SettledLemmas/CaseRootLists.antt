@@ -90,11 +90,11 @@ module _ (s : Labelling) (g : Rooting s) where
   count : length g.facings ≡ m s
   count = g.facings_are.count
 
-  curve_known : (c : ℕ) → c < length (d s).curves → (c < length g.chains.inner.items) × (c < length g.chains.outer.items)
+  pub curve_known : (c : ℕ) → c < length (d s).curves → (c < length g.chains.inner.items) × (c < length g.chains.outer.items)
   curve_known c l = (let a = g.chains_are.inner_size in omega (arith, a, l), let a = g.chains_are.outer_size in omega (arith, a, l))
 
   -- the curve of an edge of a tube
-  curve_fits : (e : ℕ) → e < m s → (own e).curve < length (d s).curves
+  pub curve_fits : (e : ℕ) → e < m s → (own e).curve < length (d s).curves
   curve_fits e l = elim (owned_is (d s) (bays s) (m s) (E s) (steps s) s.settled.run e l) [
     | inl w ↦ (let a = w.number in let b = w.fits in omega (arith, a, b))
     | inr w ↦ (let a = w.number in let b = w.fits in omega (arith, a, b))
@@ -104,16 +104,16 @@ module _ (s : Labelling) (g : Rooting s) where
   edge_listed : (e x : ℕ) → e < m s → Has x (edge_roots e) → Has x roots
   edge_listed e x l h = has_front x _ _ (has_to edge_roots (length g.facings) e x (let k = count in omega (arith, k, l)) h)
 
-  border_listed : (x : ℕ) → AtBorder cells x → Has x roots
+  pub border_listed : (x : ℕ) → AtBorder cells x → Has x roots
   border_listed x h = has_back x _ _ (has_front x (flat_map cell_roots cells) (flat_map spot_roots (spots s)) (has_border cells x h))
 
-  spot_listed : (x j : ℕ) → j < length (spots s) → Has x (spot_roots (spot_at (spots s) j)) → Has x roots
+  pub spot_listed : (x j : ℕ) → j < length (spots s) → Has x (spot_roots (spot_at (spots s) j)) → Has x roots
   spot_listed x j l h = has_back x _ _ (has_back x (flat_map cell_roots cells) (flat_map spot_roots (spots s)) (has_flat spot_roots (spots s) (spot_at (spots s) j) x (has_at (spots s) j no_spot l) h))
 
-  tube_listed : (h : Half) (i : ℕ) → edge_of h < m s → faced (d s) (bays s) (E s) h ≡ suc i → Has (number h) roots
+  pub tube_listed : (h : Half) (i : ℕ) → edge_of h < m s → faced (d s) (bays s) (E s) h ≡ suc i → Has (number h) roots
   tube_listed h i l e = edge_listed (edge_of h) (number h) l (tag_listed _ _ i h _ (tag_is (d s) (level s) g.facings g.facings_are g.edge_owners g.owners_are h l ∙ e))
 
-  chain_listed : (e : ℕ) → e < m s → runs.IsOfTube (own e).part → is_marked g.chains (own e).curve (part_of (own e).part) ≡ true → Has (number (twin (within s e))) roots
+  pub chain_listed : (e : ℕ) → e < m s → runs.IsOfTube (own e).part → is_marked g.chains (own e).curve (part_of (own e).part) ≡ true → Has (number (twin (within s e))) roots
   chain_listed e l o marked =
       edge_listed e (number (twin (within s e))) l
       (subst (Has (number (twin (within s e)))) (sym (roots_are (d s) (level s) g.facings g.facings_are g.edge_owners g.owners_are g.chains e l))

@@ -130,7 +130,7 @@ module _ (d : Plan) (level : ℕ) (edges : List Edge) (owners : List Owner) (fac
   spot_by_side v c side.Outside h k t f g j = subst (IsSpot d level vs v) (sym (j refl)) (h, k)
 
   -- a point on a half arc is in its tube
-  on_arc_side : (v : Point) (c : ℕ) → IsHalfArc d c → IsOn (curve d c) (point v) → HasSide (arc (curve d c)) (point v)
+  pub on_arc_side : (v : Point) (c : ℕ) → IsHalfArc d c → IsOn (curve d c) (point v) → HasSide (arc (curve d c)) (point v)
   on_arc_side v c h k =
       let t = is.tubes c h in
       arc_points_have_sides (curve d c) (drawn_bays d level c) v h.kind (tube_circle d level c t) (is.settled.run.tube c h.there h.kind) (corners_near d level c t) k

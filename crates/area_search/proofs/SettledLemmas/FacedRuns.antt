@@ -29,10 +29,11 @@ use Rattle.area_search.specs.declared.settled.case.Spot.TheVariants as spot
 use Rattle.area_search.specs.Faced.{IsCellSpot, IsPointFace, cell_face, edge}
 use Rattle.area_search.specs.Settled.Cases.{AreSpots, HasRunFaces, IsCase, IsSpot, face_over, spot_at}
 use Rattle.area_search.proofs.PlaneLaws.{faces_to, list_is, located_joined, located_outer, no_half_arc}
-use Rattle.area_search.proofs.SettledLemmas.CaseFaces.{face_over_is, nth_spot_face}
+use Rattle.area_search.proofs.SettledLemmas.CaseFaces.{nth_spot_face}
 use Rattle.area_search.proofs.SettledLemmas.CaseSpots.{cell_in}
 use Rattle.area_search.proofs.SettledLemmas.ListPlaces.{label_before, over_or}
 use Rattle.area_search.proofs.SettledLemmas.RunFaces.{face_in}
+use Rattle.area_search.proofs.SettledLemmas.SpotFaces.{face_over_is}
 
 -- steps lie where their moves do
 pub points_from : (now : List ℕ) (vs : List Move) → points_of (steps_from now vs) ≡ map (λ (v : Move). v.at) vs

@@ -139,13 +139,13 @@ module _ (d : Plan) (aside : List Bool) (numbers : List ℕ) (a : AreMarkedTo as
   pub placed_with : (i m : ℕ) → i < P → m < length numbers → All (λ (c : Curve). IsDrawn d.window.low d.window.high c) d.curves → All (λ (x : Placed). IsInside d.window.low d.window.high x.at) d.points → IsPlacedWith (curve d (number_at m)) (object d i)
   placed_with i m l k drawn placed = record { low = d.window.low; high = d.window.high; narrow = d.window.narrow; drawn = drawn (number_at m) _ (a.known m k); inside = placed i _ l }
 
-  lies_on : (i j : ℕ) → IsPointOnCurve d numbers i j → LiesOnMarked d aside true i (number_at (j - P))
+  pub lies_on : (i j : ℕ) → IsPointOnCurve d numbers i j → LiesOnMarked d aside true i (number_at (j - P))
   lies_on i j h = record {
     on = record { point_there = h.point_there; curve_there = a.known (j - P) h.within; on = h.judged.on; has_side = h.judged.side };
     mark_is = a.mark_is (j - P) h.within;
   }
 
-  numbered : (j i : ℕ) → LiesOnMarked d aside true j i → (m : ℕ) × (m < length numbers) × (number_at m ≡ i) × IsPointOnCurve d numbers j (P + m)
+  pub numbered : (j i : ℕ) → LiesOnMarked d aside true j i → (m : ℕ) × (m < length numbers) × (number_at m ≡ i) × IsPointOnCurve d numbers j (P + m)
   numbered j i h =
       let (m, lm, em) = a.whole i h.on.curve_there h.mark_is in
       let e : (P + m) - P ≡ m = omega arith in (

@@ -1,18 +1,21 @@
 -- What is shown of one level.
-use Rattle.std.specs.Prelude.{ℕ, ◌<◌, Option, Some, None, List, length, ⊤}
+use Rattle.std.specs.Prelude.{◌≡◌, ℕ, ◌^◌, ◌<◌, Option, Some, None, List, length, ⊤}
+use Rattle.line_sweep.specs.Kinds.{gaps_of}
+use Rattle.line_sweep.specs.Sweeping.{HasTimetable}
 use Rattle.plane.specs.Rule.BadPairs.{IsBadPair}
 use Rattle.plane.specs.Rule.Plans.{Plan}
-use Rattle.tubes.specs.Settled.{IsSettledAt}
+use Rattle.plane.specs.Runs.Gaps.{closed_gaps}
+use Rattle.tubes.specs.Settled.{IsSettledAt, edges_at}
 use Rattle.tubes.specs.declared.kinds.Owner.{Owner}
-use Rattle.plane.specs.declared.kinds.Point.{Point}
-use Rattle.area_search.specs.Answers.{IsUnsettled}
-use Rattle.area_search.specs.Regions.{IsFoundOfSettled}
+use Rattle.area_search.specs.Answers.{IsLeastLevel, IsUnsettled}
 use Rattle.area_search.specs.Settled.CaseRoots.{owner_at}
+use Rattle.area_search.specs.Settled.Cases.{IsCase}
 use Rattle.area_search.specs.declared.level.bad_edges.CurvePair.{CurvePair}
 use Rattle.area_search.specs.declared.level.by_sweep.Shown.{Shown}
 use Rattle.area_search.specs.declared.level.by_sweep.Shown.TheVariants as shown
 use Rattle.area_search.specs.declared.level.finding.LevelsShown.{LevelsShown}
 use Rattle.area_search.specs.declared.level.finding.LevelsShown.TheVariants as levels
+use Rattle.area_search.specs.declared.level.settled_levels.SettledLevel.{SettledLevel}
 
 -- Two curves of the drawing, the lesser number first; or none is named.
 abbrev pub AreOfDrawing : Plan → Option CurvePair → Type 0
@@ -24,12 +27,22 @@ abbrev pub AreOfCurves : Plan → List Owner → Type 0
 AreOfCurves d owners =
     (e : ℕ) → e < length owners → (owner_at owners e).curve < length d.curves
 
--- What is shown of a level: the answer, and the regions of these places, where it settles the
--- drawing; or that it does not, and then perhaps two curves that show it, which may be bad.
-abbrev pub IsShown : Plan → List Point → ℕ → Shown → Type 0
-IsShown d places level (shown.Answer found) = IsFoundOfSettled d places found
-IsShown d places level (shown.Unsettled pair) = (IsSettledAt d level → ⊥) × AreOfDrawing d pair
-IsShown d places level (shown.AtFault pair) =
+-- The level is the least one that settles the drawing, the lists are those of its edges there, and
+-- the moves are a complete run over them, with their timetable and the cells between them.
+pub record IsSettlingLevel (d : Plan) (s : SettledLevel) : Type 0 where
+  pub least : IsLeastLevel d s.level
+  pub case : IsCase d s.level (edges_at d s.level) s.owners.items s.facings.items s.swept.events
+  pub edges : s.edges.items ≡ edges_at d s.level
+  pub few : length (edges_at d s.level) < 2 ^ 31
+  pub timed : HasTimetable (edges_at d s.level) s.swept.events
+  pub cells : gaps_of s.swept.cells.items ≡ closed_gaps s.swept.events
+
+-- What is shown of a level: that it settles the drawing; or that it does not, and then perhaps two
+-- curves that show it, which may be bad.
+abbrev pub IsShown : Plan → ℕ → Shown → Type 0
+IsShown d level (shown.Settled found) = IsSettlingLevel d found
+IsShown d level (shown.Unsettled pair) = (IsSettledAt d level → ⊥) × AreOfDrawing d pair
+IsShown d level (shown.AtFault pair) =
     (IsSettledAt d level → ⊥) × IsBadPair d pair.first pair.second
 
 -- A pair that is bad; or none is named.
@@ -37,8 +50,8 @@ abbrev pub IsBadIfAny : Plan → Option CurvePair → Type 0
 IsBadIfAny d None = ⊤
 IsBadIfAny d (Some p) = IsBadPair d p.first p.second
 
--- What all levels show of a drawing: the answer, and the regions of these places, where one of them
--- settles it; or that none does, and perhaps a pair that is bad.
-abbrev pub AreShown : Plan → List Point → LevelsShown → Type 0
-AreShown d places (levels.Answer found) = IsFoundOfSettled d places found
-AreShown d places (levels.Unsettled bad) = IsUnsettled d × IsBadIfAny d bad
+-- What all levels show of a drawing: the least one that settles it; or that none does, and perhaps
+-- a pair that is bad.
+abbrev pub AreShown : Plan → LevelsShown → Type 0
+AreShown d (levels.Settled found) = IsSettlingLevel d found
+AreShown d (levels.Unsettled bad) = IsUnsettled d × IsBadIfAny d bad

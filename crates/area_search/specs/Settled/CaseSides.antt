@@ -2,7 +2,7 @@
 use Rattle.std.specs.Prelude.{◌≡◌, ℕ, ◌+◌, ◌*◌, ◌^◌, ◌<◌, Bool, true, false, Option, Some, None}
 use Rattle.std.specs.Prelude.{List, length, slice_index, slice_index_or, ⊤}
 use Rattle.plane.specs.CurveRuns.Levels.{beside_inner, beside_outer}
-use Rattle.plane.specs.CurveRuns.TubedRuns.{first_edge, third_is_left}
+use Rattle.plane.specs.CurveRuns.TubedRuns.{first_edge}
 use Rattle.plane.specs.Faces.Halves.{number}
 use Rattle.plane.specs.Rule.Plans.{IsHalfArc, Plan, curve}
 use Rattle.plane.specs.declared.kinds.Curve.{Curve}
@@ -16,7 +16,7 @@ use Rattle.area_search.specs.declared.settled.case.Spot.{Spot}
 use Rattle.area_search.specs.declared.settled.case.Spot.TheVariants as spot
 use Rattle.area_search.specs.declared.settled.case_sides.Beside.{Beside}
 use Rattle.area_search.specs.declared.settled.sides.Side.{Side}
-use Rattle.area_search.specs.Faults.{is_inward}
+pub use Rattle.fault_lists.specs.Sides.{is_first_kind}
 use Rattle.area_search.specs.Settled.PointFaces.{IsOver}
 use Rattle.area_search.specs.Settled.Sides.{IsOnSide}
 
@@ -96,12 +96,7 @@ abbrev pub face_on : Bool → Beside → ℕ
 face_on true b = b.first
 face_on false b = b.second
 
--- Whether the first face of a curve is on the named side: that of a straight on the left, that of a
--- half arc on the inside.
-abbrev pub is_first_kind : CurveKind → Curve → Bool → Bool
-is_first_kind kind.Straight c left = left
-is_first_kind kind.HalfArc c left = is_inward (third_is_left c) left
-
+-- Whether the first face of a curve is on the named side.
 abbrev pub is_first : Curve → Bool → Bool
 is_first c left = is_first_kind c.kind c left
 

@@ -4,9 +4,14 @@ use Rattle.std.specs.Prelude.{slice_index_or, take}
 use Rattle.event_mesh.specs.Turned.{nth_step}
 use Rattle.plane.specs.Lists.{Has}
 use Rattle.plane.specs.Runs.Moves.{Move, no_move}
-use Rattle.plane.specs.Runs.Steps.{Step}
+use Rattle.plane.specs.Runs.Steps.{Run, Step}
+use Rattle.plane.specs.declared.kinds.Edge.{Edge}
 use Rattle.straight_predicates.specs.EdgeEvents.{IsNoted}
 use Rattle.area_search.specs.declared.settled.meshing.Noted.{Noted}
+
+-- The steps are a complete run over some edges, which are so many.
+abbrev pub HasEdges : ℕ → List Step → Type 0
+HasEdges m steps = (E : ℕ → Edge) × Run m E steps
 
 -- The number of edges that start or end at the event.
 abbrev pub width : Move → ℕ

@@ -1,7 +1,6 @@
 // What two bad edges of a level show.
-ghost use Rattle.std.specs.Prelude.{◌≡◌, ◌⊎◌, ℕ, ◌<◌, Some, IfSome, List, length};
+ghost use Rattle.std.specs.Prelude.{◌≡◌, ◌⊎◌, ℕ, ◌<◌, Some, IfSome, length};
 ghost use Rattle.plane.specs.Rule.Plans.{plan};
-ghost use Rattle.plane.specs.declared.kinds.Point.{Point};
 ghost use Rattle.tubes.specs.Settled.{IsSettledAt};
 ghost use Rattle.area_search.specs.Settled.CaseRoots.{owner_at};
 ghost use Rattle.area_search.specs.Level.LevelAnswers.{AreOfCurves, AreOfDrawing, IsShown};
@@ -24,8 +23,8 @@ pub(crate) fn shown_by_edges(drawing: &Drawing, owners: &[Owner], first: u32, se
     requires first { first < length owners.now }
     requires second { second < length owners.now }
     requires curves { AreOfCurves (plan drawing.now) owners.now }
-    ensures { (places : List Point) (level : ℕ) → (IsSettledAt (plan drawing.now) level → ⊥)
-        → IsShown (plan drawing.now) places level result }
+    ensures { (level : ℕ) → (IsSettledAt (plan drawing.now) level → ⊥)
+        → IsShown (plan drawing.now) level result }
 {
     match in_order(curve_at(owners, first), curve_at(owners, second)) {
         Some(pair) => shown_by_curves(drawing, pair),
@@ -43,8 +42,8 @@ fn curve_at(owners: &[Owner], edge: u32) -> u32
 /// What the two curves show, whose edges are bad.
 fn shown_by_curves(drawing: &Drawing, pair: CurvePair) -> Shown
     requires { AreOfDrawing (plan drawing.now) (Some pair) }
-    ensures { (places : List Point) (level : ℕ) → (IsSettledAt (plan drawing.now) level → ⊥)
-        → IsShown (plan drawing.now) places level result }
+    ensures { (level : ℕ) → (IsSettledAt (plan drawing.now) level → ⊥)
+        → IsShown (plan drawing.now) level result }
 {
     if is_bad(drawing, pair.first, pair.second) {
         Shown::AtFault(pair)

@@ -1,4 +1,4 @@
-// What one sweep of the edges of a level shows: the answer, or that the level does not settle.
+// What one sweep of the edges of a level shows: that it settles the drawing, or that it does not.
 ghost use Rattle.std.specs.Prelude.{[], ◌≡◌, ◌^◌, ◌<◌, ◌≤◌, IfOk, length};
 ghost use Rattle.line_sweep.specs.Kinds.{gaps_of};
 ghost use Rattle.line_sweep.specs.Sweeping.{HasTimetable};
@@ -11,15 +11,13 @@ ghost use Rattle.tubes.specs.FewEdges.{HasFewEdges};
 ghost use Rattle.tubes.specs.TubedEdges.{AreUsable, IsTubedList};
 ghost use Rattle.area_search.specs.Answers.{SettlesNoneBelow};
 ghost use Rattle.area_search.specs.Level.LevelAnswers.{IsShown};
-ghost use Rattle.area_search.specs.Regions.{AreInWindow};
 
 use super::bad_edges::{CurvePair, shown_by_edges};
 use super::missing_tubes::is_tube_missing;
+use super::settled_levels::SettledLevel;
 use super::settled_runs::settled_facings;
-use crate::kinds::FoundObjects;
-use crate::settled::{SettledDrawing, answer_settled};
 use line_sweep::{SweepRefusal, Swept, sweep};
-use plane::{Drawing, Point};
+use plane::Drawing;
 use ports::Memory;
 use std::alloc::Global;
 use tubes::{EdgeList, edge_list};
@@ -27,8 +25,8 @@ use tubes::{EdgeList, edge_list};
 /// What a sweep of a level's edges shows of the drawing.
 #[derive(Drop)]
 pub(crate) enum Shown {
-    /// The answer, with the regions of the places: the level settles the drawing.
-    Answer(FoundObjects),
+    /// The level settles the drawing.
+    Settled(SettledLevel),
     /// The level does not settle the drawing. Where two bad edges show it, their two curves.
     Unsettled(Option<CurvePair>),
     /// The level does not settle the drawing, since these two curves are bad.
@@ -37,50 +35,46 @@ pub(crate) enum Shown {
 
 /// What the edges of a level show of a drawing that no lower level settles. The only error is out
 /// of memory.
-pub(crate) fn answer_by_sweep(
+pub(crate) fn shown_by_sweep(
     alloc: Global,
     drawing: &Drawing,
-    places: &[Point],
     level: u8,
 ) -> Result<Shown, Memory>
-    requires near { AreInWindow (plan drawing.now) places.now }
     requires few { HasFewEdges (plan drawing.now) }
     requires low { level ≤ 5 }
     requires least { SettlesNoneBelow (plan drawing.now) level }
-    ensures { IfOk result (IsShown (plan drawing.now) places.now level) }
+    ensures { IfOk result (IsShown (plan drawing.now) level) }
 {
     level_breaks::laws::settled_is_unbroken();
     if level > 0 && is_tube_missing(alloc, drawing, level)? {
         return Ok(Shown::Unsettled(None));
     }
     match edge_list(alloc, drawing, level)? {
-        Some(list) => answer_list(alloc, drawing, places, level, list),
+        Some(list) => shown_by_list(alloc, drawing, level, list),
         None => Ok(Shown::Unsettled(None)),
     }
 }
 
 /// What the level shows of the drawing, by its edges. Where two of them are bad, their curves are
 /// tested.
-fn answer_list(
+fn shown_by_list(
     alloc: Global,
     drawing: &Drawing,
-    places: &[Point],
     level: u8,
     list: EdgeList,
 ) -> Result<Shown, Memory>
-    requires near { AreInWindow (plan drawing.now) places.now }
     requires low { level ≤ 5 }
     requires least { SettlesNoneBelow (plan drawing.now) level }
     requires few { length list.edges.items < 2 ^ 31 }
     requires list { IsTubedList (plan drawing.now) level list }
     requires usable { AreUsable (plan drawing.now) list.edges.items }
-    ensures { IfOk result (IsShown (plan drawing.now) places.now level) }
+    ensures { IfOk result (IsShown (plan drawing.now) level) }
 {
     tubes::laws::tubed_lists();
     tubes::laws::chains_have_edges();
     plane::sweeps::meetings_are_decided();
     match sweep(alloc, &list.edges) {
-        Ok(swept) => answer_swept(alloc, drawing, places, level, list, swept),
+        Ok(swept) => shown_by_run(alloc, drawing, level, list, swept),
         Err(SweepRefusal::Bad { first, second }) => {
             Ok(shown_by_edges(drawing, &list.owners, first, second))
         }
@@ -89,15 +83,13 @@ fn answer_list(
 }
 
 /// What the level shows of the drawing, where no two of its edges are bad.
-fn answer_swept(
+fn shown_by_run(
     alloc: Global,
     drawing: &Drawing,
-    places: &[Point],
     level: u8,
     list: EdgeList,
     swept: Swept,
 ) -> Result<Shown, Memory>
-    requires near { AreInWindow (plan drawing.now) places.now }
     requires low { level ≤ 5 }
     requires least { SettlesNoneBelow (plan drawing.now) level }
     requires few { length list.edges.items < 2 ^ 31 }
@@ -109,19 +101,18 @@ fn answer_swept(
     requires timed { HasTimetable list.edges.items swept.events }
     requires cells { gaps_of swept.cells.items
         ≡ closed_gaps swept.events }
-    ensures { IfOk result (IsShown (plan drawing.now) places.now level) }
+    ensures { IfOk result (IsShown (plan drawing.now) level) }
 {
     match settled_facings(alloc, drawing, level, &list, &swept)? {
         Some(facings) => {
             let EdgeList { edges, owners } = list;
-            let settled = SettledDrawing {
-                drawing,
+            Ok(Shown::Settled(SettledLevel {
                 level,
-                owners: &owners,
-                facings: &facings,
-            };
-            let found = answer_settled(alloc, &settled, places, edges, swept)?;
-            Ok(Shown::Answer(found))
+                edges,
+                owners,
+                facings,
+                swept,
+            }))
         }
         None => Ok(Shown::Unsettled(None)),
     }

@@ -9,7 +9,8 @@ ghost use Rattle.area_search.specs.Regions.{AreInWindow, AreRegions, IsSettledFo
 
 use super::at_fault::answer_at_fault;
 use super::bad_edges::CurvePair;
-use super::by_sweep::{Shown, answer_by_sweep};
+use super::by_sweep::{Shown, shown_by_sweep};
+use super::settled_levels::{SettledLevel, answer_of_level};
 use crate::kinds::{AreaAnswer, FoundObjects};
 use crate::unsettled::answer_unsettled;
 use level_breaks::breaks_level;
@@ -46,8 +47,8 @@ pub fn find_objects(
         places.now) }
 {
     tubes::laws::few_curves_have_few_edges();
-    match all_levels(alloc, drawing, places)? {
-        LevelsShown::Answer(found) => Ok(found),
+    match all_levels(alloc, drawing)? {
+        LevelsShown::Settled(found) => answer_of_level(alloc, drawing, places, found),
         LevelsShown::Unsettled(Some(bad)) => answer_at_fault(alloc, drawing, bad),
         LevelsShown::Unsettled(None) => answer_unsettled(alloc, drawing, places),
     }
@@ -64,8 +65,8 @@ pub(crate) fn settled_answer(
     requires near { AreInWindow (plan drawing.now) places.now }
     ensures { IfOk result (IsSettledFound (plan drawing.now) places.now) }
 {
-    match all_levels(alloc, drawing, places)? {
-        LevelsShown::Answer(found) => Ok(Some(found)),
+    match all_levels(alloc, drawing)? {
+        LevelsShown::Settled(found) => Ok(Some(answer_of_level(alloc, drawing, places, found)?)),
         LevelsShown::Unsettled(_) => Ok(None),
     }
 }
@@ -73,23 +74,22 @@ pub(crate) fn settled_answer(
 /// What the levels from 0 to 5 show of a drawing.
 #[derive(Drop)]
 pub(crate) enum LevelsShown {
-    /// The answer, with the regions of the places: some level settles the drawing.
-    Answer(FoundObjects),
+    /// The least level that settles the drawing.
+    Settled(SettledLevel),
     /// No level settles the drawing. Two curves that are bad, where some were met.
     Unsettled(Option<CurvePair>),
 }
 
 /// Tries the levels in turn. The only error is out of memory.
-fn all_levels(alloc: Global, drawing: &Drawing, places: &[Point]) -> Result<LevelsShown, Memory>
-    requires few { HasFewEdges (plan drawing.now) }
-    requires near { AreInWindow (plan drawing.now) places.now }
-    ensures { IfOk result (AreShown (plan drawing.now) places.now) }
+pub(super) fn all_levels(alloc: Global, drawing: &Drawing) -> Result<LevelsShown, Memory>
+    requires { HasFewEdges (plan drawing.now) }
+    ensures { IfOk result (AreShown (plan drawing.now)) }
 {
     let mut pair = None;
     let mut bad = None;
     for level in 0..6 {
-        match shown_at(alloc, drawing, places, level, pair)? {
-            Shown::Answer(found) => return Ok(LevelsShown::Answer(found)),
+        match shown_at(alloc, drawing, level, pair)? {
+            Shown::Settled(found) => return Ok(LevelsShown::Settled(found)),
             Shown::Unsettled(next) => pair = next,
             Shown::AtFault(two) => {
                 pair = Some(two);
@@ -106,16 +106,14 @@ fn all_levels(alloc: Global, drawing: &Drawing, places: &[Point]) -> Result<Leve
 fn shown_at(
     alloc: Global,
     drawing: &Drawing,
-    places: &[Point],
     level: u8,
     pair: Option<CurvePair>,
 ) -> Result<Shown, Memory>
     requires few { HasFewEdges (plan drawing.now) }
-    requires near { AreInWindow (plan drawing.now) places.now }
     requires low { level ≤ 5 }
     requires least { SettlesNoneBelow (plan drawing.now) level }
     requires pair { AreOfDrawing (plan drawing.now) pair }
-    ensures { IfOk result (IsShown (plan drawing.now) places.now level) }
+    ensures { IfOk result (IsShown (plan drawing.now) level) }
 {
     level_breaks::laws::settled_is_unbroken();
     if let Some(two) = pair {
@@ -123,5 +121,5 @@ fn shown_at(
             return Ok(Shown::Unsettled(pair));
         }
     }
-    answer_by_sweep(alloc, drawing, places, level)
+    shown_by_sweep(alloc, drawing, level)
 }

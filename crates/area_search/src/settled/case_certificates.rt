@@ -4,6 +4,7 @@ ghost use Rattle.certificate_checker.specs.Subjects.{claims};
 ghost use Rattle.certificate_checker.specs.Verdicts.{Proves};
 ghost use Rattle.plane.specs.Rule.Cuts.{HasNoCut};
 ghost use Rattle.area_search.specs.Answers.{IsNameless};
+ghost use Rattle.area_search.specs.Chosen.{IsChosen};
 ghost use Rattle.area_search.specs.Settled.CaseOwners.{HaveOwners};
 ghost use Rattle.area_search.specs.Settled.Cases.{IsSettledRun, level_of, plan_of};
 
@@ -15,9 +16,9 @@ use faces::links;
 use ports::{Memory, Name};
 use std::alloc::Global;
 
-/// A certificate that proves the drawing at its level: the positions of the events, the place of
-/// each point, and a note for each half-edge, with the label of the tube that it faces or the owner
-/// of its face. Its names are empty. The only error is out of memory.
+/// The certificate that is chosen of those that prove the drawing at its level: the positions of
+/// the events, the place of each point, and a note for each half-edge, with the label of the tube
+/// that it faces or the owner of its face. Its names are empty. The only error is out of memory.
 /// It takes time linear in the edges, the cells, the curves and the points, and for a while
 /// what `faces::links` takes, 2 bytes a curve and 4 a root.
 pub(crate) fn certify_run(
@@ -32,6 +33,7 @@ pub(crate) fn certify_run(
     ensures proves { IfOk result (λ c. Proves (plan_of run.entry) (claims c)) }
     ensures level { IfOk result (λ c. c.level ≡ level_of run.entry) }
     ensures names { IfOk result IsNameless }
+    ensures chosen { IfOk result (λ c. IsChosen (plan_of run.entry) (claims c)) }
 {
     certificate_checker::laws::certified_claims_prove();
     let settled = run.settled;

@@ -268,7 +268,7 @@ fn side_of(left: bool, right: bool) -> Option<bool>
 
 /// Whether the first face beside a curve is on the left: that of a straight always is, and that
 /// inside a half arc where the third point is on the left.
-fn first_is_left(curve: &Curve) -> bool
+pub(super) fn first_is_left(curve: &Curve) -> bool
     requires { IsTurnable curve.now }
     ensures { result ≡ is_first curve.now true }
 {

@@ -63,13 +63,13 @@ fn event_places(alloc: Global, events: &Events) -> Result<Vec<Point>, Memory>
 }
 
 /// The mesh of the run with its faces.
-fn labelled_run(alloc: Global, settled: &SettledDrawing, swept: Swept) -> Result<Labelled, Memory>
+pub(super) fn labelled_run(alloc: Global, settled: &SettledDrawing, swept: Swept) -> Result<Labelled, Memory>
     requires settled { IsCaseOf settled.now swept.events }
     requires few { length (edges_of settled.now) < 2 ^ 31 }
     requires cells { gaps_of swept.cells.items ≡ closed_gaps swept.events }
     ensures { IfOk result (IsLabelledRun settled.now swept.events) }
 {
-    let mesh = mesh_of_run(alloc, settled, &swept)?;
+    let mesh = mesh_of_run(alloc, settled.owners.len(), &swept)?;
     let cells = cells_alone(swept);
     let labelled = label(alloc, mesh, &cells)?;
     // `edges` says that it is a mesh.

@@ -150,7 +150,7 @@ fn answer_placed(
         swept.events places.now place_spots.now }
     ensures { IfOk result (IsFound (plan settled.now.drawing.now) places.now) }
 {
-    let mesh = mesh_of_run(alloc, settled, &swept)?;
+    let mesh = mesh_of_run(alloc, settled.owners.len(), &swept)?;
     let positions = positions(alloc, &swept.events)?;
     let cells = cells_alone(swept);
     let labelled = label(alloc, mesh, &cells)?;

@@ -6,12 +6,10 @@ ghost use Rattle.line_sweep.specs.Kinds.{move_of};
 ghost use Rattle.plane.specs.Lists.{Has};
 ghost use Rattle.plane.specs.Runs.Moves.{Fit, step_of, steps_from};
 ghost use Rattle.plane.specs.Runs.Steps.{Run, after};
+ghost use Rattle.plane.specs.declared.kinds.Edge.{Edge};
 ghost use Rattle.straight_predicates.specs.EdgeEvents.{IsNoted};
-ghost use Rattle.straight_predicates.specs.EdgeLists.{edge_of};
-ghost use Rattle.area_search.specs.Settled.Cases.{edges_of};
-ghost use Rattle.area_search.specs.Settled.Meshing.{HasNoted, IsWidest, NotesStep};
+ghost use Rattle.area_search.specs.Settled.Meshing.{HasEdges, HasNoted, IsWidest, NotesStep};
 
-use super::case::SettledDrawing;
 use event_mesh::{mesh_of, turn_event};
 use half_edges::{HalfEdgeId, Mesh};
 use line_sweep::{Event, Events, Swept};
@@ -28,26 +26,21 @@ struct Noted {
     ended: Vec<u32>,
 }
 
-/// The mesh of the run that the events of a sweep over the edges of a settled drawing make, with
-/// all events turned. The only error is out of memory. It takes time linear in the edges and in
-/// what the live list moves, as the sweep does, and at most 48 bytes an edge, of which 32 stay.
-pub(crate) fn mesh_of_run(
-    alloc: Global,
-    settled: &SettledDrawing,
-    swept: &Swept,
-) -> Result<Mesh, Memory>
-    requires few { length (edges_of settled.now) < 2 ^ 31 }
-    requires count { length settled.now.owners.now ≡ length (edges_of settled.now) }
-    requires run { Run (length (edges_of settled.now)) (edge_of (edges_of settled.now))
-        (steps_from [] swept.now.events) }
+/// The mesh of the run that the events of a sweep over so many edges make, with all events turned.
+/// The only error is out of memory. It takes time linear in the edges and in what the live list
+/// moves, as the sweep does, and at most 48 bytes an edge, of which 32 stay.
+pub fn mesh_of_run(alloc: Global, edges: usize, swept: &Swept) -> Result<Mesh, Memory>
+    requires few { edges < 2 ^ 31 }
+    requires run { HasEdges edges (steps_from [] swept.now.events) }
     requires fit { Fit [] swept.now.events }
-    ensures turned { IfOk result (λ mesh. IsTurned (length (edges_of settled.now))
-        (edge_of (edges_of settled.now)) (steps_from [] swept.now.events) mesh
+    ensures turned { IfOk result (λ mesh. (E : ℕ → Edge)
+        → Run edges E (steps_from [] swept.now.events)
+        → IsTurned edges E (steps_from [] swept.now.events) mesh
         (length (steps_from [] swept.now.events))) }
     ensures vertices { IfOk result (λ mesh. mesh.vertices ≡ length swept.now.events) }
 {
     event_mesh::laws::turned_events();
-    let noted = note_events(alloc, settled, &swept.events)?;
+    let noted = note_events(alloc, edges, &swept.events)?;
     let mut mesh = mesh_of(alloc, swept.events.len(), &noted.low, &noted.high)?;
     let mut fan = vec![in alloc; HalfEdgeId(0); widest(&swept.events)]?;
     let mut from = 0;
@@ -78,15 +71,11 @@ fn widest(events: &Events) -> usize
 }
 
 /// Replays all events and notes them.
-fn note_events(alloc: Global, settled: &SettledDrawing, events: &Events) -> Result<Noted, Memory>
-    requires count { length settled.now.owners.now ≡ length (edges_of settled.now) }
-    requires run { Run (length (edges_of settled.now)) (edge_of (edges_of settled.now))
-        (steps_from [] events.now) }
+fn note_events(alloc: Global, edges: usize, events: &Events) -> Result<Noted, Memory>
+    requires run { HasEdges edges (steps_from [] events.now) }
     requires fit { Fit [] events.now }
-    ensures { IfOk result (λ noted. HasNoted (length (edges_of settled.now)) (steps_from []
-        events.now) (length events.now) noted) }
+    ensures { IfOk result (HasNoted edges (steps_from [] events.now) (length events.now)) }
 {
-    let edges = settled.owners.len();
     let low = vec![in alloc; 0u32; edges]?;
     let high = vec![in alloc; 0u32; edges]?;
     let ended = Vec::with_capacity(alloc, edges)?;

@@ -78,9 +78,9 @@ fn first_on(places: &[Place]) -> Option<OnCurve>
 /// Curves by their numbers, of which pairs with an object's point are tested. The points come
 /// first, then the curves.
 #[derive(Drop)]
-struct OnTest<'a> {
-    drawing: &'a Drawing,
-    numbers: &'a [u32],
+pub(super) struct OnTest<'a> {
+    pub drawing: &'a Drawing,
+    pub numbers: &'a [u32],
 }
 
 impl<'a> PairTest for OnTest<'a> {
@@ -135,7 +135,7 @@ fn first_on_marked(
 }
 
 /// The boxes of the objects' points, and then those of the curves of these numbers.
-fn boxes(alloc: Global, drawing: &Drawing, numbers: &[u32]) -> Result<Vec<Reach>, Memory>
+pub(super) fn boxes(alloc: Global, drawing: &Drawing, numbers: &[u32]) -> Result<Vec<Reach>, Memory>
     requires { AreNumbers (length drawing.now.curves.items) numbers.now }
     ensures { IfOk result (λ boxes. AreCurveBoxes (plan drawing.now) numbers.now
         (length numbers.now) boxes.items) }

@@ -11,14 +11,14 @@ loop-level-preserved c =
     let level = c.loop-level.level in
     elim c.match-branch-2.branch [
       | in-Unsettled w ↦
-          (let h = subst (IsShown d c.args.places.now level) w.in-Unsettled.is c.in_ok-found.ensures in
+          (let h = subst (IsShown d level) w.in-Unsettled.is c.in_ok-found.ensures in
           record {
             least = none_below_next d level c.loop-level.invariant.least h.0;
             pair = subst (AreOfDrawing d) (sym w.pair-is) h.1;
             bad = subst (IsBadIfAny d) (sym w.bad-is) c.loop-level.invariant.bad;
           })
       | in-AtFault w ↦
-          (let h = subst (IsShown d c.args.places.now level) w.in-AtFault.is c.in_ok-found.ensures in
+          (let h = subst (IsShown d level) w.in-AtFault.is c.in_ok-found.ensures in
           record {
             least = none_below_next d level c.loop-level.invariant.least h.0;
             pair = subst (AreOfDrawing d) (sym w.pair-is) (h.1.order, h.1.there);

@@ -4,23 +4,29 @@ use Rattle.plane.specs.declared.kinds.Point.{Point}
 use Rattle.area_search.specs.declared.kinds.FoundObjects.{FoundObjects}
 use Rattle.area_search.specs.Grounds.{IsAnswerBy}
 use Rattle.area_search.specs.Level.LevelAnswers.{AreShown}
-use Rattle.area_search.specs.Regions.{AreRegions, IsFoundBy}
+use Rattle.area_search.specs.Regions.{AreRegions, IsFoundBy, IsFoundOfSettled}
 use Rattle.area_search.proofs.Regions.{settled_found, where_ok}
 use Rattle.area_search.proofs.level.finding.find_objects.Goals as goal
 
-pub returns-in-Answer-clause-answer : goal.returns-in-Answer-clause-answer
-returns-in-Answer-clause-answer c =
-    let d = plan c.args.drawing.now in
-    let ps = c.args.places.now in
-    let h = subst (AreShown d ps) c.in-Answer.is c.in_ok-found.ensures in
-    (settled_found c.args.drawing.now.tolerance d ps c.in-Answer.found h).answer
+pub answer_of_level-requires-clause-found : goal.answer_of_level-requires-clause-found
+answer_of_level-requires-clause-found c =
+    subst (AreShown (plan c.args.drawing.now)) c.in-Settled.is c.in_ok-found.ensures
 
-pub returns-in-Answer-clause-regions : goal.returns-in-Answer-clause-regions
-returns-in-Answer-clause-regions c =
+pub returns-in-Settled-clause-answer : goal.returns-in-Settled-clause-answer
+returns-in-Settled-clause-answer c =
     let d = plan c.args.drawing.now in
+    let t = c.args.drawing.now.tolerance in
     let ps = c.args.places.now in
-    let h = subst (AreShown d ps) c.in-Answer.is c.in_ok-found.ensures in
-    (settled_found c.args.drawing.now.tolerance d ps c.in-Answer.found h).regions
+    where_ok (IsFoundOfSettled d ps) (λ (f : FoundObjects). IsAnswerBy t d f.answer)
+    c.answer_of_level.result (λ f h. (settled_found t d ps f h).answer) c.answer_of_level.ensures
+
+pub returns-in-Settled-clause-regions : goal.returns-in-Settled-clause-regions
+returns-in-Settled-clause-regions c =
+    let d = plan c.args.drawing.now in
+    let t = c.args.drawing.now.tolerance in
+    let ps = c.args.places.now in
+    where_ok (IsFoundOfSettled d ps) (AreRegions t d ps) c.answer_of_level.result
+    (λ f h. (settled_found t d ps f h).regions) c.answer_of_level.ensures
 
 pub returns-in-Unsettled-None-clause-answer : goal.returns-in-Unsettled-None-clause-answer
 returns-in-Unsettled-None-clause-answer c =

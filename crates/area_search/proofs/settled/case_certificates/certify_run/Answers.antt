@@ -1,4 +1,4 @@
-use Rattle.std.proofs.Common.{◌≡◌, ℕ, ◌<◌, List, length, slice_index_or, refl, sym, subst, ◌∙◌, arith}
+use Rattle.std.proofs.Common.{◌≡◌, ℕ, ◌<◌, List, length, slice_index_or, refl, sym, ap, subst, ◌∙◌, arith}
 use Rattle.certificate_checker.specs.Certifying.{Certifies}
 use Rattle.certificate_checker.specs.Subjects.{claims}
 use Rattle.faces.specs.Joined.{AreKnown}
@@ -12,7 +12,9 @@ use Rattle.area_search.specs.Settled.CaseNotes.{AreNamed}
 use Rattle.area_search.specs.Settled.CaseRoots.{AreCaseRoots, IsSpotIn, owner_at}
 use Rattle.area_search.specs.Settled.Writing.{positions_of}
 use Rattle.area_search.proofs.SettledLemmas.CaseCalls.{few_edges, list_rooted, list_within, owners_known, roots_as, small_cells, small_spots, spots_in}
+use Rattle.area_search.proofs.ChosenLemmas.ChosenClaims.{chosen_claims}
 use Rattle.area_search.proofs.SettledLemmas.CaseCertified.{certifies}
+use Rattle.area_search.specs.Chosen.{IsChosen}
 use Rattle.area_search.specs.Settled.Cases.{edges_of}
 use Rattle.area_search.proofs.settled.case_certificates.certify_run.Goals as goal
 
@@ -82,3 +84,29 @@ returns-clause-proves c =
     let told : Certifies d (claims c.in_ok-certificate.certificate) = subst (Certifies d) (sym held.parts)
     (subst (λ (ps : List ℕ). Certifies d (record { level = c.args.run.settled.now.level; positions = ps; notes = notes; places = places })) (sym at) sure) in
     c.certified_claims_prove.ensures d (claims c.in_ok-certificate.certificate) told
+
+pub returns-clause-chosen : goal.returns-clause-chosen
+returns-clause-chosen c =
+    let listed : AreCaseRoots c.args.run.settled.now.facings.now c.args.run.settled.now.owners.now (length (plan c.args.run.settled.now.drawing.now).curves) (closed_gaps c.requires.run.vs) c.args.run.spots.now c.deref.result.now =
+    roots_as c.args.run.settled.now.facings.now c.args.run.settled.now.owners.now c.args.run.settled.now.owners.now c.len.result (length (plan c.args.run.settled.now.drawing.now).curves) c.args.run.cells.now c.args.run.cells.now _ c.args.run.spots.now
+    c.in_ok-roots.roots.items c.deref.result.now refl (c.len.ensures ∙ c.args.run.settled.now.drawing.now.curves.ok.0) refl c.requires.run.outline.cells_are c.deref.ensures.value c.in_ok-roots.ensures in
+    let d = plan c.args.run.settled.now.drawing.now in
+    let vs = c.requires.run.vs in
+    let found = c.in_ok-found.found.items in
+    let notes = c.named_notes-notes.result.items in
+    let places = c.in_ok-places.places.items in
+    let listed_notes : AreNotes c.args.run.labelled.now.mesh (closed_gaps vs) c.deref.result.now found = subst (λ (gs : List Gap). AreNotes c.args.run.labelled.now.mesh gs c.deref.result.now found) c.requires.run.outline.cells_are c.in_ok-found.ensures in
+    let named : AreNamed (length d.points) (length c.args.run.settled.now.facings.now) c.args.run.settled.now.facings.now c.args.run.settled.now.owners.now c.args.owners.now found notes =
+    subst (λ (n : ℕ). AreNamed n (length c.args.run.settled.now.facings.now) c.args.run.settled.now.facings.now c.args.run.settled.now.owners.now c.args.owners.now found notes) (c.len-2.ensures ∙ c.args.run.settled.now.drawing.now.points.ok.0) c.named_notes-notes.ensures in
+    let d0 = plan c.args.run.settled.now.drawing.now in
+    let held = c.in_ok-certificate.ensures in
+    let at : c.args.run.positions.items ≡ positions_of vs = c.requires.run.positions_are in
+    let same : claims c.in_ok-certificate.certificate ≡ record { level = c.args.run.settled.now.level; positions = positions_of vs; notes = notes; places = places } =
+    held.parts ∙ ap (λ (ps : List ℕ). record { level = c.args.run.settled.now.level; positions = ps; notes = notes; places = places }) at in
+    let sure = certifies (plan c.args.run.settled.now.drawing.now) c.args.run.settled.now.level (edges_of c.args.run.settled.now) c.args.run.settled.now.owners.now c.args.run.settled.now.facings.now c.requires.run.vs c.requires.run.settled
+    c.args.run.spots.now c.requires.run.placed c.args.run.labelled.now.mesh c.args.run.labelled.now.count c.requires.run.faces c.args.owners.now c.requires.owned (gaps_of c.args.run.cells.now) c.requires.run.outline
+    c.deref.result.now listed places c.in_ok-places.ensures found listed_notes notes named c.requires.uncut c.requires.run.timed in
+    subst (IsChosen d0) (sym same)
+    (chosen_claims (plan c.args.run.settled.now.drawing.now) c.args.run.settled.now.level (edges_of c.args.run.settled.now) c.args.run.settled.now.owners.now c.args.run.settled.now.facings.now c.requires.run.vs c.requires.run.settled
+    c.args.run.spots.now c.requires.run.placed c.args.run.labelled.now.mesh c.args.run.labelled.now.count c.requires.run.faces c.args.owners.now c.requires.owned (gaps_of c.args.run.cells.now) c.requires.run.outline
+    c.deref.result.now listed places c.in_ok-places.ensures found listed_notes notes named c.requires.uncut c.requires.run.timed (c.certified_claims_prove.ensures d0 _ sure))

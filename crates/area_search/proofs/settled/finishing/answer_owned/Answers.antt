@@ -8,6 +8,7 @@ returns c =
     let e = c.in_ok-certify_run.ensures in
     record {
       answer = proved c.in_ok-certify_run.field-0 e.proves
-          (subst (IsLeastLevel (plan_of c.args.run)) (sym e.level) c.requires.least) e.names;
+          (subst (IsLeastLevel (plan_of c.args.run)) (sym e.level) c.requires.least) e.names
+          e.chosen;
       regions = c.in_ok-regions.ensures;
     }

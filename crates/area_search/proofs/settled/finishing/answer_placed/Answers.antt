@@ -1,4 +1,4 @@
-use Rattle.std.proofs.Common.{sym, subst, ◌∙◌, ap, List}
+use Rattle.std.proofs.Common.{sym, subst, ◌∙◌, ap, refl, List, length}
 use Rattle.half_edges.specs.Meshes.{IsMesh}
 use Rattle.faces.specs.Joined.{AreKnown}
 use Rattle.half_edges.specs.HalfEdges.{HalfEdges, size}
@@ -6,15 +6,15 @@ use Rattle.line_sweep.specs.Kinds.{gaps_of}
 use Rattle.line_sweep.specs.declared.kinds.Cell.{Cell}
 use Rattle.plane.specs.Rule.Plans.{plan}
 use Rattle.area_search.specs.Settled.Cases.{HasRunFaces, IsRunMesh, edges_of}
-use Rattle.area_search.proofs.SettledLemmas.CaseEdges.{owners_size}
-use Rattle.area_search.proofs.SettledLemmas.CaseMesh.{has_run_faces, known_cells, run_mesh}
+use Rattle.area_search.proofs.SettledLemmas.CaseMesh.{has_run_faces, known_cells, owner_edges, owner_few, owner_mesh, run_mesh}
 use Rattle.area_search.proofs.settled.finishing.answer_placed.Goals as goal
 
 pub label-requires : goal.label-requires
 label-requires c = record {
   known = subst (λ (cs : List Cell). AreKnown (size c.in_ok-mesh.mesh) (gaps_of cs)) (sym (c.deref.ensures.value ∙ c.cells_alone-cells.ensures))
       (known_cells (plan c.args.settled.now.drawing.now) c.args.settled.now.level (edges_of c.args.settled.now) c.args.settled.now.owners.now c.args.settled.now.facings.now c.args.swept.events c.requires.settled
-      (gaps_of c.args.swept.cells.items) c.in_ok-mesh.mesh c.requires.cells c.in_ok-mesh.ensures.turned.count);
+      (gaps_of c.args.swept.cells.items) c.in_ok-mesh.mesh c.requires.cells
+      (owner_mesh (plan c.args.settled.now.drawing.now) c.args.settled.now.level (edges_of c.args.settled.now) c.args.settled.now.owners.now c.args.settled.now.facings.now c.args.swept.events c.requires.settled (length c.args.settled.now.owners.now) refl c.in_ok-mesh.mesh c.in_ok-mesh.ensures.turned).count);
 }
 
 pub answer_run-requires-clause-run : goal.answer_run-requires-clause-run
@@ -25,7 +25,8 @@ answer_run-requires-clause-run c =
     let l = c.in_ok-labelled.ensures in
     let same = ap gaps_of (c.deref.ensures.value ∙ c.cells_alone-cells.ensures) in
     let also = ap gaps_of (c.deref-2.ensures.value ∙ c.cells_alone-cells.ensures) in
-    let t = c.in_ok-mesh.ensures.turned in
+    let t = owner_mesh (plan c.args.settled.now.drawing.now) c.args.settled.now.level (edges_of c.args.settled.now) c.args.settled.now.owners.now c.args.settled.now.facings.now c.args.swept.events c.requires.settled (length c.args.settled.now.owners.now) refl
+    c.in_ok-mesh.mesh c.in_ok-mesh.ensures.turned in
     record {
       vs = vs;
       settled = c.requires.settled;
@@ -41,8 +42,10 @@ answer_run-requires-clause-run c =
       positions_are = c.in_ok-positions.ensures;
     }
 
-pub mesh_of_run-requires-clause-count : goal.mesh_of_run-requires-clause-count
-mesh_of_run-requires-clause-count c = owners_size (plan c.args.settled.now.drawing.now) c.args.settled.now.level (edges_of c.args.settled.now) c.args.settled.now.owners.now c.args.settled.now.facings.now c.args.swept.events c.requires.settled
+pub mesh_of_run-requires-clause-few : goal.mesh_of_run-requires-clause-few
+mesh_of_run-requires-clause-few c =
+    owner_few (plan c.args.settled.now.drawing.now) c.args.settled.now.level (edges_of c.args.settled.now) c.args.settled.now.owners.now c.args.settled.now.facings.now c.args.swept.events c.requires.settled (length c.args.settled.now.owners.now) refl c.requires.few
 
 pub mesh_of_run-requires-clause-run : goal.mesh_of_run-requires-clause-run
-mesh_of_run-requires-clause-run c = c.requires.settled.settled.run.run
+mesh_of_run-requires-clause-run c =
+    owner_edges (plan c.args.settled.now.drawing.now) c.args.settled.now.level (edges_of c.args.settled.now) c.args.settled.now.owners.now c.args.settled.now.facings.now c.args.swept.events c.requires.settled (length c.args.settled.now.owners.now) refl

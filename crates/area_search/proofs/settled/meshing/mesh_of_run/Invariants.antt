@@ -1,8 +1,8 @@
-use Rattle.std.proofs.Common.{◌≡◌, ◌≤◌, [], drop, length}
+use Rattle.std.proofs.Common.{◌≡◌, ◌≤◌, ℕ, [], drop, length}
 use Rattle.event_mesh.specs.Turned.{IsTurned}
 use Rattle.plane.specs.Runs.Moves.{steps_from}
-use Rattle.straight_predicates.specs.EdgeLists.{edge_of}
-use Rattle.area_search.specs.Settled.Cases.{edges_of}
+use Rattle.plane.specs.Runs.Steps.{Run}
+use Rattle.plane.specs.declared.kinds.Edge.{Edge}
 use Rattle.area_search.specs.Settled.Meshing.{IsWidest, ended_at}
 use Rattle.area_search.proofs.settled.meshing.mesh_of_run.Given as goal
 
@@ -11,6 +11,6 @@ invariant-loop-number l = record {
   within : l.from ≤ length l.noted.ended.items;
   rest : drop l.from l.noted.ended.items ≡ ended_at (drop l.number (steps_from [] l.swept.events));
   room : IsWidest l.swept.events (length l.swept.events) (length l.fan.items);
-  turned : IsTurned (length (edges_of l.settled)) (edge_of (edges_of l.settled)) (steps_from [] l.swept.events) l.mesh l.number;
+  turned : (E : ℕ → Edge) → Run l.edges E (steps_from [] l.swept.events) → IsTurned l.edges E (steps_from [] l.swept.events) l.mesh l.number;
   vertices : l.mesh.vertices ≡ length l.swept.events;
 }

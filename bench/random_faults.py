@@ -1,0 +1,155 @@
+#!/usr/bin/env python3
+"""Compares the faults that the built `itffaults` tells with a plain second reading of the rules.
+
+usage: random_faults.py ITFFAULTS COUNT [SEED]
+       random_faults.py ITFFAULTS small [PART OF]     all sets of up to three straights over three
+                                                      times three places, or one part of so many
+
+The drawings are those of random_drawings.py with more slips at once: lines that cross others, end on
+them or lie on them, regions without a point, with two or more, points outside and on lines, and
+lines that end within a region. Each line of the file has to be the one of plain_faults.py, but that
+of two lines that meet in more than one place any of these may be named. It stops at the first
+difference, and leaves its files.
+"""
+import collections
+import itertools
+import os
+import subprocess
+import sys
+import tempfile
+
+import plain_faults
+import random_drawings
+from random_drawings import STEP, compare_many, fail, metres
+
+SLIPS = ("empty", "two", "outside", "on", "cross")
+COUNTS = ("MEETING", "ON", "OUTSIDE", "TWO", "EMPTY", "CUT", "OPEN", "UNJUDGED")
+
+
+def drawing(chance):
+    """A drawing with up to five lines that cross others, and points in most faces."""
+    size = chance.randint(2, 6)
+    straights = random_drawings.grid(chance, size)
+    if chance.random() < 0.5:
+        straights = random_drawings.without_cuts(straights)
+    slips = [slip for slip in SLIPS if chance.random() < 0.4]
+    whole = list(straights)
+    for _ in range(chance.randint(0, 5) if "cross" in slips and len(whole) > 1 else 0):
+        straights.append(crossing(chance, whole))
+    straights = [s for s in straights if s[0] != s[1]]
+    chance.shuffle(straights)
+    straights = [s if chance.random() < 0.5 else s[::-1] for s in straights]
+    return straights, points(chance, size, straights, slips)
+
+
+def crossing(chance, straights):
+    """A straight that crosses others, ends on one, lies along one, or is one again."""
+    (a, b), (c, d) = chance.sample(straights, 2)
+    kind = chance.randrange(4)
+    if kind == 0:
+        return (a, d)
+    if kind == 1:
+        return (tuple((a[i] + b[i]) // 2 for i in (0, 1)), d)
+    if kind == 2:
+        return (a, tuple((a[i] + b[i]) // 2 for i in (0, 1)))
+    return (b, a)
+
+
+def points(chance, size, straights, slips):
+    """Points at random, so many that most faces have one, and some on lines."""
+    limit = STEP * (size + 2)
+    chosen = [(chance.randrange(limit), chance.randrange(limit))
+              for _ in range(chance.randint(0, 2 * size * size))]
+    if "on" in slips and straights:
+        chosen += [chance.choice(chance.choice(straights)) for _ in range(3)]
+    chance.shuffle(chosen)
+    return chosen
+
+
+def told(straights, placed, curves, objects):
+    """The lines of the file for the area, each as the set of those that are right."""
+    faults = plain_faults.Faults(straights, placed)
+
+    def ends(curve):
+        return " ".join(metres(end) for end in straights[curve])
+
+    for first, second in faults.meetings:
+        places = plain_faults.meeting_place(straights[first], straights[second])
+        yield {"MEETING %d %d %s" % (curves[first], curves[second], metres(at)) for at in places}
+    for point, curve in faults.on:
+        yield {"ON %d %d %s" % (objects[point], curves[curve], metres(placed[point]))}
+    for point in faults.outside():
+        yield {"OUTSIDE %d %s" % (objects[point], metres(placed[point]))}
+    for first, second in faults.two():
+        yield {"TWO %d %d %s %s" % (objects[first], objects[second], metres(placed[first]),
+                                    metres(placed[second]))}
+    for curve, side in faults.empty():
+        yield {"EMPTY %d %s %s" % (curves[curve], side, ends(curve))}
+    for curve in faults.cuts():
+        yield {"CUT %d %s" % (curves[curve], ends(curve))}
+    if faults.outer in faults.open_faces:
+        yield {"OUTER"}
+    for curve, side in faults.open():
+        yield {"OPEN %d %s %s" % (curves[curve], side, ends(curve))}
+    for point in faults.unjudged():
+        yield {"UNJUDGED %d %s" % (objects[point], metres(placed[point]))}
+
+
+def whole_text(straights, placed, curves, objects):
+    lines = list(told(straights, placed, curves, objects))
+    words = collections.Counter(next(iter(line)).split()[0] for line in lines)
+    counts = "COUNTS " + " ".join(str(words[word]) for word in COUNTS)
+    head = ["ITFFAULTS 1", "AREAS 1", "AREA Land Parcel Form"]
+    return [{line} for line in head] + lines + [{counts}, {"END"}], sum(words.values())
+
+
+def compare_one(program, folder, straights, placed, tally):
+    text, curves, objects = random_drawings.transfer(straights, placed)
+    with open(folder + "/T", "w") as file:
+        file.write(text)
+    want, faults = whole_text(straights, placed, curves, objects)
+    done = subprocess.run([os.path.abspath(program), "M", "T", "F"], cwd=folder,
+                          stdout=subprocess.DEVNULL, check=False)
+    if done.returncode != (1 if faults else 0):
+        fail(folder, "the status", done.returncode, 1 if faults else 0)
+    with open(folder + "/F") as file:
+        got = file.read().splitlines()
+    for number in range(max(len(got), len(want))):
+        line = got[number] if number < len(got) else "no line"
+        if number >= len(want) or line not in want[number]:
+            fail(folder, "line %d" % (number + 1), line, want[number : number + 1])
+    for line in got[3:-2]:
+        tally[line.split()[0]] += 1
+    tally["drawings without a fault"] += not faults
+
+
+def compare(program, folder, chance, tally):
+    compare_one(program, folder, *drawing(chance), tally)
+
+
+def small(program, part, parts):
+    """All sets of up to three straights over three times three places, with a point in each cell."""
+    nodes = [(1000 * i, 1000 * j) for i in range(1, 4) for j in range(1, 4)]
+    sides = list(itertools.combinations(nodes, 2))
+    placed = [(1300, 1200), (2600, 1200), (1300, 2700), (2200, 2600), (3500, 3500), (2000, 2000)]
+    folder, tally = tempfile.mkdtemp(), collections.Counter()
+    with open(folder + "/M", "w") as file:
+        file.write(random_drawings.MODEL)
+    drawings = [chosen for count in range(4) for chosen in itertools.combinations(sides, count)]
+    for straights in drawings[part::parts]:
+        compare_one(program, folder, list(straights), placed, tally)
+        tally["drawings"] += 1
+    for what, times in sorted(tally.items()):
+        print(what, times)
+
+
+def main():
+    if sys.argv[2] == "small":
+        small(sys.argv[1], int(sys.argv[3]) if len(sys.argv) > 3 else 0,
+              int(sys.argv[4]) if len(sys.argv) > 4 else 1)
+    else:
+        compare_many(compare, random_drawings.MODEL)
+
+
+if __name__ == "__main__":
+    main()

@@ -1,0 +1,6 @@
+use Rattle.std.proofs.Common.{◌≡◌}
+use Rattle.plane.specs.declared.kinds.Point.{Point}
+use Rattle.area_faults.proofs.rest.half_units.middle_in_halves.Goals as goal
+
+pub returns : goal.returns
+returns c = λ i. record { x = c.middle_between.ensures.x i; y = c.middle_between.ensures.y i }

@@ -1,0 +1,15 @@
+use Rattle.std.proofs.Common.{false, refl}
+use Rattle.plane.specs.Rule.Plans.{plan}
+use Rattle.area_faults.proofs.ToldFaults.{all_faults, no_pairs, none_out}
+use Rattle.area_faults.proofs.telling.faults_of_settled.Goals as goal
+
+pub told-requires-clause-points : goal.told-requires-clause-points
+told-requires-clause-points c = c.requires.faces.2.point_count
+
+pub told-requires-clause-curves : goal.told-requires-clause-curves
+told-requires-clause-curves c = c.requires.faces.2.curve_count
+
+pub returns : goal.returns
+returns c =
+    let d = plan c.args.drawing.now in
+    all_faults d c.in_ok-faults.faults (c.in_ok-faults.ensures.faults (λ i. false) (none_out d c.args.meetings.items c.requires.none) c.requires.faces (no_pairs d _ refl))

@@ -1,0 +1,17 @@
+use Rattle.std.proofs.Common.{refl}
+use Rattle.plane.specs.Rule.Plans.{plan}
+use Rattle.area_faults.proofs.telling.told.Goals as goal
+
+pub returns-clause-faults : goal.returns-clause-faults
+returns-clause-faults c = λ out left faces pairs. record {
+  told = record {
+    meetings = c.requires.meetings;
+    on = c.in_ok-on.ensures (plan c.args.drawing.now) out faces pairs;
+    out = out;
+    out_is = left;
+    r = faces.0;
+    rest = faces.1;
+    over = c.numbers_tell_faults.ensures (plan c.args.drawing.now) faces.0 out faces.1 c.args.faces.now c.in_ok-faces.faces faces.2 c.in_ok-faces.ensures;
+  };
+  out = refl;
+}

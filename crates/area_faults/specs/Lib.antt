@@ -1,0 +1,7 @@
+pub mod Answers
+pub mod RestFaces
+pub mod Crossings
+pub mod MeetingMarks
+pub mod Meetings
+pub mod Places
+pub mod PointLists

@@ -1,0 +1,33 @@
+//! All faults of the drawing of an area, in one call.
+//!
+//! - **What it answers.** `all_faults` tells all pairs of curves that meet badly, all points on
+//!   curves, and what is at fault in the faces (`fault_lists`). Of a drawing of straights the
+//!   curves that meet badly are left out, and the faces of the others are judged; those that a
+//!   curve enters that is left out are told to be open. A drawing with half arcs is judged so where
+//!   some level settles it, with nothing left out. Where none does, all curves are left out, so
+//!   that no face is judged, and the answer of `area_search` is told beside.
+//! - **The rule that it serves.** Each fault of the drawing is told, or lies in a face that is told
+//!   to be open (`fault_lists::laws::each_fault_is_told`).
+//! - **Too many.** Where a very great number of pairs meets badly, some of them are told and
+//!   nothing else.
+//! - **Degenerate cases.** No curve, no point, equal curves, curves that end within a face and
+//!   points at vertices are all taken.
+//! - **Not here:** lines of the transfer, coordinates in a model's decimals, and any text.
+#![tactic(auto)]
+
+mod crossings;
+mod kinds;
+mod left_out;
+mod marks;
+mod meeting_lists;
+mod meeting_places;
+mod one_face;
+mod point_list;
+mod rest;
+mod telling;
+
+pub use kinds::AreaFaults;
+pub use meeting_lists::{MeetingList, all_meetings};
+pub use meeting_places::meeting_place;
+pub use rest::rest_faces;
+pub use telling::all_faults;

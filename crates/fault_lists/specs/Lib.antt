@@ -1,0 +1,6 @@
+pub mod Faults
+pub mod Sides
+pub mod DrawingFaces
+pub mod FaceLists
+pub mod Telling
+pub mod FaultLists

@@ -1,0 +1,29 @@
+//! All faults of the drawing of an area: what they are, and those that the numbers of its faces
+//! tell.
+//!
+//! - **What it says.** `Faults` has the lists, by the numbers of curves and of objects' points;
+//!   `AreFaults` (`specs/FaultLists`) says what each of them holds, by the definitions of the
+//!   partition rule alone. Of a drawing in which curves meet badly these are left out. A face of
+//!   the rest that none of them enters is closed, and a face of the whole drawing; of closed faces
+//!   everything is told, and each open one is named. `laws::each_fault_is_told`: a fault of the
+//!   drawing is in its list, or lies in a face that is told to be open.
+//! - **How.** `DrawingFaces` has the faces of the rest by numbers: of each object's point, of both
+//!   sides of each curve, and which are open. `face_faults` reads off it what is at fault in the
+//!   faces: each list is a walk over the points or over the curves.
+//! - **Degenerate cases.** No curve, no point, all curves left out, points on curves, and curves
+//!   that end within a face are all taken.
+//! - **Not here:** how faces are numbered, and which curves meet badly.
+//!
+//! Cost: `face_faults` takes time linear in the faces, the points and the curves; for a while 9
+//! bytes a face, and 4 or 8 for each entry of a list.
+#![tactic(auto)]
+
+mod faces;
+mod kinds;
+pub mod laws;
+mod sides;
+mod telling;
+
+pub use faces::{CurveFaces, DrawingFaces, PointPlace};
+pub use kinds::{FaceFaults, Faults, MeetingAt, OnAt, PointPair, SideAt};
+pub use telling::face_faults;

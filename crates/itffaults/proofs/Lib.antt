@@ -1,0 +1,3 @@
+pub mod Calls
+pub mod Tellings
+pub mod Words

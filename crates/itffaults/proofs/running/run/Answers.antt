@@ -1,0 +1,35 @@
+use Rattle.std.proofs.Common.{ℕ, List, Option, refl, subst, sym}
+use Rattle.commands.specs.CommandViews.{names_of}
+use Rattle.delivery.specs.Drawn.{IsCleanDelivery, IsDelivered}
+use Rattle.delivery.specs.declared.drawn.Delivered.{Delivered}
+use Rattle.ports.specs.Faults.{ReadRose}
+use Rattle.ports.specs.Files.{Files}
+use Rattle.reports.specs.OutcomeViews.{outcome_of}
+use Rattle.itffaults.specs.Faults.{TellsAll, early, names_by, told, usage}
+use Rattle.itffaults.proofs.Calls.{ends}
+use Rattle.itffaults.proofs.running.run.Goals as goal
+
+pub returns-in_default-clause-cause : goal.returns-in_default-clause-cause
+returns-in_default-clause-cause g c = λ n. usage c.in_default.ensures.none refl c.put_report.ensures.reports
+
+pub returns-in-Ok-Clean-clause-cause : goal.returns-in-Ok-Clean-clause-cause
+returns-in-Ok-Clean-clause-cause g c = λ n.
+    let held = g.S.Shelf.held c.args.shelf.now in
+    let counted : List ℕ → Type 0 = ReadRose (g.S.Shelf.read_faults c.args.shelf.now) (g.S.Shelf.read_faults c.deliver.new.shelf) in
+    let m = c.in-Some.names.model.now in
+    let t = c.in-Some.names.transfer.now in
+    let same = c.in-Ok-Clean.ensures.reads.held in
+    let d = subst (λ (x : Delivered). IsDelivered held counted m t x) c.in-Ok-Clean.field-0-is c.in-Ok-Clean.ensures.delivered in
+    told (names_of c.in-Some.names) c.in-Some.ensures.some
+    (subst (λ (h : Option Files). TellsAll h (names_by m t c.in-Some.names.third.now) c.tell_clean.result (g.S.Shelf.held c.tell_clean.new.shelf) (g.K.Sink.written c.args.out.now) (g.K.Sink.written c.tell_clean.new.out)) same
+    (c.tell_clean.ensures.told n m t (subst (λ (h : Option Files). IsCleanDelivery h m t c.in-Ok-Clean.clean) (sym same) d)))
+
+pub returns-in-Ok-Ended-clause-cause : goal.returns-in-Ok-Ended-clause-cause
+returns-in-Ok-Ended-clause-cause g c = λ n.
+    let held = g.S.Shelf.held c.args.shelf.now in
+    let counted : List ℕ → Type 0 = ReadRose (g.S.Shelf.read_faults c.args.shelf.now) (g.S.Shelf.read_faults c.deliver.new.shelf) in
+    let m = c.in-Some.names.model.now in
+    let t = c.in-Some.names.transfer.now in
+    let d = subst (λ (x : Delivered). IsDelivered held counted m t x) c.in-Ok-Ended.field-0-is c.in-Ok-Ended.ensures.delivered in
+    early (ends held counted c.args.words.now (names_of c.in-Some.names) (outcome_of c.in-Ok-Ended.outcome) c.report_ended.result (g.S.Shelf.held c.deliver.new.shelf) (g.K.Sink.written c.args.out.now) (g.K.Sink.written c.report_ended.new.out)
+    c.in-Some.ensures.some d.0 d.1 c.in-Ok-Ended.ensures.reads.held (c.report_ended.ensures.reports n))
