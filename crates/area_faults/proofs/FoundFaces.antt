@@ -303,9 +303,12 @@ module _ (d : Plan) (marks : List Bool) (kept left : List ℕ) (parted : ArePart
     closed_face n k f =
         closed_number r e half E (steps_from [] vs) on face F low.x right d out st goes_out middle_free (at_face n) n (there_at n k) (number_at n k) (λ i b t.
         let (m, lm, q) = parted.left_are.whole i b t in
-        let (c, face_is, at_m) = middle_spot m lm in
-        (c, subst (λ (x : ℕ). IsAt r e E (steps_from [] vs) on face (middle (curve d x)) c) q at_m, λ s.
-        not_true (mark_of open_marks n) f (opened.opened (length d.points + m) n (omega arith) (let z = places_count in omega (arith, lm, z)) (face_is ∙ ap (λ (x : ℕ). Some x) s))))
+        let (c, face_is, at_m) = middle_spot m lm in (
+          c,
+          subst (λ (x : ℕ). IsAt r e E (steps_from [] vs) on face (middle (curve d x)) c) q at_m,
+          λ s.
+              not_true (mark_of open_marks n) f (opened.opened (length d.points + m) n (omega arith) (let z = places_count in omega (arith, lm, z)) (face_is ∙ ap (λ (x : ℕ). Some x) s)),
+        ))
 
     pub open_face : (n : ℕ) → n < l.count → mark_of open_marks n ≡ true → IsOpen d r (λ (i : ℕ). mark_of marks i) (at_face n)
     open_face n k t =

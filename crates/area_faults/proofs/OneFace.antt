@@ -98,17 +98,21 @@ module _ (d : Plan) where
 
   pub one_face : (f : DrawingFaces) (any : Bool) → (any ≡ true → 0 < length d.curves) → (any ≡ false → length d.curves ≡ 0) → f.open.items ≡ any ∷ []
       → f.points.items ≡ replicate (length d.points) (InFace 0) → f.curves.items ≡ replicate (length d.curves) None → HasFaces d (λ i. true) f
-  one_face f any some nothing opens points curves = (bare d, rest, record {
-    at = λ n. here;
-    places = subst (λ (k : ℕ). AreFacePlaces (bare d) k (λ n. here)) (sym count) places;
-    closed = λ n l e i m. absurd (let k = nothing (sym (open_at n l) ∙ e) in omega (arith, m, k));
-    broken = λ n l e. opened (some (sym (open_at n l) ∙ e));
-    point_count = ap (λ (xs : List PointPlace). length xs) points ∙ length-replicate (length d.points) (InFace 0);
-    points = λ j l. subst (λ (p : PointPlace). IsPointPlace d (bare d) out (face_count f) (λ n. here) j p) (sym (placed j)) (in_face j);
-    curve_count = ap (λ (xs : List (Option CurveFaces)). length xs) curves ∙ length-replicate (length d.curves) None;
-    sides = λ n l k. absurd (k (let a = count in omega (arith, l, a)));
-    curves = λ i l. subst (λ (c : Option CurveFaces). AreCurveFaces d (bare d) out rest (face_count f) (λ n. here) i c) (sym (beside i)) refl;
-  })
+  one_face f any some nothing opens points curves = (
+    bare d,
+    rest,
+    record {
+      at = λ n. here;
+      places = subst (λ (k : ℕ). AreFacePlaces (bare d) k (λ n. here)) (sym count) places;
+      closed = λ n l e i m. absurd (let k = nothing (sym (open_at n l) ∙ e) in omega (arith, m, k));
+      broken = λ n l e. opened (some (sym (open_at n l) ∙ e));
+      point_count = ap (λ (xs : List PointPlace). length xs) points ∙ length-replicate (length d.points) (InFace 0);
+      points = λ j l. subst (λ (p : PointPlace). IsPointPlace d (bare d) out (face_count f) (λ n. here) j p) (sym (placed j)) (in_face j);
+      curve_count = ap (λ (xs : List (Option CurveFaces)). length xs) curves ∙ length-replicate (length d.curves) None;
+      sides = λ n l k. absurd (k (let a = count in omega (arith, l, a)));
+      curves = λ i l. subst (λ (c : Option CurveFaces). AreCurveFaces d (bare d) out rest (face_count f) (λ n. here) i c) (sym (beside i)) refl;
+    },
+  )
     where
       count : face_count f ≡ 1
       count = ap (λ (xs : List Bool). length xs) opens

@@ -138,12 +138,13 @@ module _ (d : Plan) (kept : List ℕ) (straights : (k : ℕ) → k < length (res
         × (face_of (drawn (pos 0) (half_plan (rest_plan d kept)) (edge_of (edges_of (half_plan (rest_plan d kept)))) (steps_from [] vs)) (λ h. slice_index l.mesh.face (number h)) (position c.events p) ≡ face_over l.mesh.face lower)
     cell_number v p lower upper c =
         let at_v = subst (λ r. IsLocated r v c.events p) same_replay (c.located (pos 0)) in
-        let list = list_is [] vs c.events c.known in
-        (at_v,
-        label_before (numbers face) 0 p (list_after [] steps c.events) at_v.index
-        ∙ ap (λ (es : List ℕ). over_or (numbers face) 0 (edge_before es p)) list
-        ∙ ap (over_or (numbers face) 0) (sym c.lower_is)
-        ∙ over_is lower)
+        let list = list_is [] vs c.events c.known in (
+          at_v,
+          label_before (numbers face) 0 p (list_after [] steps c.events) at_v.index
+              ∙ ap (λ (es : List ℕ). over_or (numbers face) 0 (edge_before es p)) list
+              ∙ ap (over_or (numbers face) 0) (sym c.lower_is)
+              ∙ over_is lower,
+        )
 
     pub cell_below : (v : Point) (p : ℕ) (lower upper : Option ℕ) → IsCell (half_edges d kept) vs v p lower upper → face_over l.mesh.face lower < l.count
     cell_below v p None upper c = faces.some

@@ -64,9 +64,11 @@ curve_more curves kept faces k old new g l there rising e sides a =
             (f, at_new (slice_index kept m) ∙ get_or-set_other old n (slice_index kept m) (Some g) None (λ q. omega (arith, r, q)) ∙ f_is, s))
         | inr c ↦ (
             let q : k ≡ m = omega (arith, b, c) in
-            let s = a.size in
-            (g, ap (λ (x : ℕ). sides_at new (slice_index kept x)) (sym q) ∙ at_new n ∙ get_or-set_same old n (Some g) None (omega (arith, there, s)),
-            subst (λ (x : ℕ). AreSidesOf (nth_curve curves (slice_index kept x)) faces x g) q sides))
+            let s = a.size in (
+              g,
+              ap (λ (x : ℕ). sides_at new (slice_index kept x)) (sym q) ∙ at_new n ∙ get_or-set_same old n (Some g) None (omega (arith, there, s)),
+              subst (λ (x : ℕ). AreSidesOf (nth_curve curves (slice_index kept x)) faces x g) q sides,
+            ))
       ];
       none = λ i h. at_new i ∙ get_or-set_other old n i (Some g) None (λ q. h k (omega arith) (sym q)) ∙ a.none i (λ m b. h m (omega (arith, b)));
     }

@@ -36,7 +36,7 @@ is_doubled d = record {
 
 -- two straights in half units that meet badly do so in whole units
 half_control : (c : Curve) (z : Vector) → IsControl c (halved z) → IsControl (twice_curve c) z
-half_control c z h = elim h [ | inl s ↦ inl (there c.from s) | inr s ↦ inr (there c.to s) ]
+half_control c z h = elim h [ inl s ↦ inl (there c.from s) | inr s ↦ inr (there c.to s) ]
   where
     there : (p : Point) → Same (halved z) (point p) → Same z (point (twice p))
     there p s = record { x = (let a = s.x in let b = out p.x z.n in omega (arith, ints, a, b)); y = (let a = s.y in let b = out p.y z.n in omega (arith, ints, a, b)) }
@@ -129,9 +129,15 @@ module _ (d : Plan) (out : ℕ → Bool) (kept : List ℕ) (known : (m : ℕ) �
           ]
 
       pub outs : AreStraightsOut d (rest_plan d kept) out
-      outs i l left = (straights i l, λ k m. (rest_straights k m, λ meet.
-          never i k l (inside k m) (λ q. true_false (out i) left (ap out q ∙ stays k (inside k m)))
-          (subst (λ (c : Curve). StraightsMeet (curve d i) c) (rest_curve k m) meet)))
+      outs i l left = (
+        straights i l,
+        λ k m. (
+          rest_straights k m,
+          λ meet.
+              never i k l (inside k m) (λ q. true_false (out i) left (ap out q ∙ stays k (inside k m)))
+              (subst (λ (c : Curve). StraightsMeet (curve d i) c) (rest_curve k m) meet),
+        ),
+      )
 
       -- no two edges of the rest in half units are bad
       pub none_bad : (E : ℕ → Edge) → AreEdgesOf E (half_plan (rest_plan d kept)) → (a b : ℕ) → a < length kept → b < length kept → (a ≡ b → ⊥) → Bad (E a) (E b) → ⊥

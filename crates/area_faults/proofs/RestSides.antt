@@ -37,13 +37,16 @@ module _ (r e : Plan) (double : IsDoubled r e) (straights : (k : ℕ) → k < le
 
   pub some_crossing : (g : Edge) → IsHalfEdge g (E k) (curve r k) → (p : Vector) × (q : Vector) × IsCrossedBy r e E steps on face k g p q
   some_crossing g half =
-      let (p, q, x, miss) = some_inner_crossing (pos 0) e E steps on k there in
-      (halved p, halved q, record {
-        crossing = halved_crossing r e double straights k l g (E k) half p q x;
-        misses = halved_misses r e double straights k l g (E k) half p q x miss;
-        above = halved_at r e double E steps on face faces p (face (over k)) x.p_place x.p_off (above_number e E steps on face faces k p q there x);
-        below = halved_at r e double E steps on face faces q (face (under k)) x.q_place x.q_off (below_number e E steps on face faces k p q there x);
-      })
+      let (p, q, x, miss) = some_inner_crossing (pos 0) e E steps on k there in (
+        halved p,
+        halved q,
+        record {
+          crossing = halved_crossing r e double straights k l g (E k) half p q x;
+          misses = halved_misses r e double straights k l g (E k) half p q x miss;
+          above = halved_at r e double E steps on face faces p (face (over k)) x.p_place x.p_off (above_number e E steps on face faces k p q there x);
+          below = halved_at r e double E steps on face faces q (face (under k)) x.q_place x.q_off (below_number e E steps on face faces k p q there x);
+        },
+      )
 
   pub any_crossing : (g : Edge) → IsHalfEdge g (E k) (curve r k) → (p q : Vector) → CrossesCurve r g k p q → IsAt r e E steps on face p (face (over k)) × IsAt r e E steps on face q (face (under k))
   any_crossing g half p q x =

@@ -43,11 +43,7 @@ fn all_marks(alloc: Global, count: usize) -> Result<Vec<bool>, Memory>
 
 /// Marks for more curves, by a sweep of those that are not marked; None where no two of these are
 /// bad.
-fn next_marks(
-    alloc: Global,
-    drawing: &Drawing,
-    marks: &[bool],
-) -> Result<Option<Vec<bool>>, Memory>
+fn next_marks(alloc: Global, drawing: &Drawing, marks: &[bool]) -> Result<Option<Vec<bool>>, Memory>
     requires { HasArcMarks (plan drawing.now) marks.now }
     ensures next { IfOk result (λ r. IfSome r (λ next. HasArcMarks (plan drawing.now)
         next.items)) }

@@ -15,11 +15,7 @@ use std::alloc::Global;
 /// curves that are not left out, and all pairs of a point and one of the others on which it lies.
 /// The only error is out of memory. It takes time linear in the points and the pairs, 8 bytes a
 /// point, and 8 for each entry.
-pub fn all_on(
-    alloc: Global,
-    faces: &DrawingFaces,
-    pairs: &[OnAt],
-) -> Result<Vec<OnAt>, Memory>
+pub fn all_on(alloc: Global, faces: &DrawingFaces, pairs: &[OnAt]) -> Result<Vec<OnAt>, Memory>
     requires few { length faces.now.points.items < 2 ^ 32 }
     requires below { All (HasPointBelow (length faces.now.points.items)) pairs.now }
     ensures { (d : Plan) (out : ℕ → Bool) → HasFaces d out faces.now
@@ -31,11 +27,7 @@ pub fn all_on(
 }
 
 // Of so many points the least curve that these pairs name with each, if there is one.
-fn least_curves(
-    alloc: Global,
-    points: usize,
-    pairs: &[OnAt],
-) -> Result<Vec<Option<u32>>, Memory>
+fn least_curves(alloc: Global, points: usize, pairs: &[OnAt]) -> Result<Vec<Option<u32>>, Memory>
     requires { All (HasPointBelow points) pairs.now }
     ensures size { IfOk result (λ least. length least.items ≡ points) }
     ensures least { IfOk result (λ least. AreLeast pairs.now (length pairs.now) least.items) }
@@ -77,11 +69,7 @@ fn lesser(curve: u32, other: Option<u32>) -> u32
 }
 
 // The points that lie on a curve that stays or on one that is left out, each with the lesser.
-fn joined(
-    alloc: Global,
-    places: &[PointPlace],
-    least: &[Option<u32>],
-) -> Result<Vec<OnAt>, Memory>
+fn joined(alloc: Global, places: &[PointPlace], least: &[Option<u32>]) -> Result<Vec<OnAt>, Memory>
     requires size { length least.now ≡ length places.now }
     requires few { length places.now < 2 ^ 32 }
     ensures { IfOk result (λ ons. HasExactly (IsChosen places.now least.now) (λ o. o.point)

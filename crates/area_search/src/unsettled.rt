@@ -26,8 +26,6 @@ mod rest;
 mod settling;
 mod standing;
 
-pub use marked_points::points_on_marked;
-
 use crate::kinds::{AreaAnswer, AreaFinding, FoundObjects, without_regions};
 use crate::level::meeting;
 use crate::points::OnCurve;
@@ -36,6 +34,7 @@ use aside::{Aside, set_aside};
 use bent::bent_answer;
 use level_breaks::first_break_among;
 use line_sweep::Swept;
+pub use marked_points::points_on_marked;
 use meetings::{StraightRun, Straights, arc_meeting_among, sweep_straights};
 use on_curves::{first_on_curve, first_on_straight};
 use plane::{Drawing, Point};

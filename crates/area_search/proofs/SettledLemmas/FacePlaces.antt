@@ -82,7 +82,7 @@ module _ (d : Plan) (level : ℕ) (edges : List Edge) (owners : List Owner) (fac
   arc_is_crossed : (i : ℕ) → IsHalfArc d i → Crossed i
   arc_is_crossed i h =
       let (p, q, x) = arc_segment d (drawn_bays d level) m E (steps_from [] vs) is.settled.run
-          is.settled.wide is.settled.settled face f.faces i h in
+      is.settled.wide is.settled.settled face f.faces i h in
       record {
         p = p;
         q = q;
@@ -94,7 +94,7 @@ module _ (d : Plan) (level : ℕ) (edges : List Edge) (owners : List Owner) (fac
       ends u v x =
           let e = arc_faces d level edges owners facings vs is mesh n f chains besides are i h in
           let a = arc_ends d (drawn_bays d level) m E (steps_from [] vs) is.settled.run
-              is.settled.wide is.settled.settled face f.faces i h u v x in
+          is.settled.wide is.settled.settled face f.faces i h u v x in
           record {
             p_place = x.p_place;
             q_place = x.q_place;
@@ -153,8 +153,8 @@ module _ (d : Plan) (level : ℕ) (edges : List Edge) (owners : List Owner) (fac
     found =
         let o = straight_first d level edges owners facings vs is i s in
         let (p, q, c) = straight_segment d (drawn_bays d level) m E (steps_from [] vs)
-            is.settled.run is.settled.wide is.settled.settled face f.faces i x o.there o.curve_is
-            o.part s.there s.kind in
+        is.settled.run is.settled.wide is.settled.settled face f.faces i x o.there o.curve_is
+        o.part s.there s.kind in
         elim (straight_beside d level edges owners facings vs is mesh n f chains besides are i s) [
           | inl b ↦ (p, q, (crosses_forth d (E x) i p q b.low b.high).1 c)
           | inr b ↦ (q, p, (crosses_turned d (E x) i q p b.low b.high).1 c)

@@ -133,7 +133,7 @@ module _ (d : Plan) (level : ℕ) (edges : List Edge) (owners : List Owner) (fac
     pub straight_beside : IsForth ⊎ IsBack
     straight_beside =
         let b = subst (λ (t : CurveKind). IsBesideKind t d level mesh.face i (beside i)) s.kind
-            (are.each i s.there) in
+        (are.each i s.there) in
         by_sides b.0.0 b.1.0 b.0.1 b.1.1 b.0.2 b.1.2
 
   -- ---- a half arc
@@ -193,13 +193,13 @@ module _ (d : Plan) (level : ℕ) (edges : List Edge) (owners : List Owner) (fac
   besides_known i l = elim (decide i l) [
     | inl s ↦ elim (straight_beside i s) [
       | inl b ↦ record {
-          first = subst (λ (v : ℕ). v < n) (sym b.first) (face_known (over (x i s)) (there i s));
-          second = subst (λ (v : ℕ). v < n) (sym b.second) (face_known (under (x i s)) (there i s));
-        }
+        first = subst (λ (v : ℕ). v < n) (sym b.first) (face_known (over (x i s)) (there i s));
+        second = subst (λ (v : ℕ). v < n) (sym b.second) (face_known (under (x i s)) (there i s));
+      }
       | inr b ↦ record {
-          first = subst (λ (v : ℕ). v < n) (sym b.first) (face_known (under (x i s)) (there i s));
-          second = subst (λ (v : ℕ). v < n) (sym b.second) (face_known (over (x i s)) (there i s));
-        }
+        first = subst (λ (v : ℕ). v < n) (sym b.first) (face_known (under (x i s)) (there i s));
+        second = subst (λ (v : ℕ). v < n) (sym b.second) (face_known (over (x i s)) (there i s));
+      }
     ]
     | inr h ↦
         let b = arc_faces i h in
@@ -264,12 +264,12 @@ module _ (d : Plan) (level : ℕ) (edges : List Edge) (owners : List Owner) (fac
       by_part i r c whole e t = absurd t
       by_part i r c inner e t =
           let z : h ≡ twin (within (edge_of h)) = not_faced d (drawn_bays d level) E h
-              (subst IsOfTube (sym e) tt) clear.clear in
+          (subst IsOfTube (sym e) tt) clear.clear in
           subst Met (sym (ap face z ∙ inner_same i r (edge_of h) clear.there c e))
           (inner_met i r)
       by_part i r c outer e t =
           let z : h ≡ twin (within (edge_of h)) = not_faced d (drawn_bays d level) E h
-              (subst IsOfTube (sym e) tt) clear.clear in
+          (subst IsOfTube (sym e) tt) clear.clear in
           subst Met (sym (ap face z ∙ outer_same i r (edge_of h) clear.there c e))
           (outer_met i r)
 

@@ -248,27 +248,31 @@ module _ (d : Plan) (level : ℕ) (edges : List Edge) (owners : List Owner) (fac
         (never_out, (i, l, refl, curve_is i l))
 
     pub drawing_faces : HasFaces d none g
-    drawing_faces = (d, rest d, record {
-      at = at;
-      places = moved (λ (k : ℕ). AreFacePlaces d k at) face_places;
-      closed = λ k l e i m o. absurd (never_out o);
-      broken = λ k l e. absurd (never_out (sym (closed k) ∙ e));
-      point_count = points_size;
-      points = λ j l. moved (λ (k : ℕ). IsPointPlace d d none k at j (place_of g j))
-          (its_point j l);
-      curve_count = curves_are.size;
-      curves = λ i l. moved (λ (k : ℕ). AreCurveFaces d d none (rest d) k at i (faces_of g i))
-          (its_curve i l);
-      sides = λ k l inner.
-          let (i, m, o) = side_of k (omega (arith, l, opened)) inner in
-          record {
-            i = i;
-            there = (let e = curves_are.size in omega (arith, m, e));
-            faces = curve_faces (curve d i) (beside_at besides i) names;
-            is = curves_are.each i m;
-            on = o;
-          };
-    })
+    drawing_faces = (
+      d,
+      rest d,
+      record {
+        at = at;
+        places = moved (λ (k : ℕ). AreFacePlaces d k at) face_places;
+        closed = λ k l e i m o. absurd (never_out o);
+        broken = λ k l e. absurd (never_out (sym (closed k) ∙ e));
+        point_count = points_size;
+        points = λ j l. moved (λ (k : ℕ). IsPointPlace d d none k at j (place_of g j))
+            (its_point j l);
+        curve_count = curves_are.size;
+        curves = λ i l. moved (λ (k : ℕ). AreCurveFaces d d none (rest d) k at i (faces_of g i))
+            (its_curve i l);
+        sides = λ k l inner.
+            let (i, m, o) = side_of k (omega (arith, l, opened)) inner in
+            record {
+              i = i;
+              there = (let e = curves_are.size in omega (arith, m, e));
+              faces = curve_faces (curve d i) (beside_at besides i) names;
+              is = curves_are.each i m;
+              on = o;
+            };
+      },
+    )
 
     pub faces_numbered : IsNumbered g
     faces_numbered = record {

@@ -153,30 +153,38 @@ module _ (d : Plan) (n : ℕ) (some : 0 < n) (besides : List Beside)
       × HasName (name (face_on b (side i))) z
   side_named i l true =
       let c = crossing_of i l in
-      let e = c.ends c.p c.q c.crossing in (c.p, record {
-        place = e.p_place;
-        off = e.p_off;
-        own = face_on true (side i);
-        known = known_met i l true;
-        has = e.first;
-        is_name = refl;
-        zero_alone = met_alone i l true;
-      })
+      let e = c.ends c.p c.q c.crossing in (
+        c.p,
+        record {
+          place = e.p_place;
+          off = e.p_off;
+          own = face_on true (side i);
+          known = known_met i l true;
+          has = e.first;
+          is_name = refl;
+          zero_alone = met_alone i l true;
+        },
+      )
   side_named i l false =
       let c = crossing_of i l in
-      let e = c.ends c.p c.q c.crossing in (c.q, record {
-        place = e.q_place;
-        off = e.q_off;
-        own = face_on false (side i);
-        known = known_met i l false;
-        has = e.second;
-        is_name = refl;
-        zero_alone = met_alone i l false;
-      })
+      let e = c.ends c.p c.q c.crossing in (
+        c.q,
+        record {
+          place = e.q_place;
+          off = e.q_off;
+          own = face_on false (side i);
+          known = known_met i l false;
+          has = e.second;
+          is_name = refl;
+          zero_alone = met_alone i l false;
+        },
+      )
 
   pub chosen : (k : ℕ) → k < count → (z : Vector) × HasName k z
   chosen k l = elim (named.used k l) [
-    | inl e ↦ (out_there, record {
+    | inl e ↦ (
+      out_there,
+      record {
         place = out_place;
         off = out_off;
         own = 0;
@@ -184,7 +192,8 @@ module _ (d : Plan) (n : ℕ) (some : 0 < n) (besides : List Beside)
         has = out_number;
         is_name = named.zero ∙ sym e;
         zero_alone = λ q. refl;
-      })
+      },
+    )
     | inr (g, h, q) ↦
         let (i, b, c, e) = met_at besides g h in
         let s = side_named i (let a = sized in omega (arith, a, b)) c in

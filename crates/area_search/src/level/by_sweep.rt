@@ -35,11 +35,7 @@ pub(crate) enum Shown {
 
 /// What the edges of a level show of a drawing that no lower level settles. The only error is out
 /// of memory.
-pub(crate) fn shown_by_sweep(
-    alloc: Global,
-    drawing: &Drawing,
-    level: u8,
-) -> Result<Shown, Memory>
+pub(crate) fn shown_by_sweep(alloc: Global, drawing: &Drawing, level: u8) -> Result<Shown, Memory>
     requires few { HasFewEdges (plan drawing.now) }
     requires low { level ≤ 5 }
     requires least { SettlesNoneBelow (plan drawing.now) level }

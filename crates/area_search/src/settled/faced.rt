@@ -63,7 +63,11 @@ fn event_places(alloc: Global, events: &Events) -> Result<Vec<Point>, Memory>
 }
 
 /// The mesh of the run with its faces.
-pub(super) fn labelled_run(alloc: Global, settled: &SettledDrawing, swept: Swept) -> Result<Labelled, Memory>
+pub(super) fn labelled_run(
+    alloc: Global,
+    settled: &SettledDrawing,
+    swept: Swept,
+) -> Result<Labelled, Memory>
     requires settled { IsCaseOf settled.now swept.events }
     requires few { length (edges_of settled.now) < 2 ^ 31 }
     requires cells { gaps_of swept.cells.items ≡ closed_gaps swept.events }
