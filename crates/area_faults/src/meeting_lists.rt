@@ -48,8 +48,8 @@ impl<'a> PairTest for MeetingTest<'a> {
 
 /// All pairs of curves that meet badly, each with a place; or some of them, where there are more
 /// than 1,000,000. The only error is out of memory. It takes the sweeps of `meeting_marks`, then
-/// the time of the marked curves times those that begin within their boxes along x, or the other way
-/// round; 36 bytes for each curve beside a sweep's, 65 bytes after it, and 40 for each pair.
+/// the time of the marked curves times those that begin within their boxes along x, or the other
+/// way round; 36 bytes for each curve beside a sweep's, 65 bytes after it, and 40 for each pair.
 pub fn all_meetings(alloc: Global, drawing: &Drawing) -> Result<MeetingList, Memory>
     ensures { IfOk result (IsMeetingList (plan drawing.now)) }
 {

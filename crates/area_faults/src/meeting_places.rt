@@ -12,9 +12,9 @@ use meetings::is_on;
 use plane::{Curve, CurveKind, Point};
 
 /// A place for two curves that meet badly: an end of one that is on the other, one that is no end
-/// of it before others; or, of two straights that cross, the lower left corner of the unit square in
-/// which they do; or, where one of the two is a half arc, the first end of the first of them. It
-/// takes no memory.
+/// of it before others; or, of two straights that cross, the lower left corner of the unit square
+/// in which they do; or, where one of the two is a half arc, the first end of the first of them.
+/// It takes no memory.
 pub fn meeting_place(first: &Curve, second: &Curve) -> Point
     requires placed { ArePlaced first.now second.now }
     requires bad { AreBad first.now second.now }

@@ -123,8 +123,8 @@ impl<'a> KeyFeed<'a> {
         Ok(())
     }
 
-    /// The keys of all rows that were added, in order, by which they can be asked. 16 bytes for each
-    /// row; the only error is out of memory.
+    /// The keys of all rows that were added, in order, by which they can be asked. 16 bytes for
+    /// each row; the only error is out of memory.
     pub fn sorted<'b>(&'b self) -> Result<Keys<'b, 'a>, Memory>
         ensures { IfOk result (λ keys. (l : GivenLayout) (rows : List (ℕ × GivenRow))
             → HasRows l self.now rows → HasKeys l keys rows) }
