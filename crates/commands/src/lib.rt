@@ -6,7 +6,7 @@
 //!   `points M T L`. Names of files are not empty and do not begin with a minus, and N is a number
 //!   from 1 to 500 without sign or leading zero. All other words spell none. A command has one
 //!   `Task`: what is done once its model is compiled, where the transfer comes from, and which file
-//!   is read or written besides.
+//!   is read or written besides. `program_words` has the words of the process.
 //! - **Files.** `read_file` reads a file whole, in pieces of 65,536 bytes, and refuses one past its
 //!   limit: 4,194,304 bytes for a model, 268,435,456 for a transfer, 1,073,741,824 for
 //!   certificates, 65,536 for links. It fails only where a count of faults rose, and not where the
@@ -30,6 +30,7 @@ mod command;
 mod file_pieces;
 mod files;
 mod model;
+mod program_words;
 mod refusals;
 mod taking;
 mod task;
@@ -37,9 +38,10 @@ mod text;
 pub mod trial;
 mod word;
 
-pub use command::{Command, FileNames, Verb, command_of};
+pub use command::{Command, FileNames, Verb, command_of, is_file_name};
 pub use files::{File, FileRefusal, read_file};
 pub use model::{ModelReading, read_model};
+pub use program_words::program_words;
 pub use refusals::{Refusal, RefusalCode};
 pub use taking::{Taker, read_pieces};
 pub use task::{Filed, Target, Task, TransferSource};

@@ -18,49 +18,15 @@ mod naming;
 mod running;
 mod telling;
 
-use commands::Word;
+use commands::program_words;
 use ports::{Memory, RealShelf, RealSink};
 use reports::Status;
 use running::run;
-use std::alloc::Global;
-use std::env::{Env, FillError};
 use std::process::ExitCode;
-
-// The system gives no word that is longer.
-const LONGEST_WORD: usize = 131_072;
-
-// The word at a place of the command line; none after the last.
-fn word_at(
-    rt: &HostRuntime,
-    alloc: Global,
-    place: usize,
-    buffer: &mut [u8],
-) -> Result<Option<Word>, Memory> {
-    let length = match rt.arg(place, buffer) {
-        Ok(length) => length,
-        Err(FillError::NotPresent) => return Ok(None),
-        Err(FillError::TooLong) => 0,
-    };
-    let text = std::str::from_utf8(&buffer[..length]).unwrap_or("");
-    Ok(Some(Word::new(alloc, text)?))
-}
-
-// The words after the program's name.
-fn words_of(rt: &HostRuntime, alloc: Global) -> Result<Vec<Word>, Memory> {
-    let mut buffer = vec![in alloc; 0u8; LONGEST_WORD]?;
-    let mut words = Vec::new(alloc);
-    for place in 1..usize::MAX {
-        match word_at(rt, alloc, place, &mut buffer)? {
-            Some(word) => words.push(word)?,
-            None => break,
-        }
-    }
-    Ok(words)
-}
 
 fn main(rt: HostRuntime) -> ExitCode {
     let alloc = rt.alloc();
-    let status = match words_of(&rt, alloc) {
+    let status = match program_words(&rt, alloc) {
         Ok(words) => run(
             alloc,
             &words,

@@ -1,20 +1,10 @@
 // The three files that the words name.
-ghost use Rattle.std.specs.Prelude.{◌≡◌, IfSome, IfNone};
-ghost use Rattle.commands.specs.Commands.{FileNames as AnyNames, is_file_name};
+ghost use Rattle.std.specs.Prelude.{IfSome, IfNone};
+ghost use Rattle.commands.specs.Commands.{FileNames as AnyNames};
 ghost use Rattle.commands.specs.CommandViews.{names_of};
 ghost use Rattle.itffaults.specs.Faults.{AreNames};
 
-use commands::{FileNames, Word};
-
-// A name of a file is not empty and does not begin with a minus.
-fn is_file_name(name: &str) -> bool
-    ensures { result ≡ is_file_name name.now }
-{
-    match name.as_bytes() {
-        [first, ..] => *first != b'-',
-        [] => false,
-    }
-}
+use commands::{FileNames, Word, is_file_name};
 
 /// The model, the transfer and the file of faults that the words name; none where they have no
 /// right form.
