@@ -9,7 +9,7 @@
 itfcheck=$(built_program "$@")
 cd "$work"
 
-python3 - "$itfcheck" "$top/tools/draw.py" <<'PY'
+python3 - "$itfcheck" "$top/tools/draw.py" "$top/crates/itffaults/data" <<'PY'
 import json
 import math
 import os
@@ -347,6 +347,48 @@ def for_a_cad():
     hold(entities() == [], entities())
 
 
+# The faults of the delivery with one of each kind, as docs/faults.md has them.
+ALL = """ITFFAULTS 1
+AREAS 1
+AREA Cover Parcel Form
+MEETING 49 53 100.00 15.00
+ON 58 17 35.00 10.00
+OUTSIDE 63 5.00 5.00
+TWO 59 60 52.00 15.00 57.50 15.25
+EMPTY 17 LEFT 30.00 10.00 40.00 10.00
+CUT 45 72.00 12.00 75.00 12.00
+OPEN 38 LEFT 90.00 10.00 110.00 10.00
+UNJUDGED 62 92.00 15.00
+COUNTS 1 1 1 1 1 1 1 1
+SURFACE Cover Building Form PROVED 1 0
+END
+"""
+
+
+def all_faults():
+    """Of a file with all faults each one is drawn, and there is no picture."""
+    put("ALL", ALL)
+    files = [os.path.join(sys.argv[3], name) for name in ("faults.ili", "faults.itf")]
+    done = run("python3", sys.argv[2], *files, "ALL", "all")
+    hold(done.returncode == 0 and sorted(os.listdir("all")) == ["areas.geojson", "faults.dxf"], done)
+    with open("all/areas.geojson") as file:
+        features = json.load(file)["features"]
+    told = {}
+    for feature in features:
+        told.setdefault(feature["properties"]["answer"], []).append(feature)
+    kinds = [line.split(" ")[0] for line in ALL.splitlines()[3:11]]
+    hold([answer.split(" ")[0] for answer in told] == kinds, told)
+    sizes = {answer.split(" ")[0]: feature["properties"]["size"]
+             for answer, found in told.items() for feature in found
+             if feature["properties"]["part"] == "region"}
+    hold(sizes == {"TWO": 100.0, "EMPTY": 100.0}, sizes)
+    hold(told["MEETING 49 53"][-1]["geometry"]["coordinates"] == [100, 15], told["MEETING 49 53"])
+    put("ALL", ALL.replace("END\n", ""))
+    done = run("python3", sys.argv[2], *files, "ALL", "none")
+    hold(done.returncode == 1 and "not written to its end" in done.stderr, done)
+    print("a file with all faults")
+
+
 def refusals():
     """Nothing is drawn, and the reason is told."""
     good = transfer(line(1, SQUARE), "OBJE 1 150 150\n")
@@ -382,5 +424,6 @@ names()
 findings()
 faults_alone()
 for_a_cad()
+all_faults()
 refusals()
 PY

@@ -37,11 +37,12 @@ class Dxf:
         shown = "".join(letter if " " <= letter <= "~" else "?" for letter in words)
         self.put("TEXT", (8, layer), *located(place), (40, f"{high:.10g}"), (1, shown))
 
-    def fault(self, area, fault):
-        """What an answer names."""
+    def fault(self, area, fault, radius=None):
+        """What an answer names, with circles of that radius, or of one by its surroundings."""
         layer = f"ITFCHECK_{fault.kind}"
-        box = surroundings(area, fault)
-        radius = (box[2] - box[0]) / ROUND * 10.0 ** -area.scale
+        if radius is None:
+            box = surroundings(area, fault)
+            radius = (box[2] - box[0]) / ROUND * 10.0 ** -area.scale
         for cycle in fault.region.cycles if fault.region else ():
             places = [words_of(area.scale, *at) for at in fault.region.ring(cycle)]
             self.polyline(layer, places, closed=True)

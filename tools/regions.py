@@ -5,6 +5,7 @@ For pictures and words alone, and no check of anything. It is for areas whose cu
 but in common ends, as those are of which itfcheck answers TWO, EMPTY or CUT. Directions, sizes and
 places on arcs are floats.
 """
+import itertools
 import math
 from collections import defaultdict
 
@@ -74,17 +75,59 @@ def size_left(area, cycle):
     return double / 2 + caps
 
 
+def reach(area, index):
+    """The box of a straight, or that of the circle of a half arc."""
+    curve = start, end, third = area.curve(index)
+    if third is None:
+        return hull(start * 2, end * 2)
+    x, y, radius = circle(curve)
+    x, y = x + start[0], y + start[1]
+    return x - radius, y - radius, x + radius, y + radius
+
+
+class Index:
+    """The curves of an area by the squares of a grid that their boxes touch."""
+
+    FEW = 64            # a curve in more squares is looked at for every box
+
+    def __init__(self, area):
+        self.squares, self.wide, self.count = defaultdict(list), [], len(area.lines)
+        left, low, right, high = extent(area) or (0, 0, 0, 0)
+        self.size = 1 + math.isqrt((right - left) * (high - low) // (self.count + 1))
+        for index in range(self.count):
+            columns, rows = self.squares_of(reach(area, index))
+            if len(columns) * len(rows) > self.FEW:
+                self.wide.append(index)
+                continue
+            for square in itertools.product(columns, rows):
+                self.squares[square].append(index)
+
+    def squares_of(self, box):
+        left, low, right, high = (int(value // self.size) for value in box)
+        return range(left, right + 1), range(low, high + 1)
+
+    def near(self, box):
+        """The curves that may touch a box, in their order."""
+        columns, rows = self.squares_of(box)
+        if len(columns) * len(rows) > self.count:
+            return range(self.count)
+        found = (self.squares.get(square, ()) for square in itertools.product(columns, rows))
+        return sorted(set(self.wide).union(*found))
+
+
 def curves_near(area, box):
     """The curves whose box touches a box; of a half arc the box of its circle counts."""
     left, low, right, high = box
+    if area.index:
+        found = ((k, reach(area, k)) for k in area.index.near(box))
+        return [k for k, (x0, y0, x1, y1) in found
+                if x0 <= right and x1 >= left and y0 <= high and y1 >= low]
     found = [k for k, (x0, y0, x1, y1) in enumerate(zip(area.x0, area.y0, area.x1, area.y1))
              if (x0 <= right or x1 <= right) and (x0 >= left or x1 >= left)
              and (y0 <= high or y1 <= high) and (y0 >= low or y1 >= low) and k not in area.thirds]
     for k in area.thirds:
-        curve = area.curve(k)
-        x, y, radius = circle(curve)
-        x, y = x + curve[0][0], y + curve[0][1]
-        if left - radius <= x <= right + radius and low - radius <= y <= high + radius:
+        x0, y0, x1, y1 = reach(area, k)
+        if x0 <= right and x1 >= left and y0 <= high and y1 >= low:
             found.append(k)
     return found
 
@@ -287,7 +330,7 @@ def owner_of(area, region):
 
 def region_of_fault(area, fault):
     """The region that EMPTY or TWO names, or None."""
-    if fault.side:
+    if fault.kind == "EMPTY":
         index = fault.curves[0]
         return region_of(area, around(box_of(area.curve(index))), (index, fault.side == "LEFT"))
     if fault.kind == "TWO":
