@@ -1,4 +1,4 @@
-// The words of the command line of a program.
+// The words of the command line of the process.
 use crate::word::Word;
 use ports::Memory;
 use std::alloc::Global;
