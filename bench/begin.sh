@@ -10,3 +10,8 @@ trap 'rm -rf "$work"' EXIT
 built_program() {
     realpath "${1:-$top/crates/itfcheck/out/itfcheck}"
 }
+
+# The same of itffaults and the second argument
+built_faults() {
+    realpath "${2:-$top/crates/itffaults/out/itffaults}"
+}

@@ -1,13 +1,14 @@
 #!/usr/bin/env bash
-# Refuses each growth of the built program in turn: a library in front of the C library's `malloc`,
+# Refuses each growth of the built programs in turn: a library in front of the C library's `malloc`,
 # `calloc` and `realloc` refuses the N-th of their calls, or the N-th and all after it, for N from
 # 1 until a run asks for fewer. `realloc` counts where it asks for more. Each run has to end with
-# status 8, nothing written and no certificate file made or changed, or with what the run with no
-# refusal answers, byte for byte. It measures nothing, and stops at the first run that does neither.
+# status 8, nothing written and no file made or changed, or with what the run with no refusal
+# answers, byte for byte. It measures nothing, and stops at the first run that does neither.
 #
-# usage: bench/growths.sh [ITFCHECK]      (crates/itfcheck/out/itfcheck where none is given)
+# usage: bench/growths.sh [ITFCHECK ITFFAULTS]      (crates/NAME/out/NAME where none is given)
 . "$(dirname "${BASH_SOURCE[0]}")/begin.sh"
 itfcheck=$(built_program "$@")
+itffaults=$(built_faults "$@")
 cd "$work"
 
 cat > refuse.c <<'C'
@@ -55,7 +56,7 @@ void *realloc(void *old, size_t size) {
 C
 cc -O2 -shared -fPIC -o refuse.so refuse.c
 
-PYTHONPATH="$top/bench" python3 - "$itfcheck" <<'PY'
+PYTHONPATH="$top/bench" python3 - "$itfcheck" "$itffaults" <<'PY'
 import os, subprocess, sys
 from runs import held, put
 
@@ -177,8 +178,18 @@ HELD = houses(owned(RING, 1) + owned(HOLE, 1) + owned(OTHER, 2).replace("OBJE 2"
 PARTED = houses(owned(RING, 1) + owned(CIRCLE, 2).replace("OBJE 1", "OBJE 3") + owned(RING, 1)
                 .replace("OBJE 1", "OBJE 4").replace("200.000", "220.000").replace("100.000", "210.000"))
 WRONG = transfer(RING, "OBJE 1 77 o3 110.000 150.000\nOBJE 2 77 o1 x 1.000\n")
+# house numbers, which refer to the parcels in which they lie
+LINKED = MODEL.replace("END Cover.", "TABLE Number = Of: -> Parcel; At: Koord; NO IDENT END Number; END Cover.")
+LINKS = b"LINK Cover Number At Of Form\n"
 
-# the command, the model, the transfer, the certificates filed before, and the status
+
+def numbers(place):
+    """The ring with a hole, and a number of each parcel, the second one there."""
+    rows = "TABL Number\nOBJE 1 1 120.000 120.000\nOBJE 2 2 %s\nETAB\nETOP" % place
+    return HOLED.replace("ETOP", rows)
+
+
+# the command, the model, the transfer, the third file before, and the status
 CHECKS = [
     ("a square", "check", MODEL, SQUARE, None, 0),
     ("a square, filed before", "check", MODEL, SQUARE, b"as it was", 0),
@@ -200,6 +211,17 @@ CHECKS = [
     ("a ring with a hole", "canonical", MODEL, HOLED, b"as it was", 0),
     ("a ring with a hole, the code T", "canonical", MODEL.replace("CONTINUE = DEFAULT", "CONTINUE = 84"), HOLED, None, 1),
     ("a transfer that ends too soon", "canonical", MODEL, SQUARE[:150], b"as it was", 1),
+    ("numbers in their parcels", "points", LINKED, numbers("150.000 150.000"), LINKS, 0),
+    ("a number that is not", "points", LINKED, numbers("120.000 150.000"), LINKS, 1),
+    ("a line of links at fault", "points", LINKED, numbers("150.000 150.000"), b"LINK Cover Number\n", 1),
+    ("a ring with a hole", "faults", MODEL, HOLED, b"as it was", 0),
+    ("two lines that meet, and two objects in a region", "faults", MODEL,
+     CROSSED.replace("ETAB\nETOP", "OBJE 2 78 o2 130.000 150.000\nETAB\nETOP"), None, 1),
+    ("a ring with a hole and a line that ends inside", "faults", MODEL, CUT, b"as it was", 1),
+    ("a circle of two arcs", "faults", MODEL, ROUND, None, 0),
+    ("two arcs that begin in one direction", "faults", MODEL, transfer(FORKED, ""), None, 2),
+    ("a surface of two parts, and one with arcs", "faults", SURFACES, PARTED, None, 1),
+    ("wrong rows", "faults", MODEL, WRONG, b"as it was", 1),
     ("two lines that meet", "check", MODEL, CROSSED, None, 1),
     ("a ring with a hole and a line that ends inside", "check", MODEL, CUT, None, 1),
     ("wrong rows", "check", MODEL, WRONG, None, 1),
@@ -208,12 +230,15 @@ CHECKS = [
 ]
 
 
-# the words of a command that names no transfer
-WORDS = {"trial": ["trial", "2", "C"]}
+def words_of(command):
+    """The program and the words of a command: all name the files M, T and C but a trial."""
+    if command == "faults":
+        return [sys.argv[2], "M", "T", "C"]
+    return [sys.argv[1], *(["trial", "2", "C"] if command == "trial" else [command, "M", "T", "C"])]
 
 
 def run(command, before, number, on):
-    """Status, output, certificates, and whether a growth was refused."""
+    """Status, output, the third file, and whether a growth was refused."""
     put("C", before)
     put("refused", b"")
     settings = {"LD_PRELOAD": os.path.abspath("refuse.so"), "REFUSE": str(number)}
@@ -221,13 +246,13 @@ def run(command, before, number, on):
         settings["REFUSE_ON"] = "1"
     done = subprocess.run(
         ["sh", "-c", 'exec "$@" 9> refused', "sh", "env", *("%s=%s" % s for s in settings.items()),
-         sys.argv[1], *WORDS.get(command, [command, "M", "T", "C"])],
+         *words_of(command)],
         stdout=subprocess.PIPE, stderr=subprocess.STDOUT, check=False)
     return done.returncode, done.stdout, held("C"), held("refused") != b""
 
 
 def refuse_all(name, command, model, text, before, status):
-    """Refuses each growth; gives the certificates that the run with no refusal leaves."""
+    """Refuses each growth; gives the third file that the run with no refusal leaves."""
     put("M", model.encode())
     put("T", text.encode())
     *wanted, refused = run(command, before, 0, False)

@@ -1,17 +1,19 @@
 #!/usr/bin/env bash
-# Runs the built program on files that misbehave: folders, pipes and devices in place of files,
+# Runs the built programs on files that misbehave: folders, pipes and devices in place of files,
 # names that are too long, files without permission, files at and above their limits, transfers
 # that change while they are read, outputs and disks that take no more. Each answer is held against
 # the page of the report, and what is left against what was there before. It measures nothing, and
 # stops at the first answer that is another one. As root it also has files without permission and a
 # full disk.
 #
-# usage: bench/odd_files.sh [ITFCHECK]      (crates/itfcheck/out/itfcheck where none is given)
+# usage: bench/odd_files.sh [ITFCHECK ITFFAULTS]      (crates/NAME/out/NAME where none is given)
 . "$(dirname "${BASH_SOURCE[0]}")/begin.sh"
 itfcheck=$(built_program "$@")
+itffaults=$(built_faults "$@")
 cd "$work"
 chmod 755 .
 cp "$itfcheck" itfcheck
+cp "$itffaults" itffaults
 cp "$top/crates/itfcheck/data/parcels.ili" M
 cp "$top/crates/itfcheck/data/parcels.itf" T
 chmod 644 M T
@@ -82,13 +84,13 @@ def longer(name, content, size):
     os.truncate(name, size)
 
 
-def run(words, as_nobody=False, **how):
+def run(words, as_nobody=False, program="./itfcheck", **how):
     """The status and the output."""
     if as_nobody:
         how.update(user=65534, group=65534, extra_groups=[])
     how.setdefault("stdout", subprocess.PIPE)
     how.setdefault("stdin", subprocess.DEVNULL)
-    done = subprocess.run(["./itfcheck", *words], timeout=300, check=False, **how)
+    done = subprocess.run([program, *words], timeout=300, check=False, **how)
     return done.returncode, done.stdout
 
 
@@ -207,6 +209,41 @@ put("C", KEPT)
 closed = subprocess.run(["sh", "-c", "./itfcheck check M wrong C >&-"], check=False).returncode
 told("an output that is closed, rejected", (closed, None), (6, None), held("C"), KEPT)
 check("a device that is full for the certificates", ["check", "M", "T", "/dev/full"], 6, b"")
+
+# ---- the files of the other commands
+
+LINKED = PROVED.replace(b"VERDICT", b"LINKS 0 0\nVERDICT")
+check("a folder as the links", ["points", "M", "T", "folder"], 5, fault(b"links"))
+check("links that are not there", ["points", "M", "T", "none"], 5, fault(b"links"))
+check("/dev/null as the links", ["points", "M", "T", "/dev/null"], 0, LINKED)
+check("/dev/zero as the links", ["points", "M", "T", "/dev/zero"], 7, b"FAULT LIMIT links\n")
+put("long", b"\n" * PIECE)
+check("links of 64 KiB without a word", ["points", "M", "T", "long"], 0, LINKED)
+put("long", b" " * PIECE + b"\n")
+check("a byte more", ["points", "M", "T", "long"], 7, b"FAULT LIMIT links\n")
+put("long", b"LINK" * (PIECE // 4))
+check("links of one word of 64 KiB", ["points", "M", "T", "long"], 1, b"LINKLINE 1\nVERDICT REJECTED\n")
+put("long", None)
+
+FAULTS = b"AREA Cover Parcel Form 0 0 0 0 0 0 0 0\nVERDICT CLEAN 2\n"
+REWRITTEN = b"VERDICT ACCEPTED 2\n"
+for words, report, how in [
+    (["polygons", "M", "T"], PROVED, {}),
+    (["canonical", "M", "T"], REWRITTEN, {}),
+    (["M", "T"], FAULTS, {"program": "./itffaults"}),
+]:
+    what = words[0] if words[1:2] == ["M"] else "itffaults"
+    put("C", None)
+    told("%s: files as they should be" % what, run([*words, "C"], **how), (0, report))
+    text = held("C")
+    check("%s: a folder for its file" % what, [*words, "folder"], 6, b"", **how)
+    check("%s: its file in a folder that is not there" % what, [*words, "none/C"], 6, b"", **how)
+    check("%s: a device that is full for its file" % what, [*words, "/dev/full"], 6, b"", **how)
+    check("%s: a folder as the transfer" % what, [*words[:-1], "folder", "C"], 5, fault(b"transfer"), **how)
+    check("%s: the model as the transfer" % what, [*words[:-1], "M", "C"], 1, b"STRUCTURE 1 word\nVERDICT REJECTED\n", **how)
+    check("%s: no file" % what, words, 4, run([], **how)[1], **how)
+    with open("/dev/full", "wb") as full:
+        check("%s: an output that is full" % what, [*words, "C"], 6, None, after=text, stdout=full, **how)
 
 # ---- permission, and a disk that is full
 

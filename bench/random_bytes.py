@@ -1,22 +1,30 @@
 #!/usr/bin/env python3
-"""Changes bytes and lines of the files of small deliveries, and holds the built program's answers
-against a second reading, or against the answers that the command can have.
+"""Changes bytes and lines of the files of small deliveries, and holds the built programs' answers
+against a second reading, or against each other.
 
-usage: random_bytes.py ITFCHECK COUNT [SEED]
+usage: random_bytes.py ITFCHECK COUNT [SEED [ITFFAULTS]]
 
 Of a changed certificate `verify` has to name the rule and the place that second_checker.py names.
 Of a changed transfer `check` has to accept, reject or leave undecided, and it has to write the file
-of the certificates exactly where it accepts; `verify` has to accept that file then. A changed model
-has to be compiled or refused. It stops at the first difference, and leaves its files.
+of the certificates exactly where it accepts; `verify` has to accept that file then. `polygons` and
+`points` without links have to answer as `check` does; `canonical` has to give a text that is its own
+canonical text and has the same verdict, wherever `check` finds no line at fault. The faults that
+`check` names have to be among those of `itffaults`. Changed links have to be judged, or a line of
+them named. A changed model has to be compiled or refused. It stops at the first difference, and
+leaves its files.
 """
 import os
 import subprocess
+import sys
 
 import random_arcs
 import second_checker
-from random_drawings import NAMES, compare_many, fail
+from random_drawings import NAMES, compare_many, fail, metres
 
-MODEL = random_arcs.ARCS_TOO.encode()
+# the areas of random_arcs.py, and numbers that refer to their objects
+MODEL = random_arcs.ARCS_TOO.replace(
+    "END Parcel;", "END Parcel; TABLE Number = Of: -> Parcel; At: Koord; NO IDENT END Number;").encode()
+LINKS = b"LINK Land Number At Of Form\n"
 BYTES = b"0123456789 .-@\\_:;=()[]*>,/!ABCDEILMNOPRSTV\n\r\t\x00\xff"
 # a circle with a square in the tube of its first half arc, and a square with a square within
 ROUND = [[((510000, 500000), (500000, 510000), (490000, 500000)),
@@ -92,7 +100,60 @@ def judge_transfer(program, folder, text):
         fail(folder, "check", (status, report), "a verdict, and certificates where it accepts")
     if status == 0 and run(program, folder, "verify", "M", "T", "C") != (0, report):
         fail(folder, "verify of what check wrote", run(program, folder, "verify", "M", "T", "C"), report)
+    judge_as_check(program, folder, status, report)
+    if len(sys.argv) > 4:
+        judge_faults(sys.argv[4], folder, status, report)
     return "transfer, status %d" % status
+
+
+def judge_as_check(program, folder, status, report):
+    """The other commands on the transfer, of which `check` says this."""
+    put(folder, "P", b"as before")
+    got = run(program, folder, "polygons", "M", "T", "P")
+    if got != (status, report) or (held(folder, "P") == b"as before") != (status != 0):
+        fail(folder, "polygons", got, (status, report))
+    put(folder, "L", b"")
+    got = run(program, folder, "points", "M", "T", "L")
+    if (got[0], got[1].replace(b"LINKS 0 0\n", b"")) != (status, report):
+        fail(folder, "points", got, (status, report))
+    put(folder, "O", b"as before")
+    got = run(program, folder, "canonical", "M", "T", "O")
+    if report.startswith(b"STRUCTURE"):
+        if got != (status, report) or held(folder, "O") != b"as before":
+            fail(folder, "canonical", got, (status, report))
+        return
+    again = run(program, folder, "canonical", "M", "O", "O2")
+    same = run(program, folder, "check", "M", "O", "C2")
+    if (got[0], again[0], same[0]) != (0, 0, status) or held(folder, "O") != held(folder, "O2"):
+        fail(folder, "canonical", (got, again, same), "the same text again, and the same verdict")
+
+
+def judge_faults(program, folder, status, report):
+    """What tells all faults, where `check` says this."""
+    put(folder, "F", b"as before")
+    got = run(program, folder, "M", "T", "F")
+    told = held(folder, "F")
+    if report.startswith((b"STRUCTURE", b"FINDING")):
+        if got != (status, report) or told != b"as before":
+            fail(folder, "itffaults", got, (status, report))
+        return
+    if got[0] != status and (status, got[0]) != (2, 1):
+        fail(folder, "itffaults", got, (status, report))
+    for line in report.splitlines():
+        words = line.split(b" ")
+        if words[0] == b"AREA" and words[4] not in (b"PROVED", b"UNDECIDED"):
+            fault = b" ".join(words[4:])
+            if not any(one == fault or one.removeprefix(b"FIRST ").startswith(fault)
+                       for one in told.splitlines()):
+                fail(folder, "itffaults", told, fault)
+
+
+def judge_links(program, folder, text):
+    put(folder, "L", text)
+    status, report = run(program, folder, "points", "M", "T", "L")
+    if status not in (0, 1, 2) or (status == 1 and b"LINK" not in report):
+        fail(folder, "points", (status, report), "a verdict, by the links alone")
+    return "links, status %d" % status
 
 
 def judge_model(program, folder, text):
@@ -106,10 +167,14 @@ def judge_model(program, folder, text):
 def compare(program, folder, chance, tally):
     strokes, placed = chance.choice(DELIVERIES)
     text, curves, _, _ = random_arcs.transfer(strokes, placed)
+    numbers = "".join("OBJE %d %d %s\n" % (number, number, metres(at))
+                      for number, at in enumerate(placed, 1))
+    text = text.replace("ETOP\n", "TABL Number\n%sETAB\nETOP\n" % numbers)
     put(folder, "M", MODEL)
     put(folder, "T", text.encode())
     if run(program, folder, "check", "M", "T", "C")[0] != 0:
         fail(folder, "check", "not accepted", "a partition")
+    tally[judge_links(program, folder, changed(chance, LINKS))] += 1
     filed, areas = held(folder, "C"), [(NAMES, curves, placed)]
     tally[compare_certificate(program, folder, areas, changed(chance, filed))] += 1
     tally[judge_transfer(program, folder, changed(chance, text.encode()))] += 1
