@@ -2,13 +2,15 @@
 """Compares the faults that the built `itffaults` tells with a plain second reading of the rules.
 
 usage: random_faults.py ITFFAULTS COUNT [SEED]
+       random_faults.py ITFFAULTS COUNT SEED arcs     drawings of random_arcs.py
        random_faults.py ITFFAULTS small [PART OF]     all sets of up to three straights over three
                                                       times three places, or one part of so many
 
 The drawings are those of random_drawings.py with more slips at once: lines that cross others, end on
 them or lie on them, regions without a point, with two or more, points outside and on lines, and
-lines that end within a region. Each line of the file has to be the one of plain_faults.py, but that
-of two lines that meet in more than one place any of these may be named. It stops at the first
+lines that end within a region. Each line of the file has to be the one of plain_faults.py, or with
+arcs what plain_arcs.py gives: of two lines that meet in more than one place any of these may be
+named, and of two with an arc that share no end the start of the first. It stops at the first
 difference, and leaves its files.
 """
 import collections
@@ -18,7 +20,9 @@ import subprocess
 import sys
 import tempfile
 
+import plain_arcs
 import plain_faults
+import random_arcs
 import random_drawings
 from random_drawings import STEP, compare_many, fail, metres
 
@@ -66,18 +70,73 @@ def points(chance, size, straights, slips):
     return chosen
 
 
-def told(straights, placed, curves, objects):
+class ArcFaults(plain_faults.Faults):
+    """All faults of a drawing with half arcs that nothing is left out of."""
+
+    def __init__(self, drawn, points):
+        self.drawn, self.points = drawn, points
+        self.shapes = [plain_arcs.curve_of(places) for places in drawn]
+        self.meetings = sorted(plain_arcs.bad_pairs(drawn))
+        self.on = [hit for hit in map(self.first_on, range(len(points))) if hit]
+        self.answer = plain_arcs.decide(drawn, points)
+        self.is_settled = not self.meetings and plain_arcs.settled(drawn) is not None
+        if self.is_settled:
+            self.cells, self.open_faces = plain_arcs.Cells(drawn), set()
+            self.outer = self.cells.union.root(self.cells.outer)
+            on = {point for point, _ in self.on}
+            self.faces = {point: self.cells.face(at) for point, at in enumerate(points)
+                          if point not in on}
+            self.sides = {curve: self.cells.faces_beside(curve) for curve in range(len(drawn))}
+
+    def first_on(self, point):
+        at = self.points[point]
+        return next(((point, curve) for curve, shape in enumerate(self.shapes) if shape.holds(at)), None)
+
+    def places(self, first, second):
+        """Where two curves meet that meet badly, as the file may say."""
+        one, other = self.drawn[first], self.drawn[second]
+        if len(one) == len(other) == 2:
+            return plain_faults.meeting_place(one, other)
+        ends = {end for end in one[:2] if self.shapes[second].holds(end)}
+        return ends | {end for end in other[:2] if self.shapes[first].holds(end)} or {one[0]}
+
+
+class StraightFaults(plain_faults.Faults):
+    """All faults of a drawing of straights."""
+
+    is_settled = True
+
+    def places(self, first, second):
+        return plain_faults.meeting_place(self.straights[first], self.straights[second])
+
+
+def told(faults, drawn, placed, curves, objects):
     """The lines of the file for the area, each as the set of those that are right."""
-    faults = plain_faults.Faults(straights, placed)
-
-    def ends(curve):
-        return " ".join(metres(end) for end in straights[curve])
-
     for first, second in faults.meetings:
-        places = plain_faults.meeting_place(straights[first], straights[second])
-        yield {"MEETING %d %d %s" % (curves[first], curves[second], metres(at)) for at in places}
+        yield {"MEETING %d %d %s" % (curves[first], curves[second], metres(at))
+               for at in faults.places(first, second)}
     for point, curve in faults.on:
         yield {"ON %d %d %s" % (objects[point], curves[curve], metres(placed[point]))}
+    if faults.is_settled:
+        yield from told_faces(faults, drawn, placed, curves, objects)
+    else:
+        yield {"UNSETTLED"}
+        yield answers(faults.answer, curves, objects)
+
+
+def answers(answer, curves, objects):
+    """The lines of what a check answers that are right."""
+    kind, *names = answer
+    if kind == "UNDECIDED":
+        return {"UNDECIDED %d %d" % (curves[names[0]], curves[names[1]])}
+    return {"FIRST " + word for word in random_drawings.wanted(answer, curves, objects)}
+
+
+def told_faces(faults, drawn, placed, curves, objects):
+    """Those of what is at fault in faces, and of open ones."""
+    def ends(curve):
+        return " ".join(metres(end) for end in drawn[curve][:2])
+
     for point in faults.outside():
         yield {"OUTSIDE %d %s" % (objects[point], metres(placed[point]))}
     for first, second in faults.two():
@@ -95,23 +154,40 @@ def told(straights, placed, curves, objects):
         yield {"UNJUDGED %d %s" % (objects[point], metres(placed[point]))}
 
 
-def whole_text(straights, placed, curves, objects):
-    lines = list(told(straights, placed, curves, objects))
+def whole_text(faults, drawn, placed, curves, objects):
+    """The lines of the file, each as the set of those that are right, and the status."""
+    lines = list(told(faults, drawn, placed, curves, objects))
     words = collections.Counter(next(iter(line)).split()[0] for line in lines)
-    counts = "COUNTS " + " ".join(str(words[word]) for word in COUNTS)
+    counts = [words[word] for word in COUNTS]
     head = ["ITFFAULTS 1", "AREAS 1", "AREA Land Parcel Form"]
-    return [{line} for line in head] + lines + [{counts}, {"END"}], sum(words.values())
+    end = ["COUNTS " + " ".join(map(str, counts)), "END"]
+    status = 1 if sum(counts) or words["OUTER"] else 0 if faults.is_settled else 2
+    return [{line} for line in head] + lines + [{line} for line in end], status
 
 
 def compare_one(program, folder, straights, placed, tally):
     text, curves, objects = random_drawings.transfer(straights, placed)
+    faults = StraightFaults(straights, placed)
+    compare_file(program, folder, text, whole_text(faults, straights, placed, curves, objects), tally)
+
+
+def compare_arcs(program, folder, chance, tally):
+    strokes, placed = random_arcs.drawing(chance)
+    text, drawn, curves, objects = random_arcs.transfer(strokes, placed)
+    kind = ArcFaults if any(len(places) == 3 for places in drawn) else StraightFaults
+    faults = kind(drawn, placed)
+    compare_file(program, folder, text, whole_text(faults, drawn, placed, curves, objects), tally)
+
+
+def compare_file(program, folder, text, wanted, tally):
+    """Of one transfer."""
+    want, status = wanted
     with open(folder + "/T", "w") as file:
         file.write(text)
-    want, faults = whole_text(straights, placed, curves, objects)
     done = subprocess.run([os.path.abspath(program), "M", "T", "F"], cwd=folder,
                           stdout=subprocess.DEVNULL, check=False)
-    if done.returncode != (1 if faults else 0):
-        fail(folder, "the status", done.returncode, 1 if faults else 0)
+    if done.returncode != status:
+        fail(folder, "the status", done.returncode, status)
     with open(folder + "/F") as file:
         got = file.read().splitlines()
     for number in range(max(len(got), len(want))):
@@ -120,7 +196,7 @@ def compare_one(program, folder, straights, placed, tally):
             fail(folder, "line %d" % (number + 1), line, want[number : number + 1])
     for line in got[3:-2]:
         tally[line.split()[0]] += 1
-    tally["drawings without a fault"] += not faults
+    tally["drawings with status %d" % status] += 1
 
 
 def compare(program, folder, chance, tally):
@@ -147,6 +223,8 @@ def main():
     if sys.argv[2] == "small":
         small(sys.argv[1], int(sys.argv[3]) if len(sys.argv) > 3 else 0,
               int(sys.argv[4]) if len(sys.argv) > 4 else 1)
+    elif sys.argv[4:] == ["arcs"]:
+        compare_many(compare_arcs, random_arcs.ARCS_TOO)
     else:
         compare_many(compare, random_drawings.MODEL)
 
