@@ -10,12 +10,16 @@ use Rattle.faces.specs.declared.partners.Partners.{Partners}
 use Rattle.faces.specs.Joined.{AreKnown, AtBorder}
 use Rattle.faces.specs.Rows.{ArePartners, row_of}
 
+-- The list holds exactly the half-edges at the border.
+abbrev pub IsBorder : List Gap → List ℕ → Type 0
+IsBorder cells border = (h : ℕ) → Has h border ↔ AtBorder cells h
+
 -- Of n half-edges, among which are those of the cells: each has the row of those across a cell from
--- it, and the list holds exactly those at the border.
+-- it, and the list holds those at the border.
 pub record AreJoins (n : ℕ) (cells : List Gap) (j : Joins) : Type 0 where
   pub known : AreKnown n cells
   pub rows : ArePartners n cells j.partners
-  pub border : (h : ℕ) → Has h j.border.items ↔ AtBorder cells h
+  pub border : IsBorder cells j.border.items
 
 -- ---- cells that are joined alike
 -- A cell between edge e and that of the half-edge g.

@@ -37,8 +37,9 @@ pub fn label(alloc: Global, mesh: Mesh, cells: &[Cell]) -> Result<Labelled, Memo
 
 /// The mesh with its faces as `label` gives them, and the joins of its half-edges, which
 /// `links_by_joins` takes. The cells are freed before the faces are searched for. The only error is
-/// out of memory, and the mesh is then gone. The joins take 4 bytes a half-edge, 8 a cell and 4 a
-/// half-edge at the border; the search takes 8 bytes a half-edge for a while.
+/// out of memory, and mesh and cells are then gone. It takes the time of `label`; the joins take 4
+/// bytes a half-edge, 8 a cell and 4 a half-edge at the border, and the search 8 bytes a half-edge
+/// for a while.
 pub fn label_with_joins(alloc: Global, mesh: Mesh, cells: Vec<Cell>) -> Result<JoinedMesh, Memory>
     requires known { AreKnown (size mesh) (gaps_of cells.items) }
     ensures unchanged { IfOk result (λ l. l.labelled.mesh

@@ -26,8 +26,8 @@ use std::alloc::Global;
 /// half-edge or across a cell between two edges; where several begin such a way, the next one
 /// counts before the previous one, and that before those across cells, by number. The only error is
 /// out of memory. It takes time linear in the half-edges and the cells, and p log p for p roots,
-/// and for a while 12 bytes a half-edge, 8 a cell and 4 a root; the notes take 16 bytes a
-/// half-edge.
+/// and for a while 12 bytes a half-edge, 8 a cell, 4 a half-edge at the border and 4 a root; the
+/// notes take 16 bytes a half-edge.
 pub fn links(
     alloc: Global,
     labelled: &Labelled,
@@ -44,8 +44,9 @@ pub fn links(
     links_by_joins(alloc, labelled, &joins, roots)
 }
 
-/// The notes as `links` gives them, by the joins of the cells, as `label_with_joins` answers them.
-/// It takes 8 bytes a half-edge and 4 a root for a while, and the notes 16 bytes a half-edge.
+/// The notes as `links` gives them, by the joins of the cells, which `label_with_joins` answers.
+/// The only error is out of memory. It takes the time of `links` less that of the joins, and for a
+/// while 8 bytes a half-edge and 4 a root; the notes take 16 bytes a half-edge.
 pub fn links_by_joins(
     alloc: Global,
     labelled: &Labelled,
