@@ -12,7 +12,6 @@ use Rattle.plane.specs.Faces.DrawnRuns.{IsRunOf, drawn}
 use Rattle.plane.specs.Faces.Halves.{number, over}
 use Rattle.plane.specs.Faces.PlacedPoints.{IsLocated}
 use Rattle.plane.specs.Rule.Plans.{Plan, object, plan}
-use Rattle.plane.specs.Runs.Gaps.{closed_gaps}
 use Rattle.plane.specs.Runs.Moves.{Move}
 use Rattle.plane.specs.Runs.Steps.{Step}
 use Rattle.straight_predicates.specs.EdgeLists.{edge_of}
@@ -61,7 +60,7 @@ pub record IsFacedDrawing (d : Plan) (f : FacedDrawing) : Type 0 where
 -- The mesh with its faces is that of a run of the settled drawing.
 pub record IsLabelledRun (c : SettledDrawing) (vs : List Move) (l : Labelled) : Type 0 where
   pub faces_are : HasRunFaces (plan c.drawing.now) c.level vs l.mesh l.count
-  pub outline : IsRunMesh (plan c.drawing.now) c.level vs (closed_gaps vs) l.mesh
+  pub outline : IsRunMesh (plan c.drawing.now) c.level vs l.mesh
   pub vertices : l.mesh.vertices ≡ length vs
 
 -- The edge under the cell has its half-edge among so many.

@@ -1,18 +1,12 @@
 -- The half-edges at the border get face 0.
-use Rattle.std.proofs.Common.{◌≡◌, ℕ, ◌+◌, ◌<◌, ◌≤◌, inl, inr, Option, Some, None, List, [], ◌∷◌, length, get_or, refl, arith, ap, sym, ◌∙◌, subst, vec_capacity}
+use Rattle.std.proofs.Common.{◌≡◌, ℕ, ◌<◌, Option, Some, None, List, length, get_or, refl, arith, ap, sym, ◌∙◌, vec_capacity}
 use Rattle.plane.specs.Runs.Gaps.{Gap}
 use Rattle.half_edges.specs.HalfEdges.{HalfEdges, size}
 use Rattle.half_edges.specs.Meshes.{IsMesh}
-use Rattle.line_sweep.specs.declared.kinds.Cell.{Cell}
-use Rattle.line_sweep.specs.Kinds.{gap_of, gaps_of}
-use Rattle.line_sweep.proofs.CellGaps.{has_gap, no_cell}
 use Rattle.faces.specs.declared.searching.Search.{Search}
-use Rattle.faces.specs.Joined.{AreKnown, AtBorder, Joined, highest, lowest, outside, same}
-use Rattle.half_edges.specs.HalfEdges.{over_of, under_of}
+use Rattle.faces.specs.Joined.{AreKnown, AtBorder, Joined, outside, same}
 use Rattle.faces.specs.Searching.{HasSearched, IsKept, IsReached, IsSet, IsWaiting, unset}
-use Rattle.faces.proofs.PairCounts.{by_lt}
 use Rattle.faces.proofs.PairRows.{place_of}
-use Rattle.faces.proofs.Passes.{still_faced}
 use Rattle.faces.proofs.Passing.{has_reached, reached_face, reached_kept, reached_waiting}
 use Rattle.faces.proofs.Searches.{border_within, joined_back, room_left}
 
@@ -47,35 +41,12 @@ module _ (mesh : HalfEdges) (cells : List Gap) (is : IsMesh mesh) (known : AreKn
     pub side_face : get_or new.faces.items h 0 ≡ 0
     side_face = reached_face mesh cells is known h 0 (border_within mesh cells is known h b) (omega arith) s new searched joins out r p c had
 
--- ---- which half-edge of a cell is at the border
-some_is : (o : Option ℕ) (d e : ℕ) → o ≡ Some d → o ≡ Some e → d ≡ e
+-- ---- an edge of a cell is one edge, or none
+pub some_is : (o : Option ℕ) (d e : ℕ) → o ≡ Some d → o ≡ Some e → d ≡ e
 some_is o d e p q = cc
 
-none_some : {P : Type 0} (o : Option ℕ) (e : ℕ) → o ≡ None → o ≡ Some e → P
+pub none_some : {P : Type 0} (o : Option ℕ) (e : ℕ) → o ≡ None → o ≡ Some e → P
 none_some o e p q = absurd (clash o e p q)
   where
     clash : (o : Option ℕ) (e : ℕ) → o ≡ None → o ≡ Some e → ⊥
     clash o e p q = cc
-
-pub lowest_is : (c : Gap) (e h : ℕ) → c.lower ≡ None → c.upper ≡ Some e → AtBorder (c ∷ []) h → h ≡ under_of e
-lowest_is c e h l u (lowest d (g, inl q, x, y) w) = w ∙ ap under_of (some_is c.upper d e (ap (λ (z : Gap). z.upper) (sym q) ∙ y) u)
-lowest_is c e h l u (lowest d (g, inr q, x, y) w) = absurd q
-lowest_is c e h l u (highest d (g, inl q, x, y) w) = none_some c.lower d l (ap (λ (z : Gap). z.lower) (sym q) ∙ x)
-lowest_is c e h l u (highest d (g, inr q, x, y) w) = absurd q
-
-pub highest_is : (c : Gap) (e h : ℕ) → c.lower ≡ Some e → c.upper ≡ None → AtBorder (c ∷ []) h → h ≡ over_of e
-highest_is c e h l u (highest d (g, inl q, x, y) w) = w ∙ ap over_of (some_is c.lower d e (ap (λ (z : Gap). z.lower) (sym q) ∙ x) l)
-highest_is c e h l u (highest d (g, inr q, x, y) w) = absurd q
-highest_is c e h l u (lowest d (g, inl q, x, y) w) = none_some c.upper d u (ap (λ (z : Gap). z.upper) (sym q) ∙ y)
-highest_is c e h l u (lowest d (g, inr q, x, y) w) = absurd q
-
--- a half-edge at the border is that of some cell
-pub border_cell : (cells : List Cell) (h : ℕ) → AtBorder (gaps_of cells) h → (i : ℕ) × (i < length cells) × AtBorder (gap_of (get_or cells i no_cell) ∷ []) h
-border_cell cells h (lowest e (g, k, l, u) q) = let (i, m, w) = has_gap g cells k in (i, m, lowest e (gap_of (get_or cells i no_cell), inl refl, ap (λ (z : Gap). z.lower) w ∙ l, ap (λ (z : Gap). z.upper) w ∙ u) q)
-border_cell cells h (highest e (g, k, l, u) q) = let (i, m, w) = has_gap g cells k in (i, m, highest e (gap_of (get_or cells i no_cell), inl refl, ap (λ (z : Gap). z.lower) w ∙ l, ap (λ (z : Gap). z.upper) w ∙ u) q)
-
-pub border_next : (cells : List Cell) (k : ℕ) (old new : List ℕ) → IsKept old new → ((i h : ℕ) → i < k → AtBorder (gap_of (get_or cells i no_cell) ∷ []) h → get_or old h 0 ≡ 0)
-    → ((h : ℕ) → AtBorder (gap_of (get_or cells k no_cell) ∷ []) h → get_or new h 0 ≡ 0) → (i h : ℕ) → i < k + 1 → AtBorder (gap_of (get_or cells i no_cell) ∷ []) h → get_or new h 0 ≡ 0
-border_next cells k old new kept all here i h l b = by_lt i k
-    (λ (m : i < k). still_faced 0 old new h kept (omega arith) (all i h m b))
-    (λ (m : k ≤ i). let e : i ≡ k = omega (arith, l, m) in here h (subst (λ (j : ℕ). AtBorder (gap_of (get_or cells j no_cell) ∷ []) h) e b))

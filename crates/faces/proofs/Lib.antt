@@ -1,6 +1,9 @@
+pub mod BorderHalves
 pub mod Borders
 pub mod CellPairs
 pub mod CellRows
+pub mod FlatLists
+pub mod JoinedCells
 pub mod PairCounts
 pub mod PairRows
 pub mod LeastRanks
@@ -12,5 +15,6 @@ pub mod PlaneLaws
 pub mod RankPasses
 pub mod Rankings
 pub mod RootRanks
+pub mod SameJoins
 pub mod Searches
 pub mod SortedRoots

@@ -1,5 +1,5 @@
 -- Half-edges in another order are the same ones.
-use Rattle.std.proofs.Common.{◌≡◌, ℕ, suc, ◌<◌, ◌↔◌, inl, inr, List, [], ◌∷◌, arith, sym, subst, IsPermutation}
+use Rattle.std.proofs.Common.{ℕ, suc, ◌<◌, ◌↔◌, inl, inr, List, [], ◌∷◌, arith, sym, subst, IsPermutation}
 use Rattle.std.specs.List.{Contains}
 use Rattle.std.specs.Prelude.{IfOk, Result, Ok, Err}
 use Rattle.std.proofs.lemmas.List.Sorted.{Contains-permutation, IsPermutation-sym}

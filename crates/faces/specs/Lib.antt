@@ -1,5 +1,6 @@
 pub mod Counts
 pub mod Joined
+pub mod Joins
 pub mod Labels
 pub mod Ranking
 pub mod Rows

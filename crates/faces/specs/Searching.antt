@@ -6,10 +6,9 @@ use Rattle.plane.specs.Runs.Gaps.{Gap}
 use Rattle.half_edges.specs.HalfEdges.{HalfEdges, size, next_of, prev_of}
 use Rattle.faces.specs.declared.searching.Search.{Search}
 use Rattle.half_edges.specs.Meshes.{IsMesh}
-use Rattle.line_sweep.specs.Kinds.{gaps_of}
 use Rattle.faces.specs.declared.graph.Graph.{Graph}
-use Rattle.faces.specs.Joined.{Across, AreKnown, AtBorder, Joined}
-use Rattle.faces.specs.Rows.{ArePartners}
+use Rattle.faces.specs.Joined.{Across, AtBorder, Joined}
+use Rattle.faces.specs.Joins.{AreJoins, cells_of}
 use Rattle.faces.specs.Labels.{IsNumbered, greatest}
 
 -- The entry of a half-edge that has no face yet.
@@ -76,11 +75,10 @@ pub record IsSame (h : ℕ) (old new : Search) : Type 0 where
 abbrev pub IsReached : ℕ → ℕ → Search → Search → Type 0
 IsReached h face old new = IsPut h face old new ⊎ IsSame h old new
 
--- The graph is that of a mesh and its cells.
+-- The graph is that of a mesh and the joins of its half-edges.
 pub record IsGraph (g : Graph) : Type 0 where
   pub mesh_is : IsMesh g.mesh.now
-  pub known : AreKnown (size g.mesh.now) (gaps_of g.cells.now)
-  pub rows : ArePartners (size g.mesh.now) (gaps_of g.cells.now) g.partners
+  pub joins : AreJoins (size g.mesh.now) (cells_of g.joins.now) g.joins.now
 
 -- The half-edge h, next in the queue, is being passed.
 pub record IsPassing (mesh : HalfEdges) (cells : List Gap) (h face : ℕ) (s : Search) : Type 0 where

@@ -1,39 +1,31 @@
 // What a search goes over.
-ghost use Rattle.std.specs.Prelude.{◌≡◌, ◌^◌, ◌<◌, IfOk, length};
+ghost use Rattle.std.specs.Prelude.{◌≡◌, ◌^◌, ◌<◌, List, length};
 ghost use Rattle.half_edges.specs.HalfEdges.{size};
 ghost use Rattle.half_edges.specs.Meshes.{IsMesh};
-ghost use Rattle.line_sweep.specs.Kinds.{gaps_of};
-ghost use Rattle.faces.specs.Joined.{AreKnown};
+ghost use Rattle.plane.specs.Runs.Gaps.{Gap};
+ghost use Rattle.faces.specs.Joins.{AreJoins};
 ghost use Rattle.faces.specs.Searching.{IsGraph};
 
-use super::partners::Partners;
+use super::joins::Joins;
 use half_edges::Mesh;
-use line_sweep::Cell;
-use ports::Memory;
-use std::alloc::Global;
 
-/// The half-edges of a mesh, and the cells that join them.
-#[derive(Drop)]
+/// The half-edges of a mesh, and what joins them.
+#[derive(Clone, Copy)]
 pub struct Graph<'a> {
     pub mesh: &'a Mesh,
-    pub cells: &'a [Cell],
-    pub partners: Partners,
+    pub joins: &'a Joins,
 }
 
 impl<'a> Graph<'a> {
-    /// The graph of a mesh and cells. The only error is out of memory.
-    pub fn new(alloc: Global, mesh: &'a Mesh, cells: &'a [Cell]) -> Result<Graph<'a>, Memory>
-        requires known { AreKnown (size mesh.now) (gaps_of cells.now) }
-        ensures mesh { IfOk result (λ g. g.mesh.now ≡ mesh.now) }
-        ensures cells { IfOk result (λ g. g.cells.now ≡ cells.now) }
-        ensures graph { IfOk result IsGraph }
+    /// The graph of a mesh and the joins of some cells.
+    pub fn new(mesh: &'a Mesh, joins: &'a Joins) -> Graph<'a>
+        requires joins { (cells : List Gap) × AreJoins (size mesh.now) cells joins.now }
+        ensures mesh { result.mesh.now ≡ mesh.now }
+        ensures joins { result.joins.now ≡ joins.now }
+        ensures graph { IsGraph result }
     {
-        let partners = Partners::new(alloc, halves_of(mesh), cells)?;
-        Ok(Graph {
-            mesh,
-            cells,
-            partners,
-        })
+        let _ = halves_of(mesh);
+        Graph { mesh, joins }
     }
 }
 

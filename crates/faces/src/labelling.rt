@@ -1,15 +1,17 @@
 // Faces by number.
-ghost use Rattle.std.specs.Prelude.{◌≡◌, ℕ, ◌+◌, ◌^◌, ◌<◌, [], ◌∷◌, IfOk, length, slice_index, suc};
-ghost use Rattle.plane.specs.Lists.{Has};
+ghost use Rattle.std.specs.Prelude.{◌≡◌, ℕ, ◌+◌, ◌^◌, ◌<◌, List, IfOk, length, slice_index, suc};
+ghost use Rattle.plane.specs.Runs.Gaps.{Gap};
 ghost use Rattle.half_edges.specs.HalfEdges.{size};
 ghost use Rattle.half_edges.specs.Meshes.{AgreesAlong, with_faces};
-ghost use Rattle.line_sweep.specs.Kinds.{gap_of, gaps_of};
+ghost use Rattle.line_sweep.specs.Kinds.{gaps_of};
 ghost use Rattle.faces.specs.Joined.{AreKnown, AtBorder};
+ghost use Rattle.faces.specs.Joins.{AreJoins, cells_of};
 ghost use Rattle.faces.specs.Labels.{AreFaces, greatest};
-ghost use Rattle.faces.specs.Searching.{HasSearched, IsGraph, IsKept, IsNumberedTo, IsWaiting};
+ghost use Rattle.faces.specs.Searching.{HasSearched, IsGraph, IsNumberedTo, IsWaiting};
 
 use super::graph::{Graph, halves_of};
-use super::labelled::Labelled;
+use super::joins::Joins;
+use super::labelled::{JoinedMesh, Labelled};
 use super::searching::{Search, UNSET};
 use super::spreading::spread;
 use half_edges::{FaceId, HalfEdgeId, Mesh};
@@ -21,14 +23,46 @@ use std::alloc::Global;
 /// round a face, by cells of the sweep and over the border, and face 0 exactly where they are
 /// joined with one that was beside the border. The other faces are numbered in the order of their
 /// least half-edge. The only error is out of memory, and the mesh is then gone. It takes time
-/// linear in the half-edges and the cells, and for a while 12 bytes a half-edge and 8 a cell.
+/// linear in the half-edges and the cells, and for a while 12 bytes a half-edge, 8 a cell and 4 a
+/// half-edge at the border.
 pub fn label(alloc: Global, mesh: Mesh, cells: &[Cell]) -> Result<Labelled, Memory>
     requires known { AreKnown (size mesh) (gaps_of cells.now) }
     ensures unchanged { IfOk result (λ l. l.mesh ≡ with_faces mesh l.mesh.face) }
     ensures faces { IfOk result (λ l. AreFaces mesh (gaps_of cells.now) l.mesh.face) }
     ensures count { IfOk result (λ l. l.count ≡ suc (greatest l.mesh.face)) }
 {
-    let found = find_faces(alloc, &mesh, cells)?;
+    let joins = Joins::new(alloc, halves_of(&mesh), cells)?;
+    label_by(alloc, mesh, &joins)
+}
+
+/// The mesh with its faces as `label` gives them, and the joins of its half-edges, which
+/// `links_by_joins` takes. The cells are freed before the faces are searched for. The only error is
+/// out of memory, and mesh and cells are then gone. It takes the time of `label`; the joins take 4
+/// bytes a half-edge, 8 a cell and 4 a half-edge at the border, and the search 8 bytes a half-edge
+/// for a while.
+pub fn label_with_joins(alloc: Global, mesh: Mesh, cells: Vec<Cell>) -> Result<JoinedMesh, Memory>
+    requires known { AreKnown (size mesh) (gaps_of cells.items) }
+    ensures unchanged { IfOk result (λ l. l.labelled.mesh
+        ≡ with_faces mesh l.labelled.mesh.face) }
+    ensures faces { IfOk result (λ l. AreFaces mesh (gaps_of cells.items)
+        l.labelled.mesh.face) }
+    ensures count { IfOk result (λ l. l.labelled.count ≡ suc (greatest l.labelled.mesh.face)) }
+    ensures joins { IfOk result (λ l. AreJoins (size mesh) (gaps_of cells.items) l.joins) }
+{
+    let joins = Joins::freeing(alloc, halves_of(&mesh), cells)?;
+    let labelled = label_by(alloc, mesh, &joins)?;
+    Ok(JoinedMesh { labelled, joins })
+}
+
+/// The mesh with its faces, by the joins of some cells.
+fn label_by(alloc: Global, mesh: Mesh, joins: &Joins) -> Result<Labelled, Memory>
+    requires joins { (cells : List Gap) × AreJoins (size mesh) cells joins.now }
+    ensures unchanged { IfOk result (λ l. l.mesh ≡ with_faces mesh l.mesh.face) }
+    ensures faces { IfOk result (λ l. (cells : List Gap)
+        → AreJoins (size mesh) cells joins.now → AreFaces mesh cells l.mesh.face) }
+    ensures count { IfOk result (λ l. l.count ≡ suc (greatest l.mesh.face)) }
+{
+    let found = find_faces(alloc, &mesh, joins)?;
     let mut mesh = mesh;
     mesh.set_faces(&found.faces);
     Ok(Labelled {
@@ -44,14 +78,15 @@ struct Found {
     count: u32,
 }
 
-fn find_faces(alloc: Global, mesh: &Mesh, cells: &[Cell]) -> Result<Found, Memory>
-    requires known { AreKnown (size mesh.now) (gaps_of cells.now) }
-    ensures faces { IfOk result (λ f. AreFaces mesh.now (gaps_of cells.now) f.faces.items) }
+fn find_faces(alloc: Global, mesh: &Mesh, joins: &Joins) -> Result<Found, Memory>
+    requires joins { (cells : List Gap) × AreJoins (size mesh.now) cells joins.now }
+    ensures faces { IfOk result (λ f. (cells : List Gap)
+        → AreJoins (size mesh.now) cells joins.now → AreFaces mesh.now cells f.faces.items) }
     ensures count { IfOk result (λ f. f.count ≡ suc (greatest f.faces.items)) }
     ensures agree { IfOk result (λ f. AgreesAlong mesh.now.next f.faces.items) }
 {
     let halves = halves_of(mesh);
-    let graph = Graph::new(alloc, mesh, cells)?;
+    let graph = Graph::new(mesh, joins);
     let mut search = Search::new(alloc, halves)?;
     reach_border(&graph, &mut search);
     spread(&graph, &mut search, FaceId(0));
@@ -65,38 +100,17 @@ fn find_faces(alloc: Global, mesh: &Mesh, cells: &[Cell]) -> Result<Found, Memor
 /// Gives face 0 to the half-edges that were beside the border.
 fn reach_border(graph: &Graph, search: &mut Search)
     requires graph { IsGraph graph.now }
-    requires searched { HasSearched graph.now.mesh.now (gaps_of graph.now.cells.now) search.old }
+    requires searched { HasSearched graph.now.mesh.now (cells_of graph.now.joins.now) search.old }
     requires begun { search.old.passed ≡ 0 }
     requires waiting { IsWaiting search.old 0 }
-    ensures searched { HasSearched graph.now.mesh.now (gaps_of graph.now.cells.now) search.new }
+    ensures searched { HasSearched graph.now.mesh.now (cells_of graph.now.joins.now) search.new }
     ensures passed { search.new.passed ≡ 0 }
     ensures waiting { IsWaiting search.new 0 }
-    ensures border { (h : ℕ) → AtBorder (gaps_of graph.now.cells.now) h
+    ensures border { (h : ℕ) → AtBorder (cells_of graph.now.joins.now) h
         → slice_index search.new.faces.items h ≡ 0 }
 {
-    for cell in graph.cells {
-        reach_side(graph, search, cell);
-    }
-}
-
-/// Gives face 0 to the half-edge of a cell at the border.
-fn reach_side(graph: &Graph, search: &mut Search, cell: &Cell)
-    requires graph { IsGraph graph.now }
-    requires cell { Has (gap_of cell.now) (gaps_of graph.now.cells.now) }
-    requires searched { HasSearched graph.now.mesh.now (gaps_of graph.now.cells.now) search.old }
-    requires begun { search.old.passed ≡ 0 }
-    requires waiting { IsWaiting search.old 0 }
-    ensures searched { HasSearched graph.now.mesh.now (gaps_of graph.now.cells.now) search.new }
-    ensures passed { search.new.passed ≡ 0 }
-    ensures waiting { IsWaiting search.new 0 }
-    ensures kept { IsKept search.old.faces.items search.new.faces.items }
-    ensures border { (h : ℕ) → AtBorder (gap_of cell.now ∷ []) h
-        → slice_index search.new.faces.items h ≡ 0 }
-{
-    match (cell.lower.get(), cell.upper.get()) {
-        (None, Some(edge)) => search.reach(HalfEdgeId::under(edge), FaceId(0)),
-        (Some(edge), None) => search.reach(HalfEdgeId::over(edge), FaceId(0)),
-        _ => {}
+    for half in graph.joins.border() {
+        search.reach(*half, FaceId(0));
     }
 }
 
@@ -104,9 +118,9 @@ fn reach_side(graph: &Graph, search: &mut Search, cell: &Cell)
 fn number_faces(graph: &Graph, halves: usize, search: &mut Search) -> u32
     requires graph { IsGraph graph.now }
     requires halves { halves ≡ size graph.now.mesh.now }
-    requires begun { IsNumberedTo graph.now.mesh.now (gaps_of graph.now.cells.now) 0 1
+    requires begun { IsNumberedTo graph.now.mesh.now (cells_of graph.now.joins.now) 0 1
         search.old }
-    ensures { IsNumberedTo graph.now.mesh.now (gaps_of graph.now.cells.now) halves result
+    ensures { IsNumberedTo graph.now.mesh.now (cells_of graph.now.joins.now) halves result
         search.new }
 {
     let mut count = 1;
@@ -120,9 +134,9 @@ fn number_faces(graph: &Graph, halves: usize, search: &mut Search) -> u32
 fn number_next(graph: &Graph, search: &mut Search, h: usize, count: u32) -> u32
     requires graph { IsGraph graph.now }
     requires within { h < size graph.now.mesh.now }
-    requires begun { IsNumberedTo graph.now.mesh.now (gaps_of graph.now.cells.now) h count
+    requires begun { IsNumberedTo graph.now.mesh.now (cells_of graph.now.joins.now) h count
         search.old }
-    ensures { IsNumberedTo graph.now.mesh.now (gaps_of graph.now.cells.now) (h + 1) result
+    ensures { IsNumberedTo graph.now.mesh.now (cells_of graph.now.joins.now) (h + 1) result
         search.new }
 {
     if search.faces[h] != UNSET {

@@ -7,8 +7,9 @@
 //!   face that surrounds it. Face 0 is the one outside all edges; the others are numbered in the
 //!   order of their least half-edge.
 //! - **How.** A search along the queue of half-edges that have a face: first from all that were at
-//!   the border, then from each that has none yet, in order. The half-edges across a cell stand in
-//!   rows, one for each half-edge, which are counted and then filled from the end.
+//!   the border, then from each that has none yet, in order. It knows the cells only by what they
+//!   join (`Joins`): the half-edges across a cell stand in rows, one for each half-edge, which are
+//!   counted and then filled from the end, and those at the border in a list.
 //! - **What it asks for.** The edges of the cells are edges of the mesh. It asks for no run and no
 //!   coordinates: what joined half-edges are in the plane is a law of `plane`.
 //! - **Degenerate cases.** No edge, no cell, several parts, dangling edges and rings that touch in
@@ -17,15 +18,19 @@
 //!   given roots, and the first step of such a way: to the next half-edge, to the previous one, or
 //!   across a cell, in this order. It asks that each half-edge leads to a root. That its ranks are
 //!   the least numbers of steps is a law (`laws`).
+//! - **Cells that are freed.** `label_with_joins` takes the cells by value, frees them before it
+//!   searches, and answers their joins with the mesh; `links_by_joins` takes these for the cells.
 //! - **Not here:** which object a face belongs to, and which half-edges are roots.
 //!
-//! Cost: linear in the half-edges and the cells; `links` also sorts its p roots, p log p. While
-//! `label` searches it takes 12 bytes a half-edge and 8 a cell, and `links` the same and 4 a root;
-//! neither keeps them. The places of the rows are numbers of 32 bits: 2^31 cells and more, some
-//! 26 GB of them, are answered as out of memory.
+//! Cost: linear in the half-edges and the cells; `links` also sorts its p roots, p log p. Joins
+//! take 4 bytes a half-edge, 8 a cell and 4 a half-edge at the border; beside them a search takes
+//! 8 bytes a half-edge, and that of `links` also 4 a root. `label` and `links` keep none of it. The
+//! places of the rows are numbers of 32 bits: 2^31 cells and more, some 26 GB of them, are answered
+//! as out of memory.
 #![tactic(auto)]
 
 mod graph;
+mod joins;
 mod labelled;
 mod labelling;
 pub mod laws;
@@ -35,6 +40,7 @@ mod ranks;
 mod searching;
 mod spreading;
 
-pub use labelled::Labelled;
-pub use labelling::label;
-pub use linking::links;
+pub use joins::Joins;
+pub use labelled::{JoinedMesh, Labelled};
+pub use labelling::{label, label_with_joins};
+pub use linking::{links, links_by_joins};

@@ -2,14 +2,17 @@
 ghost use Rattle.std.specs.Prelude.{◌≡◌, ◌⊎◌, ◌↔◌, ℕ, ◌+◌, ◌-◌, ◌^◌, ◌<◌, ◌≤◌, List, IfOk, IsTrue};
 ghost use Rattle.std.specs.Prelude.{length, slice_index};
 ghost use Rattle.plane.specs.Lists.{Has};
+ghost use Rattle.plane.specs.Runs.Gaps.{Gap};
 ghost use Rattle.half_edges.specs.HalfEdges.{size};
 ghost use Rattle.line_sweep.specs.Kinds.{gaps_of};
 ghost use Rattle.faces.specs.Joined.{AreKnown};
+ghost use Rattle.faces.specs.Joins.{AreJoins, cells_of};
 ghost use Rattle.faces.specs.Ranking.{AreNotes, AreRanks, AreRooted, HasRank, IsLink};
 ghost use Rattle.faces.specs.Ranking.{IsNote};
 ghost use Rattle.faces.specs.Searching.{IsGraph};
 
-use super::graph::Graph;
+use super::graph::{Graph, halves_of};
+use super::joins::Joins;
 use super::labelled::Labelled;
 use super::ranks::ranks_by_number;
 use certificate::{HalfNote, Link};
@@ -23,8 +26,8 @@ use std::alloc::Global;
 /// half-edge or across a cell between two edges; where several begin such a way, the next one
 /// counts before the previous one, and that before those across cells, by number. The only error is
 /// out of memory. It takes time linear in the half-edges and the cells, and p log p for p roots,
-/// and for a while 12 bytes a half-edge, 8 a cell and 4 a root; the notes take 16 bytes a
-/// half-edge.
+/// and for a while 12 bytes a half-edge, 8 a cell, 4 a half-edge at the border and 4 a root; the
+/// notes take 16 bytes a half-edge.
 pub fn links(
     alloc: Global,
     labelled: &Labelled,
@@ -37,7 +40,27 @@ pub fn links(
     ensures { IfOk result (λ notes. AreNotes labelled.now.mesh (gaps_of cells.now)
         roots.now notes.items) }
 {
-    let graph = Graph::new(alloc, &labelled.mesh, cells)?;
+    let joins = Joins::new(alloc, halves_of(&labelled.mesh), cells)?;
+    links_by_joins(alloc, labelled, &joins, roots)
+}
+
+/// The notes as `links` gives them, by the joins of the cells, which `label_with_joins` answers.
+/// The only error is out of memory. It takes the time of `links` less that of the joins, and for a
+/// while 8 bytes a half-edge and 4 a root; the notes take 16 bytes a half-edge.
+pub fn links_by_joins(
+    alloc: Global,
+    labelled: &Labelled,
+    joins: &Joins,
+    roots: &[HalfEdgeId],
+) -> Result<Vec<HalfNote>, Memory>
+    requires joins { (cells : List Gap) × AreJoins (size labelled.now.mesh) cells joins.now
+        × AreRooted labelled.now.mesh cells roots.now }
+    requires within { (h : ℕ) → Has h roots.now → h < size labelled.now.mesh }
+    ensures { IfOk result (λ notes. (cells : List Gap)
+        → AreJoins (size labelled.now.mesh) cells joins.now
+        → AreNotes labelled.now.mesh cells roots.now notes.items) }
+{
+    let graph = Graph::new(&labelled.mesh, joins);
     let ranks = ranks_by_number(alloc, &graph, roots)?;
     notes_of(alloc, &graph, &ranks)
 }
@@ -45,11 +68,11 @@ pub fn links(
 /// The notes of ranks from some roots.
 fn notes_of(alloc: Global, graph: &Graph, ranks: &[u32]) -> Result<Vec<HalfNote>, Memory>
     requires graph { IsGraph graph.now }
-    requires ranks { (roots : List ℕ) × AreRanks graph.now.mesh.now (gaps_of graph.now.cells.now)
+    requires ranks { (roots : List ℕ) × AreRanks graph.now.mesh.now (cells_of graph.now.joins.now)
         roots ranks.now }
     ensures { IfOk result (λ notes. (roots : List ℕ) → AreRanks graph.now.mesh.now
-        (gaps_of graph.now.cells.now) roots ranks.now → AreNotes graph.now.mesh.now
-        (gaps_of graph.now.cells.now) roots notes.items) }
+        (cells_of graph.now.joins.now) roots ranks.now → AreNotes graph.now.mesh.now
+        (cells_of graph.now.joins.now) roots notes.items) }
 {
     let mut notes = Vec::with_capacity(alloc, ranks.len())?;
     for h in 0..ranks.len() {
@@ -60,10 +83,10 @@ fn notes_of(alloc: Global, graph: &Graph, ranks: &[u32]) -> Result<Vec<HalfNote>
 
 fn note_of(graph: &Graph, ranks: &[u32], h: HalfEdgeId) -> HalfNote
     requires graph { IsGraph graph.now }
-    requires ranks { (roots : List ℕ) × AreRanks graph.now.mesh.now (gaps_of graph.now.cells.now)
+    requires ranks { (roots : List ℕ) × AreRanks graph.now.mesh.now (cells_of graph.now.joins.now)
         roots ranks.now }
     requires within { h < size graph.now.mesh.now }
-    ensures { IsNote graph.now.mesh.now (gaps_of graph.now.cells.now) ranks.now h result }
+    ensures { IsNote graph.now.mesh.now (cells_of graph.now.joins.now) ranks.now h result }
 {
     HalfNote {
         label: graph.mesh.face(h).0,
@@ -75,10 +98,10 @@ fn note_of(graph: &Graph, ranks: &[u32], h: HalfEdgeId) -> HalfNote
 /// The link to the first half-edge whose rank is one less, or none where the rank is 0.
 fn link_of(graph: &Graph, ranks: &[u32], h: HalfEdgeId) -> Link
     requires graph { IsGraph graph.now }
-    requires ranks { (roots : List ℕ) × AreRanks graph.now.mesh.now (gaps_of graph.now.cells.now)
+    requires ranks { (roots : List ℕ) × AreRanks graph.now.mesh.now (cells_of graph.now.joins.now)
         roots ranks.now }
     requires within { h < size graph.now.mesh.now }
-    ensures { IsLink graph.now.mesh.now (gaps_of graph.now.cells.now) ranks.now h result }
+    ensures { IsLink graph.now.mesh.now (cells_of graph.now.joins.now) ranks.now h result }
 {
     let rank = rank_of(ranks, h);
     if rank == 0 {
@@ -91,7 +114,7 @@ fn link_of(graph: &Graph, ranks: &[u32], h: HalfEdgeId) -> Link
     if rank_of(ranks, graph.mesh.prev(h)) == wanted {
         return Link::Prev;
     }
-    Link::Across(least_of_rank(ranks, graph.partners.row(h), wanted))
+    Link::Across(least_of_rank(ranks, graph.joins.partners.row(h), wanted))
 }
 
 fn rank_of(ranks: &[u32], h: HalfEdgeId) -> u32

@@ -4,7 +4,7 @@ ghost use Rattle.std.specs.Prelude.{slice_index, vec_len};
 ghost use Rattle.std.specs.Prelude.{replicate, vec_capacity};
 ghost use Rattle.plane.specs.Lists.{Has};
 ghost use Rattle.half_edges.specs.HalfEdges.{size};
-ghost use Rattle.line_sweep.specs.Kinds.{gaps_of};
+ghost use Rattle.faces.specs.Joins.{cells_of};
 ghost use Rattle.faces.specs.Searching.{IsGraph, IsKept, unset};
 ghost use Rattle.faces.specs.Ranking.{AreLater, AreRanks, AreRooted, HasRanked};
 ghost use Rattle.faces.specs.Ranking.{IsRankReached};
@@ -70,8 +70,8 @@ impl Ranks {
 fn ranks_from(alloc: Global, graph: &Graph, roots: &[HalfEdgeId]) -> Result<Vec<u32>, Memory>
     requires graph { IsGraph graph.now }
     requires within { (h : ℕ) → Has h roots.now → h < size graph.now.mesh.now }
-    requires rooted { AreRooted graph.now.mesh.now (gaps_of graph.now.cells.now) roots.now }
-    ensures { IfOk result (λ ranks. AreRanks graph.now.mesh.now (gaps_of graph.now.cells.now)
+    requires rooted { AreRooted graph.now.mesh.now (cells_of graph.now.joins.now) roots.now }
+    ensures { IfOk result (λ ranks. AreRanks graph.now.mesh.now (cells_of graph.now.joins.now)
         roots.now ranks.items) }
 {
     let mut search = Ranks::new(alloc, halves_of(graph.mesh))?;
@@ -104,8 +104,8 @@ pub fn ranks_by_number(
 ) -> Result<Vec<u32>, Memory>
     requires graph { IsGraph graph.now }
     requires within { (h : ℕ) → Has h roots.now → h < size graph.now.mesh.now }
-    requires rooted { AreRooted graph.now.mesh.now (gaps_of graph.now.cells.now) roots.now }
-    ensures { IfOk result (λ ranks. AreRanks graph.now.mesh.now (gaps_of graph.now.cells.now)
+    requires rooted { AreRooted graph.now.mesh.now (cells_of graph.now.joins.now) roots.now }
+    ensures { IfOk result (λ ranks. AreRanks graph.now.mesh.now (cells_of graph.now.joins.now)
         roots.now ranks.items) }
 {
     let sorted = sorted(alloc, roots)?;
@@ -119,7 +119,7 @@ fn reach_roots(graph: &Graph, roots: &[HalfEdgeId], search: &mut Ranks)
     requires queue { search.old.queue.items ≡ [] }
     requires passed { search.old.passed ≡ 0 }
     requires room { size graph.now.mesh.now ≤ vec_capacity search.old.queue }
-    ensures ranked { HasRanked graph.now.mesh.now (gaps_of graph.now.cells.now) search.new }
+    ensures ranked { HasRanked graph.now.mesh.now (cells_of graph.now.joins.now) search.new }
     ensures root { (h : ℕ) → Has h roots.now → slice_index search.new.ranks.items h ≡ 0 }
     ensures zero { (h : ℕ) → h < size graph.now.mesh.now
         → slice_index search.new.ranks.items h ≡ 0 → Has h roots.now }
@@ -132,9 +132,9 @@ fn reach_roots(graph: &Graph, roots: &[HalfEdgeId], search: &mut Ranks)
 /// Passes the next half-edge of the queue: all that one step leads to get a rank one more.
 fn pass(graph: &Graph, search: &mut Ranks)
     requires graph { IsGraph graph.now }
-    requires ranked { HasRanked graph.now.mesh.now (gaps_of graph.now.cells.now) search.old }
+    requires ranked { HasRanked graph.now.mesh.now (cells_of graph.now.joins.now) search.old }
     requires more { search.old.passed < length search.old.queue.items }
-    ensures ranked { HasRanked graph.now.mesh.now (gaps_of graph.now.cells.now) search.new }
+    ensures ranked { HasRanked graph.now.mesh.now (cells_of graph.now.joins.now) search.new }
     ensures passed { search.new.passed ≡ search.old.passed + 1 }
     ensures kept { IsKept search.old.ranks.items search.new.ranks.items }
     ensures later { AreLater search.old.ranks.items search.new.ranks.items }
@@ -143,7 +143,7 @@ fn pass(graph: &Graph, search: &mut Ranks)
     let rank = search.rank_of(h) + 1;
     search.reach(graph.mesh.next(h), rank);
     search.reach(graph.mesh.prev(h), rank);
-    for g in graph.partners.row(h) {
+    for g in graph.joins.partners.row(h) {
         search.reach(*g, rank);
     }
     search.passed += 1;

@@ -1,6 +1,6 @@
 // One face spreads over all half-edges that are joined.
 ghost use Rattle.std.specs.Prelude.{◌≡◌, ◌+◌, ◌<◌, length};
-ghost use Rattle.line_sweep.specs.Kinds.{gaps_of};
+ghost use Rattle.faces.specs.Joins.{cells_of};
 ghost use Rattle.faces.specs.Searching.{HasSearched, IsGiven, IsGraph, IsKept};
 ghost use Rattle.faces.specs.Searching.{IsWaiting, unset};
 
@@ -12,9 +12,9 @@ use half_edges::FaceId;
 pub fn spread(graph: &Graph, search: &mut Search, face: FaceId)
     requires graph { IsGraph graph.now }
     requires face { face < unset }
-    requires searched { HasSearched graph.now.mesh.now (gaps_of graph.now.cells.now) search.old }
+    requires searched { HasSearched graph.now.mesh.now (cells_of graph.now.joins.now) search.old }
     requires waiting { IsWaiting search.old face }
-    ensures searched { HasSearched graph.now.mesh.now (gaps_of graph.now.cells.now) search.new }
+    ensures searched { HasSearched graph.now.mesh.now (cells_of graph.now.joins.now) search.new }
     ensures done { search.new.passed ≡ length search.new.queue.items }
     ensures kept { IsKept search.old.faces.items search.new.faces.items }
     ensures given { IsGiven face search.old.faces.items search.new.faces.items }
@@ -28,10 +28,10 @@ pub fn spread(graph: &Graph, search: &mut Search, face: FaceId)
 fn pass(graph: &Graph, search: &mut Search, face: FaceId)
     requires graph { IsGraph graph.now }
     requires face { face < unset }
-    requires searched { HasSearched graph.now.mesh.now (gaps_of graph.now.cells.now) search.old }
+    requires searched { HasSearched graph.now.mesh.now (cells_of graph.now.joins.now) search.old }
     requires waiting { IsWaiting search.old face }
     requires more { search.old.passed < length search.old.queue.items }
-    ensures searched { HasSearched graph.now.mesh.now (gaps_of graph.now.cells.now) search.new }
+    ensures searched { HasSearched graph.now.mesh.now (cells_of graph.now.joins.now) search.new }
     ensures waiting { IsWaiting search.new face }
     ensures passed { search.new.passed ≡ search.old.passed + 1 }
     ensures kept { IsKept search.old.faces.items search.new.faces.items }
@@ -40,7 +40,7 @@ fn pass(graph: &Graph, search: &mut Search, face: FaceId)
     let h = search.queue[search.passed];
     search.reach(graph.mesh.next(h), face);
     search.reach(graph.mesh.prev(h), face);
-    for g in graph.partners.row(h) {
+    for g in graph.joins.partners.row(h) {
         search.reach(*g, face);
     }
     search.passed += 1;

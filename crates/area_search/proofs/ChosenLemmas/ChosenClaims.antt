@@ -28,13 +28,13 @@ use Rattle.area_search.proofs.ChosenLemmas.OneCertificate.{one_table}
 
 -- what is known of the moves
 record IsCaseRun (d : Plan) (level : ℕ) (edges : List Edge) (owners : List Owner)
-    (facings : List Facing) (spots : List Spot) (mesh : HalfEdges) (count : ℕ) (cs : List Gap)
+    (facings : List Facing) (spots : List Spot) (mesh : HalfEdges) (count : ℕ)
     (rs : List ℕ) (notes : List HalfNote)
     (vs : List Move) : Type 0 where
   case : IsCase d level edges owners facings vs
   off : ArePlacedOff d level vs spots
   faces : HasRunFaces d level vs mesh count
-  on : IsRunMesh d level vs cs mesh
+  on : IsRunMesh d level vs mesh
   listed : AreCaseRoots facings owners (length d.curves) (closed_gaps vs) spots rs
   told : AreNotes mesh (closed_gaps vs) rs notes
 
@@ -42,8 +42,8 @@ module _ (d : Plan) (level : ℕ) (edges : List Edge) (edge_owners : List Owner)
     (facings : List Facing) (vs : List Move) (case : IsCase d level edges edge_owners facings vs)
     (spots : List Spot) (off : ArePlacedOff d level vs spots)
     (mesh : HalfEdges) (count : ℕ) (faces : HasRunFaces d level vs mesh count) (owners : List ℕ)
-    (own : HaveOwners d level mesh.face spots count owners) (cs : List Gap)
-    (on : IsRunMesh d level vs cs mesh)
+    (own : HaveOwners d level mesh.face spots count owners)
+    (on : IsRunMesh d level vs mesh)
     (rs : List ℕ)
     (listed : AreCaseRoots facings edge_owners (length d.curves) (closed_gaps vs) spots rs)
     (places : List PointPlace) (written : places ≡ map spot_place spots)
@@ -60,7 +60,7 @@ module _ (d : Plan) (level : ℕ) (edges : List Edge) (edge_owners : List Owner)
   pub chosen_claims : Proves d claimed → IsChosen d claimed
   chosen_claims p =
       let x = subst
-      (λ (ws : List Move). IsCaseRun d level edges edge_owners facings spots mesh count cs rs notes
+      (λ (ws : List Move). IsCaseRun d level edges edge_owners facings spots mesh count rs notes
       ws) t.is
       (record { case = case; off = off; faces = faces; on = on; listed = listed; told = told }) in
       record {
@@ -68,7 +68,7 @@ module _ (d : Plan) (level : ℕ) (edges : List Edge) (edge_owners : List Owner)
         is_table = table_is;
         chosen = are_chosen d level t.table
             (positions_of vs) edges edge_owners facings x.case spots x.off mesh count x.faces owners
-            own cs x.on rs x.listed places written notes x.told ns named uncut
+            own x.on rs x.listed places written notes x.told ns named uncut
             (subst (λ (ts : List Timed). AllRules (subject_of d claimed ts))
             (one_table d level p.table t.table p.is_table table_is) p.rules);
       }

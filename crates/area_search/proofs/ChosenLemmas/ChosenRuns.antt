@@ -68,8 +68,8 @@ module _ (d : Plan) (level : ℕ) (table : List Timed) (ps : List ℕ) (edges : 
     (case : IsCase d level edges edge_owners facings (moves_at table ps)) (spots : List Spot)
     (off : ArePlacedOff d level (moves_at table ps) spots)
     (mesh : HalfEdges) (count : ℕ) (faces : HasRunFaces d level (moves_at table ps) mesh count)
-    (owners : List ℕ) (own : HaveOwners d level mesh.face spots count owners) (cs : List Gap)
-    (on : IsRunMesh d level (moves_at table ps) cs mesh)
+    (owners : List ℕ) (own : HaveOwners d level mesh.face spots count owners)
+    (on : IsRunMesh d level (moves_at table ps) mesh)
     (rs : List ℕ)
     (listed : AreCaseRoots facings edge_owners (length d.curves)
     (closed_gaps (moves_at table ps)) spots rs) (places : List PointPlace)
@@ -91,12 +91,11 @@ module _ (d : Plan) (level : ℕ) (table : List Timed) (ps : List ℕ) (edges : 
   s = subject_of d (record { level = level; positions = ps; notes = ns; places = places }) table
 
   abbrev lab : Labelling
-  lab = labelling d level edges edge_owners facings vs case spots off mesh count faces owners own cs
+  lab = labelling d level edges edge_owners facings vs case spots off mesh count faces owners own
       on rs listed places written notes told ns named uncut
 
   abbrev g : Rooting lab
   g = record {
-    cells = cs;
     mesh_is = on;
     facings = facings;
     facings_are = case.facings_are;
@@ -104,6 +103,8 @@ module _ (d : Plan) (level : ℕ) (table : List Timed) (ps : List ℕ) (edges : 
     owners_are = case.owners_are;
     chains = listed.chains;
     chains_are = listed.are_chains;
+    border = listed.border;
+    border_is = listed.border_is;
     places = places;
     places_are = written;
   }

@@ -24,7 +24,7 @@ use Rattle.area_search.specs.Settled.CaseNotes.{label_by, spot_place}
 use Rattle.area_search.specs.Settled.CaseOwners.{HaveOwners}
 use Rattle.area_search.specs.Settled.CaseRoots.{AreCaseRoots, IsSmallSpot, IsSpotIn, owner_at}
 use Rattle.area_search.specs.Settled.Cases.{ArePlacedOff, HasRunFaces, IsCase, IsRunMesh, IsSpot, no_spot, spot_at}
-use Rattle.area_search.specs.Settled.Writing.{IsSmall, IsSmallCell}
+use Rattle.faces.specs.Joins.{IsSmall}
 use Rattle.area_search.proofs.SettledLemmas.CaseNames.{Labelling}
 use Rattle.area_search.proofs.SettledLemmas.CaseRootLists.{Rooting, rooted, roots_within}
 use Rattle.area_search.proofs.SettledLemmas.ListPlaces.{at_has, before_has}
@@ -33,28 +33,12 @@ use Rattle.area_search.proofs.SettledLemmas.TubedLaws.{owner_is as owned_is}
 use Rattle.area_search.proofs.SettledLemmas.TubeSides.{owner_count, owner_is}
 use Rattle.area_search.proofs.LevelLemmas.CellSideLemmas.{nth_cell}
 
--- ---- the cells of a sweep
-small_side : (n : ℕ) (gs : List Gap) → AreKnown n gs → n < 2 ^ 32 → (g : Gap) → Has g gs → (o : Option ℕ) → (g.lower ≡ o) ⊎ (g.upper ≡ o) → IsSmall o
-small_side n gs known few g h None e = tt
-small_side n gs known few g h (Some e) q = let k = known g e h q in omega (arith, k, few)
-
-pub small_cells : (n : ℕ) (cells : List Cell) → AreKnown n (gaps_of cells) → n < 2 ^ 32 → (k : ℕ) (c : Cell) → k < length cells → IsSmallCell (slice_index_or cells k c)
-small_cells n cells known few k c l =
-    let h = nth_cell cells k c l in
-    let g = gap_of (slice_index_or cells k c) in
-    (small_side n (gaps_of cells) known few g h (slice_index_or cells k c).lower (inl refl), small_side n (gaps_of cells) known few g h (slice_index_or cells k c).upper (inr refl))
-
 -- ---- lists that are the same
 pub joined_lists : (a b c w x y z : List ℕ) → w ≡ [] → x ≡ w ++ a → y ≡ x ++ b → z ≡ y ++ c → z ≡ a ++ (b ++ c)
 joined_lists a b c w x y z p q r t = t ∙ ap (λ (l : List ℕ). l ++ c) (r ∙ ap (λ (l : List ℕ). l ++ b) (q ∙ ap (λ (l : List ℕ). l ++ a) p)) ∙ append_assoc a b c
 
-pub roots_as : (facings : List Facing) (os os2 : List Owner) (n n2 : ℕ) (cells cells2 : List Cell) (gs : List Gap) (spots : List Spot) (rs rs2 : List ℕ) → os ≡ os2 → n ≡ n2 → cells ≡ cells2 → gaps_of cells2 ≡ gs → rs2 ≡ rs
-    → AreCaseRoots facings os n (gaps_of cells) spots rs → AreCaseRoots facings os2 n2 gs spots rs2
-roots_as facings os os2 n n2 cells cells2 gs spots rs rs2 a b c e f h =
-    subst (λ (x : List ℕ). AreCaseRoots facings os2 n2 gs spots x) (sym f)
-    (subst (λ (x : List Gap). AreCaseRoots facings os2 n2 x spots rs) (ap gaps_of c ∙ e)
-    (subst (λ (x : ℕ). AreCaseRoots facings os2 x (gaps_of cells) spots rs) b
-    (subst (λ (x : List Owner). AreCaseRoots facings x n (gaps_of cells) spots rs) a h)))
+pub roots_as : (facings : List Facing) (os : List Owner) (n n2 : ℕ) (gs : List Gap) (spots : List Spot) (rs rs2 : List ℕ) → n ≡ n2 → rs2 ≡ rs → AreCaseRoots facings os n gs spots rs → AreCaseRoots facings os n2 gs spots rs2
+roots_as facings os n n2 gs spots rs rs2 e f h = subst (AreCaseRoots facings os n2 gs spots) (sym f) (subst (λ (x : ℕ). AreCaseRoots facings os x gs spots rs) e h)
 
 module _ (d : Plan) (level : ℕ) (edges : List Edge) (edge_owners : List Owner) (facings : List Facing) (vs : List Move) (case : IsCase d level edges edge_owners facings vs) where
   abbrev m : ℕ
@@ -110,7 +94,7 @@ module _ (d : Plan) (level : ℕ) (edges : List Edge) (edge_owners : List Owner)
     spots_in k p l = subst (IsSpotIn (length d.curves)) (get_or_default spots k no_spot p l) (spot_in k (spot_at spots k) (own_spot k l))
 
   -- ---- of the mesh and its notes
-  module _ (mesh : HalfEdges) (cs : List Gap) (on : IsRunMesh d level vs cs mesh) where
+  module _ (mesh : HalfEdges) (on : IsRunMesh d level vs mesh) where
     pub few_edges : m < 2 ^ 31
     few_edges = let a = on.mesh_is.few in let b = on.turned.count in omega (arith, a, b)
 
@@ -153,7 +137,6 @@ module _ (d : Plan) (level : ℕ) (edges : List Edge) (edge_owners : List Owner)
 
       abbrev g : Rooting s
       g = record {
-        cells = cs;
         mesh_is = on;
         facings = facings;
         facings_are = case.facings_are;
@@ -161,6 +144,8 @@ module _ (d : Plan) (level : ℕ) (edges : List Edge) (edge_owners : List Owner)
         owners_are = case.owners_are;
         chains = listed.chains;
         chains_are = listed.are_chains;
+        border = listed.border;
+        border_is = listed.border_is;
         places = map spot_place spots;
         places_are = refl;
       }

@@ -65,7 +65,7 @@ root_link mesh h link.Prev e = absurd (cc)
 root_link mesh h (link.Across g) e = absurd (cc)
 
 module _ (d : Plan) (level : ℕ) (edges : List Edge) (edge_owners : List Owner) (facings : List Facing) (vs : List Move) (case : IsCase d level edges edge_owners facings vs) (spots : List Spot) (off : ArePlacedOff d level vs spots)
-    (mesh : HalfEdges) (count : ℕ) (faces : HasRunFaces d level vs mesh count) (owners : List ℕ) (own : HaveOwners d level mesh.face spots count owners) (cs : List Gap) (on : IsRunMesh d level vs cs mesh)
+    (mesh : HalfEdges) (count : ℕ) (faces : HasRunFaces d level vs mesh count) (owners : List ℕ) (own : HaveOwners d level mesh.face spots count owners) (on : IsRunMesh d level vs mesh)
     (rs : List ℕ) (listed : AreCaseRoots facings edge_owners (length d.curves) (closed_gaps vs) spots rs) (places : List PointPlace) (written : places ≡ map spot_place spots)
     (notes : List HalfNote) (told : AreNotes mesh (closed_gaps vs) rs notes) (ns : List HalfNote) (named : AreNamed (length d.points) (length facings) facings edge_owners owners notes ns) (uncut : HasNoCut d) where
   abbrev m : ℕ
@@ -116,7 +116,6 @@ module _ (d : Plan) (level : ℕ) (edges : List Edge) (edge_owners : List Owner)
 
   abbrev g : Rooting s
   g = record {
-    cells = cs;
     mesh_is = on;
     facings = facings;
     facings_are = case.facings_are;
@@ -124,6 +123,8 @@ module _ (d : Plan) (level : ℕ) (edges : List Edge) (edge_owners : List Owner)
     owners_are = case.owners_are;
     chains = listed.chains;
     chains_are = listed.are_chains;
+    border = listed.border;
+    border_is = listed.border_is;
     places = places;
     places_are = written;
   }

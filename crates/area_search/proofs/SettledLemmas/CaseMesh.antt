@@ -79,11 +79,10 @@ module _ (d : Plan) (level : ℕ) (edges : List Edge) (owners : List Owner) (fac
             loose = t.loose;
           }
 
-      pub run_mesh : (cells : List Gap) → cells ≡ closed_gaps vs → IsMesh (with_faces mesh faces) → IsRunMesh d level vs cells (with_faces mesh faces)
-      run_mesh cells e ok = record {
+      pub run_mesh : IsMesh (with_faces mesh faces) → IsRunMesh d level vs (with_faces mesh faces)
+      run_mesh ok = record {
         turned = turned_faces;
         mesh_is = ok;
-        cells_are = e;
         known = known_cells (closed_gaps vs) (with_faces mesh faces) refl (let k = turned_here.count in omega (arith, k, same_size));
       }
 

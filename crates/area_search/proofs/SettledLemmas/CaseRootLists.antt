@@ -6,7 +6,8 @@ use Rattle.certificate.specs.declared.notes.PointPlace.TheVariants as point_plac
 use Rattle.event_mesh.specs.Turned.{IsTurned}
 use Rattle.half_edges.specs.HalfEdges.{HalfEdges, prev_of, size}
 use Rattle.half_edges.specs.Meshes.{IsMesh}
-use Rattle.faces.specs.Joined.{AtBorder, Joined, across, back, highest, lowest, onward, outside as over_border, same}
+use Rattle.faces.specs.Joined.{AtBorder, Joined, across, back, onward, outside as over_border, same}
+use Rattle.faces.specs.Joins.{IsBorder}
 use Rattle.faces.specs.Ranking.{AreRooted, Leads, step, there}
 use Rattle.plane.specs.CurveRuns.FacePlaces.{IsFaceRoot}
 use Rattle.plane.specs.CurveRuns.FacedTubes.{LiesInTube, faced}
@@ -28,15 +29,15 @@ use Rattle.area_search.specs.declared.settled.case_roots.Chains.{Chains}
 use Rattle.area_search.specs.Settled.CaseNotes.{spot_place}
 use Rattle.area_search.specs.Settled.CaseRoots.{AreChains, case_roots, is_marked, spot_roots, tube_roots, tube_sides}
 use Rattle.area_search.specs.Settled.Cases.{IsClearOver, IsOffCurves, IsRunMesh, IsSpot, no_spot, spot_at}
-use Rattle.area_search.specs.Settled.Writing.{border_roots, cell_roots, over_some, under_some}
+use Rattle.area_search.specs.Settled.Writing.{over_some, under_some}
 use Rattle.area_search.proofs.SettledLemmas.CaseNames.{E, Labelling, bays, clear_least, d, inside, labels_are, level, m, mesh, name, named_faces, outside, points, r, spots, steps, touches_fits, twin_fits, vs, within}
 use Rattle.area_search.proofs.SettledLemmas.CasePlaces.{at_up, before_low, in_cell, in_inner, in_outer, inner_label, is_placed, low_fits, low_name, lower_some, now, outer_label, place_is, up_fits, up_name, upper_some}
 use Rattle.area_search.proofs.SettledLemmas.CertifiedMoves.{RootAt}
 use Rattle.area_search.proofs.PlaneLaws.{has_append, has_at, has_back, has_front, half_number, number_half, number_one}
-use Rattle.area_search.proofs.SettledLemmas.ListPlaces.{flat_has, has_flat}
+use Rattle.faces.proofs.FlatLists.{flat_has, has_flat}
 use Rattle.area_search.proofs.SettledLemmas.RunFaces.{from_touches, joined, number_within, to_touches, within as half_within_mesh}
 use Rattle.area_search.proofs.SettledLemmas.TubedLaws.{edge_twin, edge_within, number_is, owner_is as owned_is, some_inner, some_outer}
-use Rattle.area_search.proofs.SettledLemmas.TubeSides.{has_border, has_to, listed_side, roots_are, tag_is, tag_listed, to_has, twin_listed}
+use Rattle.area_search.proofs.SettledLemmas.TubeSides.{has_to, listed_side, roots_are, tag_is, tag_listed, to_has, twin_listed}
 
 -- ---- from a half-edge to one that is joined with it, or to one at the border
 abbrev pub Reaches : HalfEdges → List Gap → ℕ → ℕ → Type 0
@@ -58,16 +59,17 @@ spot_index [] p h = absurd h
 spot_index (q ∷ ps) p (inl e) = (0, omega arith, sym e)
 spot_index (q ∷ ps) p (inr h) = let w = spot_index ps p h in (suc w.0, (let k = w.1 in omega (arith, k)), w.2)
 
--- what the program holds of a settled drawing: the mesh of its run, the edges' facings and owners, the chains beside which points lie, and the places
+-- what the program holds of a settled drawing: the mesh of its run, the edges' facings and owners, the chains beside which points lie, the half-edges at the border, and the places
 pub record Rooting (s : Labelling) : Type 0 where
-  pub cells : List Gap
-  pub mesh_is : IsRunMesh s.d s.level s.vs cells s.mesh
+  pub mesh_is : IsRunMesh s.d s.level s.vs s.mesh
   pub facings : List Facing
   pub facings_are : AreFacings s.d s.level facings
   pub edge_owners : List Owner
   pub owners_are : edge_owners ≡ map owner_as (runs.edge_list (drawn_bays s.d s.level) 0 s.d.curves)
   pub chains : Chains
   pub chains_are : AreChains s.spots (length s.spots) (length s.d.curves) chains
+  pub border : List ℕ
+  pub border_is : IsBorder (closed_gaps s.vs) border
   pub places : List PointPlace
   pub places_are : places ≡ map spot_place s.spots
 
@@ -82,7 +84,7 @@ module _ (s : Labelling) (g : Rooting s) where
   edge_roots = tube_roots g.facings g.edge_owners g.chains
 
   abbrev pub roots : List ℕ
-  roots = case_roots g.facings g.edge_owners g.chains cells (spots s)
+  roots = case_roots g.facings g.edge_owners g.chains g.border (spots s)
 
   turned : IsTurned (m s) (E s) (steps s) (mesh s) (length (steps s))
   turned = g.mesh_is.turned
@@ -105,10 +107,10 @@ module _ (s : Labelling) (g : Rooting s) where
   edge_listed e x l h = has_front x _ _ (has_to edge_roots (length g.facings) e x (let k = count in omega (arith, k, l)) h)
 
   pub border_listed : (x : ℕ) → AtBorder cells x → Has x roots
-  border_listed x h = has_back x _ _ (has_front x (flat_map cell_roots cells) (flat_map spot_roots (spots s)) (has_border cells x h))
+  border_listed x h = has_back x _ _ (has_front x g.border (flat_map spot_roots (spots s)) ((g.border_is x).1 h))
 
   pub spot_listed : (x j : ℕ) → j < length (spots s) → Has x (spot_roots (spot_at (spots s) j)) → Has x roots
-  spot_listed x j l h = has_back x _ _ (has_back x (flat_map cell_roots cells) (flat_map spot_roots (spots s)) (has_flat spot_roots (spots s) (spot_at (spots s) j) x (has_at (spots s) j no_spot l) h))
+  spot_listed x j l h = has_back x _ _ (has_back x g.border (flat_map spot_roots (spots s)) (has_flat spot_roots (spots s) (spot_at (spots s) j) x (has_at (spots s) j no_spot l) h))
 
   pub tube_listed : (h : Half) (i : ℕ) → edge_of h < m s → faced (d s) (bays s) (E s) h ≡ suc i → Has (number h) roots
   tube_listed h i l e = edge_listed (edge_of h) (number h) l (tag_listed _ _ i h _ (tag_is (d s) (level s) g.facings g.facings_are g.edge_owners g.owners_are h l ∙ e))
@@ -218,14 +220,6 @@ module _ (s : Labelling) (g : Rooting s) where
       let t : Touches (r s) h = subst (Touches (r s)) (half_number h) (to_touches (pos 0) (m s) (E s) (vs s) (mesh s) s.settled.run.run s.fit turned g.mesh_is.known (number h) b) in
       let z = mark_is h ∙ (named_faces s).border h t in
       (touches_fits s h t, inr (inl (z, t)), inr (inl (z, t)))
-
-  cell_root : (h : Half) (c : Gap) → Has c cells → (lo up : Option ℕ) → c.lower ≡ lo → c.upper ≡ up → Has (number h) (border_roots lo up) → Root h
-  cell_root h c k None None p q w = absurd w
-  cell_root h c k None (Some e) p q (inl w) = border_root h (lowest e (c, k, p, q) w)
-  cell_root h c k None (Some e) p q (inr w) = absurd w
-  cell_root h c k (Some e) None p q (inl w) = border_root h (highest e (c, k, p, q) w)
-  cell_root h c k (Some e) None p q (inr w) = absurd w
-  cell_root h c k (Some e) (Some u) p q w = absurd w
 
   -- of an edge
   module _ (e : ℕ) (l : e < m s) (o : runs.IsOfTube (own e).part) where
@@ -341,8 +335,8 @@ module _ (s : Labelling) (g : Rooting s) where
   pub listed_root : (h : Half) → Has (number h) roots → Root h
   listed_root h w = elim (has_append (number h) _ _ w) [
     | inl k ↦ (let y = to_has edge_roots (length g.facings) (number h) k in tube_root h y.0 (let a = y.1 in let b = count in omega (arith, a, b)) y.2)
-    | inr k ↦ elim (has_append (number h) (flat_map cell_roots cells) (flat_map spot_roots (spots s)) k) [
-      | inl n ↦ (let y = flat_has cell_roots cells (number h) n in cell_root h y.0 y.1 y.0.lower y.0.upper refl refl y.2)
+    | inr k ↦ elim (has_append (number h) g.border (flat_map spot_roots (spots s)) k) [
+      | inl n ↦ border_root h ((g.border_is (number h)).0 n)
       | inr n ↦
           let y = flat_has spot_roots (spots s) (number h) n in
           let i = spot_index (spots s) y.0 y.1 in

@@ -1,4 +1,4 @@
--- Edges at places of a live list, and what lists that are joined end to end hold.
+-- Edges at places of a live list.
 use Rattle.std.proofs.Common.{◌≡◌, inl, inr, ℕ, zero, suc, ◌<◌, ◌≤◌, Option, Some, None, List, [], ◌∷◌, length, get_or, map, slice_index_or, refl, sym, ap, subst, ◌∙◌, arith}
 use Rattle.std.specs.List.{flat_map}
 use Rattle.std.proofs.lemmas.List.Concat.{flat_map-cons}
@@ -42,19 +42,6 @@ pub some_edge : (es : List ℕ) (i : ℕ) → i < length es → (e : ℕ) × (ed
 some_edge [] i h = absurd (omega (arith, h))
 some_edge (e ∷ es) zero h = (e, refl)
 some_edge (e ∷ es) (suc i) h = some_edge es i (omega (arith, h))
-
--- ---- lists end to end
-pub has_flat : {X : Type 0} (f : X → List ℕ) (xs : List X) (y : X) (x : ℕ) → Has y xs → Has x (f y) → Has x (flat_map f xs)
-has_flat f [] y x h k = absurd h
-has_flat f (z ∷ xs) y x (inl e) k = subst (Has x) (sym (flat_map-cons f z xs)) (has_front x (f z) (flat_map f xs) (subst (λ w. Has x (f w)) e k))
-has_flat f (z ∷ xs) y x (inr h) k = subst (Has x) (sym (flat_map-cons f z xs)) (has_back x (f z) (flat_map f xs) (has_flat f xs y x h k))
-
-pub flat_has : {X : Type 0} (f : X → List ℕ) (xs : List X) (x : ℕ) → Has x (flat_map f xs) → (y : X) × Has y xs × Has x (f y)
-flat_has f [] x h = absurd h
-flat_has {X = X} f (z ∷ xs) x h = elim (has_append x (f z) (flat_map f xs) (subst (Has x) (flat_map-cons f z xs) h)) [
-  | inl k ↦ (z, inl refl, k)
-  | inr k ↦ (let w = flat_has f xs x k in (w.0, inr w.1, w.2))
-]
 
 -- ---- numbers in order
 pub less_equal_or : (i j : ℕ) (P : Type 0) → (i < j → P) → (i ≡ j → P) → (j < i → P) → P

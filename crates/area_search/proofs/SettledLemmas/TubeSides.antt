@@ -19,9 +19,7 @@ use Rattle.tubes.specs.declared.kinds.Owner.{Owner}
 use Rattle.area_search.specs.declared.settled.case_roots.Chains.{Chains}
 use Rattle.area_search.specs.Settled.CaseNotes.{tag, tag_at}
 use Rattle.area_search.specs.Settled.CaseRoots.{facing_in, if_marked, is_marked, owner_at, roots_to, tube_roots, tube_sides}
-use Rattle.area_search.specs.Settled.Writing.{border_roots, cell_roots, under_some}
 use Rattle.area_search.proofs.PlaneLaws.{has_append, has_back, has_front, number_one}
-use Rattle.area_search.proofs.SettledLemmas.ListPlaces.{has_flat}
 
 -- ---- lists of roots
 pub has_to : (f : ℕ → List ℕ) (n e x : ℕ) → e < n → Has x (f e) → Has x (roots_to f n)
@@ -37,10 +35,6 @@ to_has f (suc n) x h = elim (has_append x (roots_to f n) (f n) h) [
   | inl k ↦ (let w = to_has f n x k in let a = w.1 in (w.0, omega (arith, a), w.2))
   | inr k ↦ (n, omega arith, k)
 ]
-
-pub has_border : (cells : List Gap) (h : ℕ) → AtBorder cells h → Has h (flat_map cell_roots cells)
-has_border cells h (lowest e (g, k, p, q) w) = has_flat cell_roots cells g h k (subst (λ (l : Option ℕ). Has h (border_roots l g.upper)) (sym p) (subst (λ (u : Option ℕ). Has h (under_some u)) (sym q) (inl w)))
-has_border cells h (highest e (g, k, p, q) w) = has_flat cell_roots cells g h k (subst (λ (l : Option ℕ). Has h (border_roots l g.upper)) (sym p) (subst (λ (u : Option ℕ). Has h (border_roots (Some e) u)) (sym q) (inl w)))
 
 -- ---- the half-edge that faces a tube
 tag_case : (p : runs.Part) (g h : Half) (c : ℕ) → tag (facing_of p g) c h ≡ on_one_side h g (tube_tag p c)

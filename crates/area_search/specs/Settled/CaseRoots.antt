@@ -3,6 +3,7 @@
 use Rattle.std.specs.Prelude.{◌≡◌, ◌↔◌, ℕ, zero, suc, ◌<◌, Bool, true, false, List, [], ◌∷◌, ◌++◌}
 use Rattle.std.specs.Prelude.{length, slice_index_or, ⊤}
 use Rattle.std.specs.List.{flat_map}
+use Rattle.faces.specs.Joins.{IsBorder, IsSmall}
 use Rattle.half_edges.specs.HalfEdges.{over_of, under_of}
 use Rattle.plane.specs.Runs.Gaps.{Gap}
 use Rattle.tubes.specs.declared.kinds.Facing.{Facing}
@@ -14,7 +15,7 @@ use Rattle.area_search.specs.declared.settled.case.Spot.{Spot}
 use Rattle.area_search.specs.declared.settled.case.Spot.TheVariants as spot
 use Rattle.area_search.specs.declared.settled.case_roots.Chains.{Chains}
 use Rattle.area_search.specs.Settled.Cases.{spot_at}
-use Rattle.area_search.specs.Settled.Writing.{IsSmall, cell_roots, over_some, under_some}
+use Rattle.area_search.specs.Settled.Writing.{over_some, under_some}
 
 abbrev pub no_owner : Owner
 no_owner = record { curve = 0; part = part.Straight }
@@ -86,14 +87,16 @@ IsSmallSpot (spot.On c) = ⊤
 IsSmallSpot (spot.InTube c inside) = ⊤
 
 -- at edges of tubes, at the border, and beside the points in cells
-abbrev pub case_roots : List Facing → List Owner → Chains → List Gap → List Spot → List ℕ
-case_roots facings owners chains cells spots =
+abbrev pub case_roots : List Facing → List Owner → Chains → List ℕ → List Spot → List ℕ
+case_roots facings owners chains border spots =
     roots_to (tube_roots facings owners chains) (length facings)
-    ++ (flat_map cell_roots cells ++ flat_map spot_roots spots)
+    ++ (border ++ flat_map spot_roots spots)
 
--- The roots are those of chains that are claimed rightly.
+-- The roots are those of chains that are claimed rightly and of a border that is listed rightly.
 pub record AreCaseRoots (facings : List Facing) (owners : List Owner) (curves : ℕ)
     (cells : List Gap) (spots : List Spot) (roots : List ℕ) : Type 0 where
   pub chains : Chains
   pub are_chains : AreChains spots (length spots) curves chains
-  pub roots_are : roots ≡ case_roots facings owners chains cells spots
+  pub border : List ℕ
+  pub border_is : IsBorder cells border
+  pub roots_are : roots ≡ case_roots facings owners chains border spots

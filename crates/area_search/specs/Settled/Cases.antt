@@ -4,9 +4,9 @@ use Rattle.std.specs.Prelude.{◌≡◌, ℕ, ◌*◌, ◌<◌, ◌≤◌, true,
 use Rattle.std.specs.Prelude.{List, [], ◌++◌, length, map, slice_index, slice_index_or, ⊤}
 use Rattle.event_mesh.specs.Turned.{IsTurned}
 use Rattle.faces.specs.Joined.{AreKnown}
+use Rattle.faces.specs.Joins.{AreJoins}
 use Rattle.half_edges.specs.HalfEdges.{HalfEdges, size}
 use Rattle.half_edges.specs.Meshes.{IsMesh}
-use Rattle.line_sweep.specs.Kinds.{gaps_of}
 use Rattle.line_sweep.specs.Sweeping.{HasTimetable}
 use Rattle.plane.specs.CurveRuns.FacedTubes.{IsFirstOn, LiesInTube, faced}
 use Rattle.plane.specs.CurveRuns.Levels.{IsSettledDrawing, beside_inner, beside_outer}
@@ -18,7 +18,7 @@ use Rattle.plane.specs.Forms.Vectors.{point}
 use Rattle.plane.specs.Rule.Curves.{arc}
 use Rattle.plane.specs.Rule.HalfArcs.{power}
 use Rattle.plane.specs.Rule.Plans.{Plan, curve, object, plan}
-use Rattle.plane.specs.Runs.Gaps.{Gap, closed_gaps}
+use Rattle.plane.specs.Runs.Gaps.{closed_gaps}
 use Rattle.plane.specs.Runs.Moves.{Fit, Move, steps_from}
 use Rattle.plane.specs.declared.kinds.Edge.{Edge}
 use Rattle.plane.specs.declared.kinds.Placed.{Placed}
@@ -132,13 +132,11 @@ pub record HasRunFaces (d : Plan) (level : ℕ) (vs : List Move) (mesh : HalfEdg
   pub below : (h : ℕ) → h < size mesh → slice_index mesh.face h < count
   pub some : 0 < count
 
--- The mesh is that of the run, all events turned, and the cells are those of the run.
-pub record IsRunMesh (d : Plan) (level : ℕ) (vs : List Move) (cells : List Gap)
-    (mesh : HalfEdges) : Type 0 where
+-- The mesh is that of the run, all events turned, and the half-edges of its cells are in it.
+pub record IsRunMesh (d : Plan) (level : ℕ) (vs : List Move) (mesh : HalfEdges) : Type 0 where
   pub turned : IsTurned (length (edges_at d level)) (edge_at d level) (steps_from [] vs) mesh
       (length (steps_from [] vs))
   pub mesh_is : IsMesh mesh
-  pub cells_are : cells ≡ closed_gaps vs
   pub known : AreKnown (size mesh) (closed_gaps vs)
 
 -- The face of a point by its spot: that over the edge under its cell, 0 where there is none; in a
@@ -168,7 +166,7 @@ level_of r = r.settled.now.level
 
 -- Of one complete run of the edges of a drawing that the level settles, by their timetable: the
 -- objects' points lie at the spots, none of them on a curve, and the places at theirs; and the mesh
--- with its faces, the cells and the positions are those of the run.
+-- with its faces, the joins of the cells and the positions are those of the run.
 pub record IsSettledRun (r : SettledRun) : Type 0 where
   pub vs : List Move
   pub settled : IsCaseOf r.settled.now vs
@@ -176,5 +174,6 @@ pub record IsSettledRun (r : SettledRun) : Type 0 where
   pub placed : ArePlacedOff (plan_of r) (level_of r) vs r.spots.now
   pub places : AreSpotsOf (plan_of r) (level_of r) vs r.places.now r.place_spots.now
   pub faces : HasRunFaces (plan_of r) (level_of r) vs r.labelled.now.mesh r.labelled.now.count
-  pub outline : IsRunMesh (plan_of r) (level_of r) vs (gaps_of r.cells.now) r.labelled.now.mesh
+  pub outline : IsRunMesh (plan_of r) (level_of r) vs r.labelled.now.mesh
+  pub joins : AreJoins (size r.labelled.now.mesh) (closed_gaps vs) r.joins.now
   pub positions_are : r.positions.items ≡ positions_of vs

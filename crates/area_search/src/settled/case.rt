@@ -1,6 +1,6 @@
 // A drawing that a level settles, where its points lie, and what is kept of its run.
-use faces::Labelled;
-use line_sweep::{Cell, Swept};
+use faces::{Joins, Labelled};
+use line_sweep::Swept;
 use plane::{Drawing, Edge, Point};
 use tubes::{Facing, Owner};
 
@@ -25,10 +25,10 @@ pub(crate) struct SweptDrawing<'a> {
     pub run: &'a Swept,
 }
 
-/// What is kept of such a run when its edges and its events are freed: where the objects' points
-/// lie, none of them on a curve, and where the places lie that are asked for; the mesh of the
-/// half-edges with its faces; the cells; and the positions of the events. What is answered of a
-/// settled drawing is read off it.
+/// What is kept of such a run when its edges, its events and its cells are freed: where the objects'
+/// points lie, none of them on a curve, and where the places lie that are asked for; the mesh of the
+/// half-edges with its faces; what joins these half-edges; and the positions of the events. What is
+/// answered of a settled drawing is read off it.
 #[derive(Drop)]
 pub(crate) struct SettledRun<'a> {
     pub settled: &'a SettledDrawing<'a>,
@@ -36,7 +36,7 @@ pub(crate) struct SettledRun<'a> {
     pub places: &'a [Point],
     pub place_spots: &'a [Spot],
     pub labelled: &'a Labelled,
-    pub cells: &'a [Cell],
+    pub joins: &'a Joins,
     pub positions: Vec<u32>,
 }
 

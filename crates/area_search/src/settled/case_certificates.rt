@@ -12,7 +12,7 @@ use super::case::SettledRun;
 use super::case_notes::{named_notes, spot_places};
 use super::case_roots::roots_of_case;
 use certificate::{Certificate, HalfNote, PointPlace};
-use faces::links;
+use faces::links_by_joins;
 use ports::{Memory, Name};
 use std::alloc::Global;
 
@@ -20,7 +20,7 @@ use std::alloc::Global;
 /// the events, the place of each point, and a note for each half-edge, with the label of the tube
 /// that it faces or the owner of its face. Its names are empty. The only error is out of memory.
 /// It takes time linear in the edges, the cells, the curves and the points, and for a while
-/// what `faces::links` takes, 2 bytes a curve and 4 a root.
+/// what `faces::links_by_joins` takes, 2 bytes a curve and 4 a root.
 pub(crate) fn certify_run(
     alloc: Global,
     run: SettledRun,
@@ -42,10 +42,10 @@ pub(crate) fn certify_run(
         settled.drawing.curves.len(),
         settled.facings,
         settled.owners,
-        run.cells,
+        run.joins.border(),
         run.spots,
     )?;
-    let found = links(alloc, run.labelled, run.cells, &roots)?;
+    let found = links_by_joins(alloc, run.labelled, run.joins, &roots)?;
     let notes = named_notes(
         found,
         settled.drawing.points.len() as u32,

@@ -1,20 +1,18 @@
 // The half-edges from which the links of a settled drawing begin.
 ghost use Rattle.std.specs.Prelude.{All, ◌≡◌, ℕ, ◌+◌, ◌++◌, ◌^◌, ◌<◌, Bool, true, false};
-ghost use Rattle.std.specs.Prelude.{IfOk, OnOk, length, slice_index_or};
+ghost use Rattle.std.specs.Prelude.{List, IfOk, OnOk, length, slice_index_or};
 ghost use Rattle.std.specs.List.{flat_map};
-ghost use Rattle.line_sweep.specs.Kinds.{gaps_of};
+ghost use Rattle.faces.specs.Joins.{IsBorder};
+ghost use Rattle.plane.specs.Runs.Gaps.{Gap};
 ghost use Rattle.area_search.specs.Settled.CaseRoots.{AreCaseRoots, AreChains, AreMarked};
 ghost use Rattle.area_search.specs.Settled.CaseRoots.{IsSmallSpot};
 ghost use Rattle.area_search.specs.Settled.CaseRoots.{IsSpotIn, is_marked, owner_at, roots_to};
 ghost use Rattle.area_search.specs.Settled.CaseRoots.{spot_roots, tube_roots, tube_sides};
 ghost use Rattle.area_search.specs.Settled.Cases.{spot_at};
-ghost use Rattle.area_search.specs.Settled.Writing.{IsSmallCell, cell_roots};
 ghost use Rattle.area_search.specs.declared.settled.case.Spot.TheVariants as spot;
 
 use super::case::Spot;
-use super::writing::add_border;
 use half_edges::HalfEdgeId;
-use line_sweep::Cell;
 use ports::Memory;
 use std::alloc::Global;
 use tubes::{Facing, Owner, Part};
@@ -29,29 +27,28 @@ struct Chains {
 
 /// The half-edges that face a tube from within, those on the other side of a chain on whose side of
 /// the circle a point lies in the tube, those at the border, and those beside the cells of points.
-/// It takes time linear in the edges, the cells, the curves and the points, 2 bytes a curve and 4 a
-/// half-edge that it gives.
+/// It takes time linear in the edges, the curves and the points, 2 bytes a curve and 4 a half-edge
+/// that it gives.
 pub(crate) fn roots_of_case(
     alloc: Global,
     curves: usize,
     facings: &[Facing],
     owners: &[Owner],
-    cells: &[Cell],
+    border: &[HalfEdgeId],
     spots: &[Spot],
 ) -> Result<Vec<HalfEdgeId>, Memory>
     requires few { length facings.now < 2 ^ 31 }
     requires count { length owners.now ≡ length facings.now }
     requires owners { (e : ℕ) → e < length owners.now → (owner_at owners.now e).curve < curves }
-    requires cells { All IsSmallCell cells.now }
     requires small { All IsSmallSpot spots.now }
     requires tubes { All (IsSpotIn curves) spots.now }
-    ensures { IfOk result (λ roots. AreCaseRoots facings.now owners.now curves (gaps_of cells.now)
-        spots.now roots.items) }
+    ensures { IfOk result (λ roots. (cells : List Gap) → IsBorder cells border.now
+        → AreCaseRoots facings.now owners.now curves cells spots.now roots.items) }
 {
     let chains = chains_of(alloc, curves, spots)?;
     let mut roots = Vec::new(alloc);
     add_tubes(&mut roots, facings, owners, &chains)?;
-    add_border(&mut roots, cells)?;
+    roots.extend_from_slice(border)?;
     add_spots(&mut roots, spots)?;
     Ok(roots)
 }

@@ -24,8 +24,8 @@ use ports::Memory;
 use std::alloc::Global;
 
 /// The faces of a drawing by a complete run of its edges at a level that settles it. The edges are
-/// freed when the points are placed, and the events when the mesh is made. The only error is out of
-/// memory.
+/// freed when the points are placed, and the events and the cells when the mesh is made. The only
+/// error is out of memory.
 pub(crate) fn faces_of_drawing(
     alloc: Global,
     settled: &SettledDrawing,

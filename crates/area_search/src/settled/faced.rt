@@ -14,7 +14,7 @@ use super::case::{SettledDrawing, Spot};
 use super::finishing::{cells_alone, object_spots};
 use super::meshing::mesh_of_run;
 use crate::kinds::FacedDrawing;
-use faces::{Labelled, label};
+use faces::{Labelled, label_with_joins};
 use half_edges::{HalfEdgeId, Mesh};
 use line_sweep::{Events, Swept};
 use plane::{Edge, Point};
@@ -22,7 +22,7 @@ use ports::Memory;
 use std::alloc::Global;
 
 /// The faces of a drawing of straights by a complete run of its edges, which are freed when the
-/// points are placed, and the events when the mesh is made.
+/// points are placed, and the events and the cells when the mesh is made.
 pub(crate) fn faces_of_run(
     alloc: Global,
     settled: &SettledDrawing,
@@ -75,10 +75,10 @@ pub(super) fn labelled_run(
 {
     let mesh = mesh_of_run(alloc, settled.owners.len(), &swept)?;
     let cells = cells_alone(swept);
-    let labelled = label(alloc, mesh, &cells)?;
+    let joined = label_with_joins(alloc, mesh, cells)?;
     // `edges` says that it is a mesh.
-    let _ = labelled.mesh.edges();
-    Ok(labelled)
+    let _ = joined.labelled.mesh.edges();
+    Ok(joined.labelled)
 }
 
 /// The face over the edge under each of these cells; 0 where there is none.

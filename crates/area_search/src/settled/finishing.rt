@@ -24,7 +24,7 @@ use super::spots::{first_spot_on, spots_at};
 use super::writing::positions;
 use crate::kinds::{AreaAnswer, AreaFinding, FoundObjects, without_regions};
 use crate::points::points_at;
-use faces::label;
+use faces::label_with_joins;
 use line_sweep::{Cell, Swept};
 use plane::{Edge, Point};
 use ports::Memory;
@@ -34,7 +34,7 @@ use std::alloc::Global;
 /// first fault, or a certificate with empty names, with the region of each of these places. The
 /// only error is out of memory. It takes what placing the points, the mesh, its faces and the links
 /// of a certificate take, one after another; before the mesh is made, the edges are freed, and
-/// before its faces are labelled the events of the run.
+/// before its faces are labelled the events and the cells of the run.
 pub(crate) fn answer_settled(
     alloc: Global,
     settled: &SettledDrawing,
@@ -153,16 +153,16 @@ fn answer_placed(
     let mesh = mesh_of_run(alloc, settled.owners.len(), &swept)?;
     let positions = positions(alloc, &swept.events)?;
     let cells = cells_alone(swept);
-    let labelled = label(alloc, mesh, &cells)?;
+    let joined = label_with_joins(alloc, mesh, cells)?;
     // `edges` says that it is a mesh.
-    let _ = labelled.mesh.edges();
+    let _ = joined.labelled.mesh.edges();
     let run = SettledRun {
         settled,
         spots,
         places,
         place_spots,
-        labelled: &labelled,
-        cells: &cells,
+        labelled: &joined.labelled,
+        joins: &joined.joins,
         positions,
     };
     answer_run(alloc, run)

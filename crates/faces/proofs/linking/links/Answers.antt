@@ -1,15 +1,21 @@
-use Rattle.std.proofs.Common.{◌<◌, ℕ, List, sym, subst}
-use Rattle.plane.specs.Lists.{Has}
-use Rattle.half_edges.specs.HalfEdges.{HalfEdges, size}
-use Rattle.line_sweep.specs.declared.kinds.Cell.{Cell}
+use Rattle.std.proofs.Common.{ℕ, arith, subst}
 use Rattle.line_sweep.specs.Kinds.{gaps_of}
-use Rattle.faces.specs.Ranking.{AreRooted}
+use Rattle.faces.specs.Joins.{AreJoins}
+use Rattle.faces.proofs.CellPairs.{known_more}
+use Rattle.faces.proofs.SameJoins.{if_ok}
 use Rattle.faces.proofs.linking.links.Goals as goal
 
-pub ranks_by_number-requires-clause-within : goal.ranks_by_number-requires-clause-within
-ranks_by_number-requires-clause-within c = subst (λ (m : HalfEdges). (h : ℕ) → Has h c.args.roots.now → h < size m) (sym c.in_ok-graph.ensures.mesh) c.requires.within
+pub new-requires-clause-known : goal.new-requires-clause-known
+new-requires-clause-known c = known_more _ _ (gaps_of c.args.cells.now) (let e = c.halves_of.ensures.size in omega (arith, e)) c.requires.known
 
-pub ranks_by_number-requires-clause-rooted : goal.ranks_by_number-requires-clause-rooted
-ranks_by_number-requires-clause-rooted c =
-    subst (λ (m : HalfEdges). AreRooted m (gaps_of c.in_ok-graph.graph.cells.now) c.args.roots.now) (sym c.in_ok-graph.ensures.mesh)
-    (subst (λ (cs : List Cell). AreRooted c.args.labelled.now.mesh (gaps_of cs) c.args.roots.now) (sym c.in_ok-graph.ensures.cells) c.requires.rooted)
+pub links_by_joins-requires-clause-joins : goal.links_by_joins-requires-clause-joins
+links_by_joins-requires-clause-joins c = (
+  gaps_of c.args.cells.now,
+  subst (λ (n : ℕ). AreJoins n (gaps_of c.args.cells.now) c.in_ok-joins.joins) c.halves_of.ensures.size c.in_ok-joins.ensures,
+  c.requires.rooted,
+)
+
+pub returns : goal.returns
+returns c = if_ok _ _ c.links_by_joins.result
+    (λ notes f. f (gaps_of c.args.cells.now) (subst (λ (n : ℕ). AreJoins n (gaps_of c.args.cells.now) c.in_ok-joins.joins) c.halves_of.ensures.size c.in_ok-joins.ensures))
+    c.links_by_joins.ensures

@@ -1,13 +1,13 @@
 use Rattle.std.proofs.Common.{◌≡◌, ℕ, ◌+◌, ◌<◌, get_or}
 use Rattle.half_edges.specs.HalfEdges.{next_of, prev_of}
-use Rattle.line_sweep.specs.Kinds.{gaps_of}
 use Rattle.faces.specs.Searching.{IsKept}
 use Rattle.faces.specs.Ranking.{AreLater, HasRankMost, IsRanking, first_of, first_rank}
+use Rattle.faces.specs.Joins.{cells_of}
 use Rattle.faces.proofs.ranks.pass.Given as goal
 
 abbrev pub invariant-loop-g : goal.invariant-loop-g
 invariant-loop-g l = record {
-  ranking : IsRanking l.graph.mesh.now (gaps_of l.graph.cells.now) (first_of l.fn.search) (first_rank l.fn.search) l.search;
+  ranking : IsRanking l.graph.mesh.now (cells_of l.graph.joins.now) (first_of l.fn.search) (first_rank l.fn.search) l.search;
   same : l.search.passed ≡ l.fn.search.passed;
   kept : IsKept l.fn.search.ranks.items l.search.ranks.items;
   later : AreLater l.fn.search.ranks.items l.search.ranks.items;

@@ -1,13 +1,13 @@
 use Rattle.std.proofs.Common.{◌≡◌, ◌-◌, ◌<◌, ℕ, get_or}
 use Rattle.plane.specs.Lists.{Has}
 use Rattle.half_edges.specs.HalfEdges.{size}
-use Rattle.line_sweep.specs.Kinds.{gaps_of}
 use Rattle.faces.specs.Ranking.{HasRanked}
+use Rattle.faces.specs.Joins.{cells_of}
 use Rattle.faces.proofs.ranks.ranks_from.Given as goal
 
 abbrev pub invariant-loop-search : goal.invariant-loop-search
 invariant-loop-search l = record {
-  ranked : HasRanked l.graph.mesh.now (gaps_of l.graph.cells.now) l.search;
+  ranked : HasRanked l.graph.mesh.now (cells_of l.graph.joins.now) l.search;
   root : (h : ℕ) → Has h l.roots → get_or l.search.ranks.items h 0 ≡ 0;
   zero : (h : ℕ) → h < size l.graph.mesh.now → get_or l.search.ranks.items h 0 ≡ 0 → Has h l.roots;
 }

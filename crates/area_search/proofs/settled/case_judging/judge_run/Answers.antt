@@ -1,6 +1,5 @@
 use Rattle.std.proofs.Common.{◌≡◌, ℕ, Option, Some, None, List, ◌<◌, length, slice_index, refl, ap, sym, subst, ◌∙◌, arith}
 use Rattle.std.proofs.lemmas.List.{length-map}
-use Rattle.line_sweep.specs.Kinds.{gaps_of}
 use Rattle.plane.specs.Rule.Plans.{plan}
 use Rattle.plane.specs.declared.kinds.Curve.{Curve}
 use Rattle.area_search.specs.Settled.Cases.{spot_face, spot_faces, edges_of}
@@ -25,13 +24,13 @@ pub faces_beside-requires-clause-few : goal.faces_beside-requires-clause-few
 faces_beside-requires-clause-few c =
     let s = c.args.run.now.settled.now in
     few_edges (plan s.drawing.now) s.level (edges_of s) s.owners.now s.facings.now c.requires.run.vs c.requires.run.settled
-    c.args.run.now.labelled.now.mesh (gaps_of c.args.run.now.cells.now) c.requires.run.outline
+    c.args.run.now.labelled.now.mesh c.requires.run.outline
 
 pub faces_of_spots-requires-clause-few : goal.faces_of_spots-requires-clause-few
 faces_of_spots-requires-clause-few c =
     let s = c.args.run.now.settled.now in
     few_edges (plan s.drawing.now) s.level (edges_of s) s.owners.now s.facings.now c.requires.run.vs c.requires.run.settled
-    c.args.run.now.labelled.now.mesh (gaps_of c.args.run.now.cells.now) c.requires.run.outline
+    c.args.run.now.labelled.now.mesh c.requires.run.outline
 
 pub faces_of_spots-requires-clause-known : goal.faces_of_spots-requires-clause-known
 faces_of_spots-requires-clause-known c =

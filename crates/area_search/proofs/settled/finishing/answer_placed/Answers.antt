@@ -1,6 +1,8 @@
 use Rattle.std.proofs.Common.{sym, subst, ◌∙◌, ap, refl, List, length}
 use Rattle.half_edges.specs.Meshes.{IsMesh}
 use Rattle.faces.specs.Joined.{AreKnown}
+use Rattle.faces.specs.Joins.{AreJoins}
+use Rattle.plane.specs.Runs.Gaps.{Gap, closed_gaps}
 use Rattle.half_edges.specs.HalfEdges.{HalfEdges, size}
 use Rattle.line_sweep.specs.Kinds.{gaps_of}
 use Rattle.line_sweep.specs.declared.kinds.Cell.{Cell}
@@ -9,9 +11,9 @@ use Rattle.area_search.specs.Settled.Cases.{HasRunFaces, IsRunMesh, edges_of}
 use Rattle.area_search.proofs.SettledLemmas.CaseMesh.{has_run_faces, known_cells, owner_edges, owner_few, owner_mesh, run_mesh}
 use Rattle.area_search.proofs.settled.finishing.answer_placed.Goals as goal
 
-pub label-requires : goal.label-requires
-label-requires c = record {
-  known = subst (λ (cs : List Cell). AreKnown (size c.in_ok-mesh.mesh) (gaps_of cs)) (sym (c.deref.ensures.value ∙ c.cells_alone-cells.ensures))
+pub label_with_joins-requires : goal.label_with_joins-requires
+label_with_joins-requires c = record {
+  known = subst (λ (cs : List Cell). AreKnown (size c.in_ok-mesh.mesh) (gaps_of cs)) (sym c.cells_alone-cells.ensures)
       (known_cells (plan c.args.settled.now.drawing.now) c.args.settled.now.level (edges_of c.args.settled.now) c.args.settled.now.owners.now c.args.settled.now.facings.now c.args.swept.events c.requires.settled
       (gaps_of c.args.swept.cells.items) c.in_ok-mesh.mesh c.requires.cells
       (owner_mesh (plan c.args.settled.now.drawing.now) c.args.settled.now.level (edges_of c.args.settled.now) c.args.settled.now.owners.now c.args.settled.now.facings.now c.args.swept.events c.requires.settled (length c.args.settled.now.owners.now) refl c.in_ok-mesh.mesh c.in_ok-mesh.ensures.turned).count);
@@ -22,9 +24,8 @@ answer_run-requires-clause-run c =
     let d = plan c.args.settled.now.drawing.now in
     let level = c.args.settled.now.level in
     let vs = c.args.swept.events in
-    let l = c.in_ok-labelled.ensures in
-    let same = ap gaps_of (c.deref.ensures.value ∙ c.cells_alone-cells.ensures) in
-    let also = ap gaps_of (c.deref-2.ensures.value ∙ c.cells_alone-cells.ensures) in
+    let l = c.in_ok-joined.ensures in
+    let same = ap gaps_of c.cells_alone-cells.ensures ∙ c.requires.cells in
     let t = owner_mesh (plan c.args.settled.now.drawing.now) c.args.settled.now.level (edges_of c.args.settled.now) c.args.settled.now.owners.now c.args.settled.now.facings.now c.args.swept.events c.requires.settled (length c.args.settled.now.owners.now) refl
     c.in_ok-mesh.mesh c.in_ok-mesh.ensures.turned in
     record {
@@ -33,12 +34,14 @@ answer_run-requires-clause-run c =
       timed = c.requires.timed;
       placed = c.requires.placed;
       places = c.requires.places;
-      faces = subst (λ (m : HalfEdges). HasRunFaces d level vs m c.in_ok-labelled.labelled.count) (sym l.unchanged)
+      faces = subst (λ (m : HalfEdges). HasRunFaces d level vs m c.in_ok-joined.joined.labelled.count) (sym l.unchanged)
           (has_run_faces d level (edges_of c.args.settled.now) c.args.settled.now.owners.now c.args.settled.now.facings.now vs c.requires.settled
-          c.in_ok-mesh.mesh t c.in_ok-labelled.labelled.mesh.face _ c.in_ok-labelled.labelled.count (same ∙ c.requires.cells) l.faces l.count);
-      outline = subst (IsRunMesh d level vs _) (sym l.unchanged)
+          c.in_ok-mesh.mesh t c.in_ok-joined.joined.labelled.mesh.face _ c.in_ok-joined.joined.labelled.count same l.faces l.count);
+      outline = subst (IsRunMesh d level vs) (sym l.unchanged)
           (run_mesh d level (edges_of c.args.settled.now) c.args.settled.now.owners.now c.args.settled.now.facings.now vs c.requires.settled
-          c.in_ok-mesh.mesh t c.in_ok-labelled.labelled.mesh.face _ (also ∙ c.requires.cells) (subst IsMesh l.unchanged c.edges.ensures.kept));
+          c.in_ok-mesh.mesh t c.in_ok-joined.joined.labelled.mesh.face (subst IsMesh l.unchanged c.edges.ensures.kept));
+      joins = subst (λ (m : HalfEdges). AreJoins (size m) (closed_gaps vs) c.in_ok-joined.joined.joins) (sym l.unchanged)
+          (subst (λ (gs : List Gap). AreJoins (size c.in_ok-mesh.mesh) gs c.in_ok-joined.joined.joins) same l.joins);
       positions_are = c.in_ok-positions.ensures;
     }
 

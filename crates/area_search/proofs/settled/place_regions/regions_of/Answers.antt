@@ -1,5 +1,4 @@
 use Rattle.std.proofs.Common.{length, sym, subst}
-use Rattle.line_sweep.specs.Kinds.{gaps_of}
 use Rattle.plane.specs.Rule.Plans.{plan}
 use Rattle.area_search.specs.Settled.CaseSides.{AreBeside}
 use Rattle.area_search.specs.Settled.Cases.{edges_of}
@@ -13,7 +12,7 @@ regions_of_spots-requires-clause-few c =
     let r = c.args.run.now in
     let s = r.settled.now in
     few_edges (plan s.drawing.now) s.level (edges_of s) s.owners.now s.facings.now
-    c.requires.run.vs c.requires.run.settled r.labelled.now.mesh (gaps_of r.cells.now)
+    c.requires.run.vs c.requires.run.settled r.labelled.now.mesh
     c.requires.run.outline
 
 pub regions_of_spots-requires-clause-besides : goal.regions_of_spots-requires-clause-besides

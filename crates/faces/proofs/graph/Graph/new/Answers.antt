@@ -1,7 +1,11 @@
-use Rattle.std.proofs.Common.{arith}
-use Rattle.line_sweep.specs.Kinds.{gaps_of}
-use Rattle.faces.proofs.CellPairs.{known_more}
+use Rattle.half_edges.specs.HalfEdges.{size}
+use Rattle.faces.proofs.JoinedCells.{joins_again}
 use Rattle.faces.proofs.graph.Graph.new.Goals as goal
 
-pub new-requires-clause-known : goal.new-requires-clause-known
-new-requires-clause-known c = known_more _ _ (gaps_of c.args.cells.now) (let e = c.halves_of.ensures.size in omega (arith, e)) c.requires.known
+pub returns-clause-graph : goal.returns-clause-graph
+returns-clause-graph c =
+    let (cells, joins) = c.requires.joins in
+    record {
+      mesh_is = c.halves_of.ensures.mesh;
+      joins = joins_again (size c.args.mesh.now) cells c.args.joins.now joins c.halves_of.ensures.mesh.pairs;
+    }
