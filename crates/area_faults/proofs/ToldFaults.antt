@@ -5,6 +5,7 @@ use Rattle.std.proofs.lemmas.List.Elements.{Contains-get_or}
 use Rattle.plane.specs.Rule.BadPairs.{IsBadPair}
 use Rattle.plane.specs.Rule.Plans.{Plan}
 use Rattle.near_pairs.specs.Boxes.{mark_of}
+use Rattle.area_search.specs.Answers.{HasNoBadPair}
 use Rattle.area_search.specs.Unsettled.MarkedPoints.{ArePairsOn}
 use Rattle.fault_lists.specs.FaultLists.{AreMeetings, IsMet}
 use Rattle.fault_lists.specs.DrawingFaces.{HasFaces}
@@ -81,6 +82,18 @@ all_out d ms i l = ((λ e. inr refl), (λ e. refl))
 
 pub none_out : (d : Plan) (ms : List MeetingAt) → ms ≡ [] → AreLeftOut (length d.curves) ms false (λ i. false)
 none_out d ms e i l = ((λ q. clash q), (λ q. elim q [ inl m ↦ absurd (none m.0 (subst (λ (xs : List MeetingAt). Contains xs m.0) e m.1)) | inr f ↦ clash f ]))
+  where
+    none : (m : MeetingAt) → Contains [] m → ⊥
+    none m (k, h, q) = omega (arith, h)
+
+-- where no two curves meet badly, the empty list has all pairs that do
+pub no_meetings : (d : Plan) (ms : List MeetingAt) → ms ≡ [] → HasNoBadPair d → AreMeetings d ms
+no_meetings d ms e clear = subst (AreMeetings d) (sym e) (record {
+  bad = λ m c. absurd (none m c);
+  near = λ m c. absurd (none m c);
+  all = λ i j p. absurd (clear i j p);
+  rise = λ k l. absurd (omega (arith, l));
+})
   where
     none : (m : MeetingAt) → Contains [] m → ⊥
     none m (k, h, q) = omega (arith, h)

@@ -9,7 +9,7 @@ ghost use Rattle.area_faults.specs.MeetingMarks.{AreMeetingMarks, AreMoreMarks, 
 ghost use Rattle.area_faults.specs.MeetingMarks.{HasArcMarks};
 
 use line_sweep::{BadEdges, SweepRefusal, clashing, sweep};
-use meetings::half_arc_marks;
+use meetings::{BadPair, half_arc_marks};
 use plane::{Curve, Drawing, Edge};
 use ports::Memory;
 use std::alloc::Global;
@@ -20,11 +20,16 @@ const ROUNDS: u32 = 8;
 
 /// Marks for curves of which each pair that meets badly has one: half arcs, and straights without
 /// which no two of the others are bad; or all curves, where such straights are not found. The only
-/// error is out of memory. It takes two sweeps of the straights, up to eight times.
-pub(crate) fn meeting_marks(alloc: Global, drawing: &Drawing) -> Result<Vec<bool>, Memory>
+/// error is out of memory. It takes two sweeps of the straights, up to nine times, of which the
+/// first is left out where two curves are known that meet badly and all are straights.
+pub(crate) fn meeting_marks(
+    alloc: Global,
+    drawing: &Drawing,
+    known: Option<BadPair>,
+) -> Result<Vec<bool>, Memory>
     ensures { IfOk result (λ marks. AreMeetingMarks (plan drawing.now) marks.items) }
 {
-    let mut marks = half_arc_marks(alloc, &drawing.curves)?;
+    let mut marks = first_marks(alloc, drawing, known)?;
     for _ in 0..ROUNDS {
         match next_marks(alloc, drawing, &marks)? {
             Some(next) => marks = next,
@@ -33,6 +38,42 @@ pub(crate) fn meeting_marks(alloc: Global, drawing: &Drawing) -> Result<Vec<bool
     }
     let all = all_marks(alloc, drawing.curves.len())?;
     Ok(all)
+}
+
+/// Marks for the half arcs, and where there are none and two straights are known that are bad, for
+/// those that a sweep marks which goes past bad edges.
+fn first_marks(
+    alloc: Global,
+    drawing: &Drawing,
+    known: Option<BadPair>,
+) -> Result<Vec<bool>, Memory>
+    ensures { IfOk result (λ marks. HasArcMarks (plan drawing.now) marks.items) }
+{
+    let marks = half_arc_marks(alloc, &drawing.curves)?;
+    match known {
+        Some(pair) => marks_by_known(alloc, drawing, marks, pair),
+        None => Ok(marks),
+    }
+}
+
+fn marks_by_known(
+    alloc: Global,
+    drawing: &Drawing,
+    marks: Vec<bool>,
+    pair: BadPair,
+) -> Result<Vec<bool>, Memory>
+    requires { HasArcMarks (plan drawing.now) marks.items }
+    ensures { IfOk result (λ more. HasArcMarks (plan drawing.now) more.items) }
+{
+    let edges = unmarked_edges(alloc, &drawing.curves, &marks)?;
+    if edges.numbers.len() < drawing.curves.len() {
+        return Ok(marks);
+    }
+    let known = BadEdges {
+        first: pair.first,
+        second: pair.second,
+    };
+    with_clashing(alloc, &edges, &marks, known)
 }
 
 fn all_marks(alloc: Global, count: usize) -> Result<Vec<bool>, Memory>

@@ -9,7 +9,7 @@ ghost use Rattle.area_faults.specs.Meetings.{AreEntries, IsMeeting, IsMeetingLis
 use super::marks::meeting_marks;
 use super::meeting_places::meeting_place;
 use fault_lists::MeetingAt;
-use meetings::{curve_reaches, is_bad};
+use meetings::{BadPair, curve_reaches, is_bad};
 use near_pairs::{NearPair, PairTest, all};
 use plane::Drawing;
 use ports::Memory;
@@ -47,14 +47,19 @@ impl<'a> PairTest for MeetingTest<'a> {
 }
 
 /// All pairs of curves that meet badly, each with a place; or some of them, where there are more
-/// than 1,000,000. The only error is out of memory. It takes the sweeps of `meeting_marks`, then
+/// than 1,000,000. Where two straights are known that meet badly and all curves are straights, a
+/// sweep is saved. The only error is out of memory. It takes the sweeps of `meeting_marks`, then
 /// the time of the marked curves times those that begin within their boxes along x, or the other
 /// way round; 36 bytes for each curve beside a sweep's, 65 bytes after it, and 40 for each pair.
-pub fn all_meetings(alloc: Global, drawing: &Drawing) -> Result<MeetingList, Memory>
+pub fn all_meetings(
+    alloc: Global,
+    drawing: &Drawing,
+    known: Option<BadPair>,
+) -> Result<MeetingList, Memory>
     ensures { IfOk result (IsMeetingList (plan drawing.now)) }
 {
     plane::arcs::boxes_of_bad_curves_meet();
-    let marks = meeting_marks(alloc, drawing)?;
+    let marks = meeting_marks(alloc, drawing, known)?;
     let boxes = curve_reaches(alloc, &drawing.curves)?;
     let test = MeetingTest { drawing };
     let pairs = all(alloc, &boxes, &marks, &test, MOST)?;

@@ -5,6 +5,7 @@ ghost use Rattle.plane.specs.Rule.Plans.{plan};
 ghost use Rattle.plane.specs.declared.kinds.CurveKind.TheVariants as kind;
 ghost use Rattle.tubes.specs.DrawnEdges.{AreStraights, nth_curve};
 ghost use Rattle.area_search.specs.Answers.{IsUnsettled};
+ghost use Rattle.area_search.specs.Level.LevelAnswers.{AreFacesOf};
 ghost use Rattle.fault_lists.specs.DrawingFaces.{HasFaces, IsNumbered};
 ghost use Rattle.fault_lists.specs.FaultLists.{AreMeetings};
 ghost use Rattle.area_faults.specs.Answers.{AreLeftOut, IsToldOf, IsToldWith};
@@ -16,9 +17,10 @@ use crate::meeting_lists::{MeetingList, all_meetings};
 use crate::one_face::one_open_face;
 use crate::point_list::all_on;
 use crate::rest::rest_faces;
-use area_search::{find_area, points_on_marked, settled_faces};
+use area_search::{SettledFaces, find_area, points_on_marked, settled_faces};
 use fault_lists::laws::numbers_tell_faults;
 use fault_lists::{DrawingFaces, Faults, MeetingAt, OnAt, face_faults};
+use meetings::BadPair;
 use plane::{Curve, CurveKind, Drawing};
 use ports::Memory;
 use std::alloc::Global;
@@ -32,52 +34,48 @@ pub fn all_faults(alloc: Global, drawing: &Drawing) -> Result<AreaFaults, Memory
     requires curves { length (plan drawing.now).curves ≤ 16000000 }
     ensures { IfOk result (IsToldOf drawing.now.tolerance (plan drawing.now)) }
 {
-    match all_meetings(alloc, drawing)? {
+    match settled_faces(alloc, drawing)? {
+        SettledFaces::Settled(faces) => faults_of_settled(alloc, drawing, &faces),
+        SettledFaces::Unsettled(bad) => faults_of_unsettled(alloc, drawing, bad),
+    }
+}
+
+// The faults of a drawing that some level settles, so that no two curves of it meet badly, by its
+// faces.
+fn faults_of_settled(
+    alloc: Global,
+    drawing: &Drawing,
+    faces: &DrawingFaces,
+) -> Result<AreaFaults, Memory>
+    requires { AreFacesOf (plan drawing.now) faces.now }
+    ensures { IfOk result (IsToldOf drawing.now.tolerance (plan drawing.now)) }
+{
+    let meetings = Vec::new(alloc);
+    let faults = told(alloc, drawing, meetings, faces, &[], false)?;
+    Ok(AreaFaults::Told(faults))
+}
+
+// The faults of a drawing that no level settles, in which perhaps two curves are known that meet
+// badly.
+fn faults_of_unsettled(
+    alloc: Global,
+    drawing: &Drawing,
+    known: Option<BadPair>,
+) -> Result<AreaFaults, Memory>
+    requires curves { length (plan drawing.now).curves ≤ 16000000 }
+    requires unsettled { IsUnsettled (plan drawing.now) }
+    ensures { IfOk result (IsToldOf drawing.now.tolerance (plan drawing.now)) }
+{
+    match all_meetings(alloc, drawing, known)? {
         MeetingList::Many(meetings) => Ok(AreaFaults::Many(meetings)),
         MeetingList::All(meetings) => {
             if are_straights(&drawing.curves) {
                 faults_of_rest(alloc, drawing, meetings)
             } else {
-                faults_with_arcs(alloc, drawing, meetings)
+                faults_without_faces(alloc, drawing, meetings)
             }
         }
     }
-}
-
-// The faults of a drawing with half arcs, by all pairs that meet badly.
-fn faults_with_arcs(
-    alloc: Global,
-    drawing: &Drawing,
-    meetings: Vec<MeetingAt>,
-) -> Result<AreaFaults, Memory>
-    requires curves { length (plan drawing.now).curves ≤ 16000000 }
-    requires meetings { AreMeetings (plan drawing.now) meetings.items }
-    ensures { IfOk result (IsToldOf drawing.now.tolerance (plan drawing.now)) }
-{
-    if meetings.is_empty() {
-        if let Some(faces) = settled_faces(alloc, drawing)? {
-            return faults_of_settled(alloc, drawing, meetings, &faces);
-        }
-    }
-    faults_without_faces(alloc, drawing, meetings)
-}
-
-// The faults of a drawing that some level settles and of which no two curves meet badly, by its
-// faces.
-fn faults_of_settled(
-    alloc: Global,
-    drawing: &Drawing,
-    meetings: Vec<MeetingAt>,
-    faces: &DrawingFaces,
-) -> Result<AreaFaults, Memory>
-    requires meetings { AreMeetings (plan drawing.now) meetings.items }
-    requires none { meetings.items ≡ [] }
-    requires numbered { IsNumbered faces.now }
-    requires faces { HasFaces (plan drawing.now) (λ i. false) faces.now }
-    ensures { IfOk result (IsToldOf drawing.now.tolerance (plan drawing.now)) }
-{
-    let faults = told(alloc, drawing, meetings, faces, &[], false)?;
-    Ok(AreaFaults::Told(faults))
 }
 
 // The faults of a drawing without some curves, by the faces of the others and the points on those.
@@ -141,7 +139,7 @@ fn faults_without_faces(
     meetings: Vec<MeetingAt>,
 ) -> Result<AreaFaults, Memory>
     requires curves { length (plan drawing.now).curves ≤ 16000000 }
-    requires unsettled { meetings.items ≡ [] → IsUnsettled (plan drawing.now) }
+    requires unsettled { IsUnsettled (plan drawing.now) }
     requires meetings { AreMeetings (plan drawing.now) meetings.items }
     ensures { IfOk result (IsToldOf drawing.now.tolerance (plan drawing.now)) }
 {

@@ -69,6 +69,6 @@ pub(crate) use at_fault::meeting;
 pub(crate) use cell_sides::mark_unpaired;
 pub(crate) use finding::settled_answer;
 pub use finding::{find_area, find_objects};
-pub use numbered_faces::settled_faces;
+pub use numbered_faces::{SettledFaces, settled_faces};
 pub(crate) use settled_runs::settled_facings;
 pub use straights::faces_of_straights;

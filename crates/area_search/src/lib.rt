@@ -62,7 +62,7 @@ mod settled;
 mod unsettled;
 
 pub use kinds::{AreaAnswer, AreaFinding, FacedDrawing, FoundObjects, Region};
-pub use level::{faces_of_straights, find_area, find_objects, settled_faces};
+pub use level::{SettledFaces, faces_of_straights, find_area, find_objects, settled_faces};
 pub use numbers::numbers_with;
 pub use settled::mesh_of_run;
 pub use unsettled::points_on_marked;

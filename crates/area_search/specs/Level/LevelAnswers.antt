@@ -1,13 +1,16 @@
 -- What is shown of one level.
-use Rattle.std.specs.Prelude.{◌≡◌, ℕ, ◌^◌, ◌<◌, Option, Some, None, List, length, ⊤}
+use Rattle.std.specs.Prelude.{◌≡◌, ℕ, ◌^◌, ◌<◌, Option, Some, None, List, false, length, ⊤}
+use Rattle.fault_lists.specs.DrawingFaces.{HasFaces, IsNumbered}
+use Rattle.fault_lists.specs.declared.faces.DrawingFaces.{DrawingFaces}
 use Rattle.line_sweep.specs.Kinds.{gaps_of}
 use Rattle.line_sweep.specs.Sweeping.{HasTimetable}
+use Rattle.meetings.specs.declared.pairs.BadPair.{BadPair}
 use Rattle.plane.specs.Rule.BadPairs.{IsBadPair}
 use Rattle.plane.specs.Rule.Plans.{Plan}
 use Rattle.plane.specs.Runs.Gaps.{closed_gaps}
 use Rattle.tubes.specs.Settled.{IsSettledAt, edges_at}
 use Rattle.tubes.specs.declared.kinds.Owner.{Owner}
-use Rattle.area_search.specs.Answers.{IsLeastLevel, IsUnsettled}
+use Rattle.area_search.specs.Answers.{HasNoBadPair, IsLeastLevel, IsUnsettled}
 use Rattle.area_search.specs.Settled.CaseRoots.{owner_at}
 use Rattle.area_search.specs.Settled.Cases.{IsCase}
 use Rattle.area_search.specs.declared.level.bad_edges.CurvePair.{CurvePair}
@@ -15,6 +18,8 @@ use Rattle.area_search.specs.declared.level.by_sweep.Shown.{Shown}
 use Rattle.area_search.specs.declared.level.by_sweep.Shown.TheVariants as shown
 use Rattle.area_search.specs.declared.level.finding.LevelsShown.{LevelsShown}
 use Rattle.area_search.specs.declared.level.finding.LevelsShown.TheVariants as levels
+use Rattle.area_search.specs.declared.level.numbered_faces.SettledFaces.{SettledFaces}
+use Rattle.area_search.specs.declared.level.numbered_faces.SettledFaces.TheVariants as faced
 use Rattle.area_search.specs.declared.level.settled_levels.SettledLevel.{SettledLevel}
 
 -- Two curves of the drawing, the lesser number first; or none is named.
@@ -55,3 +60,25 @@ IsBadIfAny d (Some p) = IsBadPair d p.first p.second
 abbrev pub AreShown : Plan → LevelsShown → Type 0
 AreShown d (levels.Settled found) = IsSettlingLevel d found
 AreShown d (levels.Unsettled bad) = IsUnsettled d × IsBadIfAny d bad
+
+-- The faces of a drawing without two curves that meet badly, by numbers; no curve is left out.
+pub record AreFacesOf (d : Plan) (f : DrawingFaces) : Type 0 where
+  pub clear : HasNoBadPair d
+  pub faces : HasFaces d (λ i. false) f
+  pub numbered : IsNumbered f
+
+-- The same two curves, or none.
+abbrev pub pair_if_any : Option CurvePair → Option BadPair
+pair_if_any None = None
+pair_if_any (Some p) = Some (record { first = p.first; second = p.second })
+
+-- A pair that meets badly; or none is named.
+abbrev pub MeetsBadlyIfAny : Plan → Option BadPair → Type 0
+MeetsBadlyIfAny d None = ⊤
+MeetsBadlyIfAny d (Some p) = IsBadPair d p.first p.second
+
+-- The faces of a drawing that some level settles; or that none does, and perhaps a pair that meets
+-- badly.
+abbrev pub AreSettledFaces : Plan → SettledFaces → Type 0
+AreSettledFaces d (faced.Settled faces) = AreFacesOf d faces
+AreSettledFaces d (faced.Unsettled bad) = IsUnsettled d × MeetsBadlyIfAny d bad

@@ -1,32 +1,56 @@
 // The faces of a drawing that some level settles, by numbers.
-ghost use Rattle.std.specs.Prelude.{◌≡◌, ◌≤◌, false, IfOk, IfSome, None, length};
+ghost use Rattle.std.specs.Prelude.{◌≡◌, ◌≤◌, false, IfOk, length};
 ghost use Rattle.fault_lists.specs.DrawingFaces.{HasFaces, IsNumbered};
 ghost use Rattle.plane.specs.Rule.Plans.{plan};
-ghost use Rattle.area_search.specs.Answers.{IsUnsettled};
-ghost use Rattle.area_search.specs.Level.LevelAnswers.{IsSettlingLevel};
+ghost use Rattle.area_search.specs.Level.LevelAnswers.{AreSettledFaces};
+ghost use Rattle.area_search.specs.Level.LevelAnswers.{IsSettlingLevel, pair_if_any};
 
+use super::bad_edges::CurvePair;
 use super::finding::{LevelsShown, all_levels};
 use super::settled_levels::SettledLevel;
 use crate::settled::{SettledDrawing, faces_of_drawing};
 use fault_lists::DrawingFaces;
+use meetings::BadPair;
 use plane::Drawing;
 use ports::Memory;
 use std::alloc::Global;
 
-/// The faces of a drawing of at most 16,000,000 curves by numbers, where some level settles it;
-/// None where no level does. No curve is left out, so no face is open. The only error is out of
-/// memory. It takes what the levels take, as for `find_area`, then two replays and the search of
-/// the faces; 8 bytes a point, 12 a curve and 1 a face stay.
-pub fn settled_faces(alloc: Global, drawing: &Drawing) -> Result<Option<DrawingFaces>, Memory>
-    requires curves { length (plan drawing.now).curves ≤ 16000000 }
-    ensures some { IfOk result (λ r. IfSome r (HasFaces (plan drawing.now) (λ i. false))) }
-    ensures numbered { IfOk result (λ r. IfSome r IsNumbered) }
-    ensures none { IfOk result (λ r. r ≡ None → IsUnsettled (plan drawing.now)) }
+/// The faces of a drawing by numbers, or that no level settles it.
+#[derive(Drop)]
+pub enum SettledFaces {
+    /// Some level settles the drawing, so that no two of its curves meet badly.
+    Settled(DrawingFaces),
+    /// No level does. Two curves that meet badly, where some were met.
+    Unsettled(Option<BadPair>),
+}
+
+/// The faces of a drawing of at most 16,000,000 curves, where some level settles it. No curve is
+/// left out, so no face is open. The only error is out of memory. It takes what the levels take, as
+/// for `find_area`, then two replays and the search of the faces; 8 bytes a point, 12 a curve and 1
+/// a face stay.
+pub fn settled_faces(alloc: Global, drawing: &Drawing) -> Result<SettledFaces, Memory>
+    requires { length (plan drawing.now).curves ≤ 16000000 }
+    ensures { IfOk result (AreSettledFaces (plan drawing.now)) }
 {
     tubes::laws::few_curves_have_few_edges();
     match all_levels(alloc, drawing)? {
-        LevelsShown::Settled(found) => Ok(Some(faces_of_level(alloc, drawing, found)?)),
-        LevelsShown::Unsettled(_) => Ok(None),
+        LevelsShown::Settled(found) => {
+            let faces = faces_of_level(alloc, drawing, found)?;
+            Ok(SettledFaces::Settled(faces))
+        }
+        LevelsShown::Unsettled(bad) => Ok(SettledFaces::Unsettled(pair_if_any(bad))),
+    }
+}
+
+fn pair_if_any(bad: Option<CurvePair>) -> Option<BadPair>
+    ensures { result ≡ pair_if_any bad }
+{
+    match bad {
+        Some(pair) => Some(BadPair {
+            first: pair.first,
+            second: pair.second,
+        }),
+        None => None,
     }
 }
 

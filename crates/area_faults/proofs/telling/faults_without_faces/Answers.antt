@@ -1,5 +1,4 @@
-use Rattle.std.proofs.Common.{Global, Vec, true, ap, sym, ◌∙◌}
-use Rattle.fault_lists.specs.declared.kinds.MeetingAt.{MeetingAt}
+use Rattle.std.proofs.Common.{true, ◌∙◌}
 use Rattle.plane.specs.Rule.Plans.{plan}
 use Rattle.area_faults.proofs.ToldFaults.{all_out, pairs_for_all, points_below, some_of_all}
 use Rattle.area_faults.proofs.telling.faults_without_faces.Goals as goal
@@ -18,7 +17,7 @@ returns c =
     record {
       told = t.told;
       none = t.out;
-      unsettled = λ e. c.requires.unsettled (sym (ap (λ (ms : Vec MeetingAt Global). ms.items) c.in_ok-faults-in-Some.ensures.meetings) ∙ e);
+      unsettled = λ e. c.requires.unsettled;
       answer = c.in_ok-answer-in-Some.ensures;
     }
 
