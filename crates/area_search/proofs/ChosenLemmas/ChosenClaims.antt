@@ -1,5 +1,5 @@
 -- What is written of a settled drawing, by the timetable of its edges, is what is chosen.
-use Rattle.std.proofs.Common.{◌≡◌, ℕ, List, [], length, map, subst}
+use Rattle.std.proofs.Common.{◌≡◌, ℕ, List, length, map, subst}
 use Rattle.certificate.specs.declared.notes.HalfNote.{HalfNote}
 use Rattle.certificate.specs.declared.notes.PointPlace.{PointPlace}
 use Rattle.certificate_checker.specs.Subjects.{Claims}
@@ -9,7 +9,7 @@ use Rattle.half_edges.specs.HalfEdges.{HalfEdges}
 use Rattle.line_sweep.specs.Sweeping.{HasTimetable}
 use Rattle.plane.specs.Rule.Cuts.{HasNoCut}
 use Rattle.plane.specs.Rule.Plans.{Plan}
-use Rattle.plane.specs.Runs.Gaps.{Gap, closed_gaps}
+use Rattle.plane.specs.Runs.Gaps.{closed_gaps}
 use Rattle.plane.specs.Runs.Moves.{Move}
 use Rattle.plane.specs.Runs.Timetables.{IsTimetable, Timed}
 use Rattle.plane.specs.declared.kinds.Edge.{Edge}

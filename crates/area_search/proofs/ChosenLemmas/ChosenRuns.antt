@@ -1,6 +1,6 @@
 -- What is written of a settled drawing is what is chosen: its places, its roots, its ranks and its
 -- links.
-use Rattle.std.proofs.Common.{◌≡◌, ◌⊎◌, inl, inr, ℕ, suc, ◌<◌, ◌≤◌, Bool, true, false, Some, None}
+use Rattle.std.proofs.Common.{◌≡◌, ◌⊎◌, inl, inr, ℕ, suc, ◌<◌, ◌≤◌, Bool, true, false}
 use Rattle.std.proofs.Common.{Option, List, [], length, map, slice_index, take, refl, sym, ap}
 use Rattle.std.proofs.Common.{subst, ◌∙◌, arith, pos}
 use Rattle.certificate.specs.declared.notes.HalfNote.{HalfNote}
@@ -9,10 +9,9 @@ use Rattle.certificate.specs.declared.notes.Link.TheVariants as link
 use Rattle.certificate.specs.declared.notes.PointPlace.{PointPlace}
 use Rattle.certificate.specs.declared.notes.PointPlace.TheVariants as point_place
 use Rattle.certificate_checker.specs.Rules.{IsLinked, IsPointPlaced, IsRootOf, LeadsBy}
-use Rattle.certificate_checker.specs.Subjects.{Claims, Subject, index_of, labels, note_at, note_in}
+use Rattle.certificate_checker.specs.Subjects.{Subject, index_of, labels, note_at, note_in}
 use Rattle.certificate_checker.specs.Subjects.{place_at, rank, replay_of, strip_of}
 use Rattle.certificate_checker.specs.Verdicts.{AllRules, subject_of}
-use Rattle.event_mesh.specs.Turned.{IsTurned}
 use Rattle.faces.specs.Joined.{Across as IsAcross}
 use Rattle.faces.specs.Ranking as mesh_steps
 use Rattle.faces.specs.Ranking.{AreNotes, IsBefore, IsLink}
@@ -23,7 +22,6 @@ use Rattle.half_edges.specs.HalfEdges.{HalfEdges, next_of, prev_of, size}
 use Rattle.plane.specs.CurveRuns.FacedTubes.{faced}
 use Rattle.plane.specs.Faces.Classes.{Across, Next}
 use Rattle.plane.specs.Faces.Halves.{AtBefore, Half, edge_of, half_of, number, over}
-use Rattle.plane.specs.Forms.Vectors.{point}
 use Rattle.plane.specs.Lists.{Has}
 use Rattle.plane.specs.Rule.Cuts.{HasNoCut}
 use Rattle.plane.specs.Rule.Plans.{Plan, object}
@@ -55,7 +53,7 @@ use Rattle.area_search.proofs.SettledLemmas.CaseCertified.{s as labelling}
 use Rattle.area_search.proofs.SettledLemmas.CaseNames.{Labelling}
 use Rattle.area_search.proofs.SettledLemmas.CasePlaces.{place_is}
 use Rattle.area_search.proofs.SettledLemmas.CaseRootLists.{Rooting, roots_within}
-use Rattle.area_search.proofs.SettledLemmas.CertifiedMoves.{BoundsCellAt, RootAt, run_at}
+use Rattle.area_search.proofs.SettledLemmas.CertifiedMoves.{BoundsCellAt, RootAt}
 use Rattle.area_search.proofs.SettledLemmas.ListPlaces.{is_before}
 use Rattle.area_search.proofs.SettledLemmas.RunFaces.{either_across, from_gap, number_within}
 use Rattle.area_search.proofs.SettledLemmas.RunFaces.{to_next, within as half_within_mesh}

@@ -1,12 +1,9 @@
 -- What the calls that write a certificate ask of a settled drawing.
-use Rattle.std.proofs.Common.{◌≡◌, ◌⊎◌, inl, inr, ℕ, ◌*◌, ◌^◌, ◌<◌, ◌≤◌, true, false, Option, Some, None, List, [], ◌++◌, length, map, take, slice_index, slice_index_or, refl, sym, ap, subst, ◌∙◌, arith, append_assoc}
+use Rattle.std.proofs.Common.{◌≡◌, inl, inr, ℕ, ◌*◌, ◌^◌, ◌<◌, ◌≤◌, true, false, Option, Some, None, List, [], ◌++◌, length, map, take, slice_index, slice_index_or, refl, sym, ap, subst, ◌∙◌, arith, append_assoc}
 use Rattle.std.proofs.lemmas.List.{get_or_default}
 use Rattle.half_edges.specs.HalfEdges.{HalfEdges, size}
-use Rattle.faces.specs.Joined.{AreKnown}
 use Rattle.faces.specs.Ranking.{AreNotes, AreRooted, no_note}
 use Rattle.certificate.specs.declared.notes.HalfNote.{HalfNote}
-use Rattle.line_sweep.specs.declared.kinds.Cell.{Cell}
-use Rattle.line_sweep.specs.Kinds.{gap_of, gaps_of}
 use Rattle.plane.specs.CurveRuns.FacedTubes.{faced}
 use Rattle.plane.specs.Faces.Halves.{number}
 use Rattle.plane.specs.Lists.{Has}
@@ -31,7 +28,6 @@ use Rattle.area_search.proofs.SettledLemmas.ListPlaces.{at_has, before_has}
 use Rattle.area_search.proofs.PlaneLaws.{run_known}
 use Rattle.area_search.proofs.SettledLemmas.TubedLaws.{owner_is as owned_is}
 use Rattle.area_search.proofs.SettledLemmas.TubeSides.{owner_count, owner_is}
-use Rattle.area_search.proofs.LevelLemmas.CellSideLemmas.{nth_cell}
 
 -- ---- lists that are the same
 pub joined_lists : (a b c w x y z : List ℕ) → w ≡ [] → x ≡ w ++ a → y ≡ x ++ b → z ≡ y ++ c → z ≡ a ++ (b ++ c)

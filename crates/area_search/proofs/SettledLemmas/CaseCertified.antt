@@ -25,7 +25,7 @@ use Rattle.plane.specs.Rule.Cuts.{HasNoCut, IsCut}
 use Rattle.plane.specs.Rule.Plans.{Plan, curve}
 use Rattle.plane.specs.declared.kinds.CurveKind.{CurveKind}
 use Rattle.plane.specs.declared.kinds.CurveKind.TheVariants as kind
-use Rattle.plane.specs.Runs.Gaps.{Gap, closed_gaps}
+use Rattle.plane.specs.Runs.Gaps.{closed_gaps}
 use Rattle.plane.specs.Runs.Moves.{Move, steps_from}
 use Rattle.plane.specs.Runs.Timetables.{IsTimetable}
 use Rattle.plane.specs.declared.kinds.Edge.{Edge}

@@ -1,14 +1,11 @@
 -- Edges at places of a live list.
-use Rattle.std.proofs.Common.{◌≡◌, inl, inr, ℕ, zero, suc, ◌<◌, ◌≤◌, Option, Some, None, List, [], ◌∷◌, length, get_or, map, slice_index_or, refl, sym, ap, subst, ◌∙◌, arith}
-use Rattle.std.specs.List.{flat_map}
-use Rattle.std.proofs.lemmas.List.Concat.{flat_map-cons}
+use Rattle.std.proofs.Common.{◌≡◌, inl, inr, ℕ, zero, suc, ◌<◌, ◌≤◌, Option, Some, None, List, [], ◌∷◌, length, get_or, map, slice_index_or, refl, sym, ap, ◌∙◌, arith}
 use Rattle.plane.specs.Faces.Halves.{At, AtBefore}
 use Rattle.plane.specs.Faces.Labels.{Labels, label_at}
 use Rattle.plane.specs.Lists.{Has}
 use Rattle.plane.specs.Runs.Gaps.{edge_at, edge_before}
 use Rattle.plane.specs.declared.kinds.Placed.{Placed}
 use Rattle.straight_predicates.specs.EdgeLists.{no_point}
-use Rattle.area_search.proofs.PlaneLaws.{has_append, has_back, has_front}
 
 -- ---- places
 pub at_is : (es : List ℕ) (i e : ℕ) → edge_at es i ≡ Some e → At es i e

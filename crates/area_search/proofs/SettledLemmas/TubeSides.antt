@@ -1,16 +1,13 @@
 -- Edges of tubes by what a program holds of them: which of their half-edges face a tube, and which are listed as roots.
-use Rattle.std.proofs.Common.{◌≡◌, ◌⊎◌, inl, inr, ℕ, zero, suc, ◌<◌, Bool, true, false, List, [], ◌∷◌, length, map, get_or, refl, sym, ap, subst, ◌∙◌, arith, Option, Some}
+use Rattle.std.proofs.Common.{◌≡◌, ◌⊎◌, inl, inr, ℕ, zero, suc, ◌<◌, Bool, true, false, List, [], ◌∷◌, length, map, get_or, refl, sym, ap, subst, ◌∙◌, arith}
 use Rattle.std.proofs.lemmas.Bool.{cases_lt}
 use Rattle.std.proofs.lemmas.List.{length-map}
-use Rattle.std.specs.List.{flat_map}
-use Rattle.faces.specs.Joined.{AtBorder, highest, lowest}
 use Rattle.half_edges.specs.HalfEdges.{over_of, under_of}
 use Rattle.plane.specs.CurveRuns.FacedTubes.{faced, on_one_side, tube_tag}
 use Rattle.plane.specs.CurveRuns.TubedRuns as runs
 use Rattle.plane.specs.Faces.Halves.{Half, edge_of, number, over, twin, under}
 use Rattle.plane.specs.Lists.{Has}
 use Rattle.plane.specs.Rule.Plans.{Plan}
-use Rattle.plane.specs.Runs.Gaps.{Gap}
 use Rattle.tubes.specs.Settled.{AreFacings, edge_at, edges_at, facing_of}
 use Rattle.tubes.specs.TubedEdges.{drawn_bays, edge_as, owner_as, part_of}
 use Rattle.tubes.specs.declared.kinds.Facing.{Facing}

@@ -25,10 +25,10 @@ pub(crate) struct SweptDrawing<'a> {
     pub run: &'a Swept,
 }
 
-/// What is kept of such a run when its edges, its events and its cells are freed: where the objects'
-/// points lie, none of them on a curve, and where the places lie that are asked for; the mesh of the
-/// half-edges with its faces; what joins these half-edges; and the positions of the events. What is
-/// answered of a settled drawing is read off it.
+/// What is kept of such a run when its edges, its events and its cells are freed: where the
+/// objects' points lie, none of them on a curve, and where the places lie that are asked for; the
+/// mesh of the half-edges with its faces; what joins these half-edges; and the positions of the
+/// events. What is answered of a settled drawing is read off it.
 #[derive(Drop)]
 pub(crate) struct SettledRun<'a> {
     pub settled: &'a SettledDrawing<'a>,

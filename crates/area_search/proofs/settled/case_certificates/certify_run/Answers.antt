@@ -1,9 +1,8 @@
-use Rattle.std.proofs.Common.{◌≡◌, ℕ, ◌<◌, List, length, slice_index_or, refl, sym, ap, subst, ◌∙◌, arith}
+use Rattle.std.proofs.Common.{◌≡◌, ℕ, ◌<◌, List, length, slice_index_or, sym, ap, subst, ◌∙◌, arith}
 use Rattle.certificate_checker.specs.Certifying.{Certifies}
 use Rattle.certificate_checker.specs.Subjects.{claims}
 use Rattle.faces.specs.Joins.{IsBorder}
 use Rattle.faces.specs.Ranking.{AreNotes}
-use Rattle.half_edges.specs.HalfEdges.{size}
 use Rattle.plane.specs.Rule.Plans.{plan}
 use Rattle.plane.specs.Runs.Gaps.{closed_gaps}
 use Rattle.area_search.specs.declared.settled.case.Spot.{Spot}

@@ -5,7 +5,6 @@ use Rattle.half_edges.specs.HalfEdges.{HalfEdges, size}
 use Rattle.line_sweep.specs.Kinds.{gaps_of}
 use Rattle.line_sweep.specs.declared.kinds.Cell.{Cell}
 use Rattle.plane.specs.Rule.Plans.{plan}
-use Rattle.plane.specs.Runs.Gaps.{closed_gaps}
 use Rattle.area_search.specs.Settled.Cases.{HasRunFaces, IsRunMesh, edges_of}
 use Rattle.area_search.proofs.SettledLemmas.CaseMesh.{has_run_faces, known_cells, owner_edges, owner_few, owner_mesh, run_mesh}
 use Rattle.area_search.proofs.settled.faced.labelled_run.Goals as goal
