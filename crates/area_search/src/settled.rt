@@ -3,9 +3,9 @@
 //
 // One replay of the run gives the places of the points, which say for each whether it lies on a
 // curve, in the tube of a half arc or in a cell (`spots`). Then the edges are freed but for what
-// they stand for, and a second replay gives the mesh of their half-edges (`meshing`), after which
-// the events of the run are freed but for their positions (`writing`). The faces of the mesh are
-// those that its cells join. What is kept of the run is a `SettledRun` (`case`), and each answer is
+// they stand for, and the events give the mesh of their half-edges (`meshing`), after which they
+// are freed but for their positions (`writing`). The faces of the mesh are those that its cells
+// join. What is kept of the run is a `SettledRun` (`case`), and each answer is
 // read off it: the first fault of its faces (`case_judging`), by the faces beside each curve
 // (`case_sides`, `sides`) and the points in each face (`owners`); or the regions of places that are
 // asked for, by the owners of their faces (`place_regions`), and the certificate

@@ -15,8 +15,8 @@ use std::alloc::Global;
 
 /// The faces of a drawing of at most 16,000,000 curves by numbers, where some level settles it;
 /// None where no level does. No curve is left out, so no face is open. The only error is out of
-/// memory. It takes what the levels take, as for `find_area`, then two replays and the search of
-/// the faces; 8 bytes a point, 12 a curve and 1 a face stay.
+/// memory. It takes what the levels take, as for `find_area`, then a replay and the search of the
+/// faces; 8 bytes a point, 12 a curve and 1 a face stay.
 pub fn settled_faces(alloc: Global, drawing: &Drawing) -> Result<Option<DrawingFaces>, Memory>
     requires curves { length (plan drawing.now).curves ≤ 16000000 }
     ensures some { IfOk result (λ r. IfSome r (HasFaces (plan drawing.now) (λ i. false))) }
