@@ -9,7 +9,7 @@
 . "$top/bench/measure.sh"
 . "$top/bench/scratch.sh"
 below='ports plane straight_predicates arc_predicates line_sweep near_pairs meetings'
-scratch_crate sweep_bench "$below slab" $below
+scratch_crate sweep_bench "$below" $below
 cat > "$crate/src/main.rt" <<'END'
 // Reads straights as 32-bit numbers and tells whether two of them meet badly; with any word it only
 // draws them.

@@ -40,7 +40,7 @@
 //! - **Not here:** names of areas, lines of the transfer, and the text of a certificate.
 //!
 //! Cost: O((m + p + events) log (m + p)) for m edges and p points, and what the live list moves in
-//! the sweep and in two replays; some 240 bytes an edge at the peak. A place costs what a point
+//! the sweep and in a replay; some 240 bytes an edge at the peak. A place costs what a point
 //! costs while it is located, and 32 bytes from then on. Where level 0 does not settle,
 //! at each further level two tubes where the two curves of the last bad edges break it too, also
 //! where these are bad, else its tubes and a sweep of its edges up to two that are bad. So it is of

@@ -3,12 +3,12 @@
 //
 // One replay of the run gives the places of the points, which say for each whether it lies on a
 // curve, in the tube of a half arc or in a cell (`spots`). Then the edges are freed but for what
-// they stand for, and a second replay gives the mesh of their half-edges (`meshing`), after which
-// the events of the run are freed but for their positions (`writing`), and the cells but for what
-// they join, which gives the faces of the mesh. What is kept of the run is a `SettledRun` (`case`),
-// and each answer is read off it: the first fault of its faces (`case_judging`), by the faces
-// beside each curve (`case_sides`, `sides`) and the points in each face (`owners`); or the regions
-// of places that are asked for, by the owners of their faces (`place_regions`), and the certificate
+// they stand for, and the events give the mesh of their half-edges (`meshing`), after which they
+// are freed but for their positions (`writing`), and the cells but for what they join, which gives
+// the faces of the mesh. What is kept of the run is a `SettledRun` (`case`), and each answer is
+// read off it: the first fault of its faces (`case_judging`), by the faces beside each curve
+// (`case_sides`, `sides`) and the points in each face (`owners`); or the regions of places that are
+// asked for, by the owners of their faces (`place_regions`), and the certificate
 // (`case_certificates`), by links from each half-edge to the border, a tube or a point
 // (`case_roots`) and by labels (`case_notes`). Of a drawing of straights the mesh with its faces is
 // an answer too (`faced`), and of any drawing the faces of its points and beside its curves

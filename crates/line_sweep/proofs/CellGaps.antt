@@ -9,11 +9,6 @@ use Rattle.line_sweep.specs.Kinds.{gap_of, gaps_of}
 abbrev pub no_cell : Cell
 no_cell = record { lower = None; upper = None; event = 0 }
 
-pub gap_has : (cells : List Cell) (k : ℕ) (d : Cell) → k < length cells → Has (gap_of (get_or cells k d)) (gaps_of cells)
-gap_has [] k d l = absurd (omega (arith, l))
-gap_has (c ∷ cells) zero d l = inl refl
-gap_has (c ∷ cells) (suc k) d l = inr (gap_has cells k d (omega (arith, l)))
-
 pub has_gap : (g : Gap) (cells : List Cell) → Has g (gaps_of cells) → (k : ℕ) × (k < length cells) × (gap_of (get_or cells k no_cell) ≡ g)
 has_gap g [] h = absurd h
 has_gap g (c ∷ cells) (inl e) = (0, omega arith, sym e)

@@ -1,26 +1,25 @@
 -- One event of a sweep: the step that its block makes, what the fault of a block shows, and what is so after the event.
-use Rattle.std.proofs.Common.{◌≡◌, ℕ, zero, suc, ◌+◌, ◌<◌, ◌≤◌, ℤ, pos, ◌<ℤ◌, ◌≤ℤ◌, inl, inr, Option, Some, None, List, [], ◌∷◌, ◌++◌, length, take, drop, filter, get_or, refl, arith, ap, sym, ◌∙◌, subst}
+use Rattle.std.proofs.Common.{◌≡◌, ℕ, zero, suc, ◌+◌, ◌^◌, ◌<◌, ◌≤◌, ℤ, pos, ◌<ℤ◌, ◌≤ℤ◌, inl, inr, Option, None, List, [], ◌∷◌, ◌++◌, length, take, drop, filter, replicate, get_or, refl, arith, ap, sym, ◌∙◌, subst}
 use Rattle.std.proofs.lemmas.Int.{ints, by_lt_z}
 use Rattle.std.proofs.lemmas.List.{get_or-take, length-append, length-drop, length-map, length-take-le}
 use Rattle.plane.specs.declared.kinds.Point.{Point}
 use Rattle.plane.specs.declared.kinds.Edge.{Edge}
 use Rattle.plane.specs.Lists.{Has}
-use Rattle.plane.specs.Runs.Gaps.{Gap, closed_gaps, edge_at, edge_before, first_or, gaps_between, is_real, last_or, next_gaps, open_gaps, opened}
-use Rattle.plane.specs.Forms.Meets.{IsEnd, Fine}
-use Rattle.plane.specs.Runs.Moves.{Move, live_from, made, step_of}
+use Rattle.plane.specs.Runs.Gaps.{Gap, closed_gaps, edge_at, edge_before, first_or, gaps_between, is_real, last_or, open_gaps, opened}
+use Rattle.plane.specs.Forms.Meets.{IsEnd}
+use Rattle.plane.specs.Runs.Moves.{Move, live_from, made, step_of, steps_from}
 use Rattle.plane.specs.Runs.Positions.{turn_at}
 use Rattle.plane.specs.Runs.Steps.{Step, after, live as lives}
 use Rattle.plane.specs.Runs.Sweeps.{Clear, IsUnderWay, Made, OnLive}
 use Rattle.plane.specs.Runs.Timetables.{Timed, IsTimed, IsTimetable, no_event}
 use Rattle.plane.proofs.Algebra.Ring.{at, num, minus, times, vars, ring}
-use Rattle.slab.specs.Slab.{Slab}
 use Rattle.straight_predicates.specs.EdgeLists.{edge_of, AreSorted}
-use Rattle.line_sweep.specs.declared.kinds.Cell.{Cell}
-use Rattle.line_sweep.specs.Blocks.{IsBlock, IsThrough}
-use Rattle.line_sweep.specs.Held.{IsHeld, gaps_held}
-use Rattle.line_sweep.specs.Kinds.{AreBad, move_at_block}
+use Rattle.line_sweep.specs.Blocks.{AreBeside, IsBlock, IsThrough}
+use Rattle.line_sweep.specs.Kinds.{AreBad, ended_at, move_at_block}
+use Rattle.line_sweep.specs.OpenGaps.{AreFine, AreNeighbours, events_of, gaps_by}
 use Rattle.line_sweep.specs.Sweeping.{IsSweptTo, points_of}
 use Rattle.line_sweep.proofs.EventEdges.{event_timed}
+use Rattle.line_sweep.proofs.OpenGaps.{ended_more, events_next, gap_neighbour, neighbour_gap, open_are}
 use Rattle.line_sweep.proofs.Parts.{drop_twice, first_after, last_before}
 use Rattle.line_sweep.proofs.PlaneLaws.{has_at, live_made, made_more, live_more, fit_more, open_more, all_closed_more, open_size, opened_go_on, opened_differ, block_ends, on_live_is_bad, on_live_line, false_after_event, known_live, room_live, made_by_turns, starting_once, slopes_rise}
 
@@ -61,22 +60,17 @@ in_block now p n e w h =
     let j : k < n = omega (arith, l, s) in
     (p + k, omega arith, omega (arith, j), sym (at_drop now p k 0) ∙ sym (get_or-take n (drop p now) k 0 j) ∙ q)
 
-gaps_size : (k : ℕ) (l : Option ℕ) (es : List ℕ) (u : Option ℕ) → length (gaps_between k l es u) ≡ suc (length es)
-gaps_size k l [] u = refl
-gaps_size k l (e ∷ es) u = ap (λ (n : ℕ). suc n) (gaps_size k (Some e) es u)
-
 pub opened_is : (k : ℕ) (live : List ℕ) (t : Timed) (p n : ℕ) → p ≤ length live → gaps_between k (edge_before live p) t.starting (edge_at live (p + n)) ≡ opened k (step_of live (move_at_block t p n))
 opened_is k live t p n l =
     ap (λ (o : Option ℕ). gaps_between k o t.starting (edge_at live (p + n))) (sym (last_before live p l))
     ∙ ap (λ (o : Option ℕ). gaps_between k (last_or None (take p live)) t.starting o) (sym (first_after live (p + n)) ∙ ap (λ (ns : List ℕ). first_or None ns) (sym (drop_twice p n live)))
 
--- the same from what a program looked up
-pub opened_as : (k : ℕ) (lower upper : Option ℕ) (starting shown live : List ℕ) (t : Timed) (p n : ℕ) → lower ≡ edge_before shown p → upper ≡ edge_at shown (p + n) → starting ≡ t.starting → shown ≡ live
-    → p + n ≤ length live → gaps_between k lower starting upper ≡ opened k (step_of live (move_at_block t p n))
-opened_as k lower upper starting shown live t p n e f g h l =
-    ap (λ (o : Option ℕ). gaps_between k o starting upper) (e ∙ ap (λ (ns : List ℕ). edge_before ns p) h)
-    ∙ ap (λ (o : Option ℕ). gaps_between k (edge_before live p) starting o) (f ∙ ap (λ (ns : List ℕ). edge_at ns (p + n)) h)
-    ∙ ap (λ (ns : List ℕ). gaps_between k (edge_before live p) ns (edge_at live (p + n))) g
+-- the same from the edges beside the block
+pub opened_as : (k : ℕ) (lower upper : Option ℕ) (live : List ℕ) (t : Timed) (p n : ℕ) → AreBeside live p n lower upper → p + n ≤ length live
+    → gaps_between k lower t.starting upper ≡ opened k (step_of live (move_at_block t p n))
+opened_as k lower upper live t p n b l =
+    ap (λ (o : Option ℕ). gaps_between k o t.starting upper) b.lower
+    ∙ ap (λ (o : Option ℕ). gaps_between k (edge_before live p) t.starting o) b.upper
     ∙ opened_is k live t p n (omega (arith, l))
 
 -- where nothing comes after, nothing is live
@@ -84,8 +78,8 @@ no_elements : {X : Type 0} (xs : List X) → ((x : X) → Has x xs → ⊥) → 
 no_elements [] f = refl
 no_elements (x ∷ xs) f = absurd (f x (inl refl))
 
-module _ (edges : List Edge) (table : List Timed) (k : ℕ) (live keys : List ℕ) (slab : Slab Cell) (moves : List Move) (told : List Gap) (sorted : AreSorted edges)
-    (t : IsTimetable (length edges) (edge_of edges) table) (l : k < length table) (s : IsSweptTo edges table k live keys slab moves told) where
+module _ (edges : List Edge) (table : List Timed) (k : ℕ) (live since ended : List ℕ) (moves : List Move) (told : List Gap) (sorted : AreSorted edges)
+    (t : IsTimetable (length edges) (edge_of edges) table) (l : k < length table) (s : IsSweptTo edges table k live since ended moves told) where
   abbrev pub timed : Timed
   timed = get_or table k no_event
 
@@ -107,8 +101,8 @@ module _ (edges : List Edge) (table : List Timed) (k : ℕ) (live keys : List �
       let e = ap length is_live in
       omega (arith, r, e)
 
-  pub keys_size : length keys ≡ suc (length live)
-  keys_size = sym (length-map keys _) ∙ ap length s.held.gaps ∙ open_size moves s.fit ∙ ap (λ (ns : List ℕ). suc (length ns)) (sym s.lives)
+  pub since_size : length since ≡ suc (length live)
+  since_size = ap length s.opened ∙ length-map (open_gaps moves) _ ∙ open_size moves s.fit ∙ ap (λ (ns : List ℕ). suc (length ns)) (sym s.lives)
 
   -- ---- a live edge through the event
   pub through_is_bad : (e d : ℕ) → IsThrough (edge_of edges) live timed.at e → d < length edges → IsEnd (edge_of edges d) timed.at → AreBad edges e d
@@ -133,6 +127,9 @@ module _ (edges : List Edge) (table : List Timed) (k : ℕ) (live keys : List �
     abbrev pub move : Move
     move = move_at_block timed p n
 
+    pub block_few : length edges < 2 ^ 31 → p + n < 2 ^ 31
+    block_few few = let z = live_size in let w = b.within in omega (arith, z, w, few)
+
     abbrev the_step : Step
     the_step = step_of (lives (made [] moves)) move
 
@@ -154,41 +151,47 @@ module _ (edges : List Edge) (table : List Timed) (k : ℕ) (live keys : List �
     same_step : step_of live move ≡ the_step
     same_step = ap (λ (ns : List ℕ). step_of ns move) is_live
 
-    pub opened_known : (g : Gap) (d e : ℕ) → Has g (opened k (step_of live move)) → g.lower ≡ Some d → g.upper ≡ Some e → (d < length edges) × (e < length edges) × (d ≡ e → ⊥)
-    opened_known g d e h q r =
-        opened_differ (length edges) (edge_of edges) (points_of table) (made [] moves) the_step (drop (suc k) (points_of table)) way made_step k g d e (starting_once (length edges) (edge_of edges) sorted timed timed_is)
-        (subst (λ st. Has g (opened k st)) same_step h) q r
+    -- the new neighbours are two edges
+    module _ (lower upper : Option ℕ) (beside : AreBeside live p n lower upper) where
+      opened_here : gaps_between k lower timed.starting upper ≡ opened k (step_of live move)
+      opened_here = opened_as k lower upper live timed p n beside b.within
 
-    module _ (fine : (g : Gap) (d e : ℕ) → Has g (opened k (step_of live move)) → g.lower ≡ Some d → g.upper ≡ Some e → Fine (edge_of edges d) (edge_of edges e)) where
-      goes_on : IsUnderWay (length edges) (edge_of edges) (points_of table) (the_step ∷ made [] moves) (drop (suc k) (points_of table))
-      goes_on =
-          opened_go_on (length edges) (edge_of edges) (points_of table) (made [] moves) the_step (drop (suc k) (points_of table)) way made_step k clear
-          (λ g d e h q r. fine g d e (subst (λ st. Has g (opened k st)) (sym same_step) h) q r)
+      pub neighbours_known : (d e : ℕ) → AreNeighbours lower timed.starting upper d e → (d < length edges) × (e < length edges) × (d ≡ e → ⊥)
+      neighbours_known d e h =
+          let (g, i, q, r) = neighbour_gap k lower timed.starting upper d e h in
+          opened_differ (length edges) (edge_of edges) (points_of table) (made [] moves) the_step (drop (suc k) (points_of table)) way made_step k g d e (starting_once (length edges) (edge_of edges) sorted timed timed_is)
+          (subst (λ st. Has g (opened k st)) same_step (subst (Has g) opened_here i)) q r
 
-      -- the live list after the event
-      abbrev pub next_live : List ℕ
-      next_live = take p live ++ (timed.starting ++ drop (p + n) live)
+      module _ (fine : AreFine edges lower timed.starting upper) where
+        goes_on : IsUnderWay (length edges) (edge_of edges) (points_of table) (the_step ∷ made [] moves) (drop (suc k) (points_of table))
+        goes_on =
+            opened_go_on (length edges) (edge_of edges) (points_of table) (made [] moves) the_step (drop (suc k) (points_of table)) way made_step k clear
+            (λ g d e h q r. fine d e (gap_neighbour k lower timed.starting upper g d e (subst (Has g) (sym opened_here) (subst (λ st. Has g (opened k st)) (sym same_step) h)) q r))
 
-      next_is : next_live ≡ after the_step
-      next_is =
-          ap (λ (ns : List ℕ). take p live ++ (timed.starting ++ ns)) (sym (drop_twice p n live))
-          ∙ ap (λ (ns : List ℕ). take p ns ++ (timed.starting ++ drop n (drop p ns))) is_live
+        -- the live list after the event
+        abbrev pub next_live : List ℕ
+        next_live = take p live ++ (timed.starting ++ drop (p + n) live)
 
-      pub swept_next : (slab' : Slab Cell) (keys' : List ℕ) (told' : List Gap)
-          → IsHeld slab' keys' (take p (gaps_held slab keys) ++ (opened k (step_of live move) ++ drop (suc (p + n)) (gaps_held slab keys)))
-          → told' ≡ told ++ filter is_real (take (suc n) (drop p (gaps_held slab keys)))
-          → IsSweptTo edges table (suc k) next_live keys' slab' (moves ++ move ∷ []) told'
-      swept_next slab' keys' told' h c = record {
-        size = (let a = length-append moves (move ∷ []) in let z = s.size in omega (arith, a, z));
-        way = subst (λ d. IsUnderWay (length edges) (edge_of edges) (points_of table) d (drop (suc k) (points_of table))) (sym (made_more [] moves move)) goes_on;
-        fit = fit_more [] moves move s.fit (subst (λ (ns : List ℕ). (p + n) ≤ length ns) s.lives b.within);
-        lives = next_is ∙ ap (λ (ns : List ℕ). after (step_of ns move)) (live_made [] moves) ∙ sym (live_more [] moves move);
-        held = subst (IsHeld slab' keys') (gaps_next ∙ sym (open_more moves move)) h;
-        closed = c ∙ ap (λ gs. gs ++ filter is_real (take (suc n) (drop p (gaps_held slab keys)))) s.closed ∙ ap (λ gs. closed_gaps moves ++ filter is_real (take (suc n) (drop p gs))) s.held.gaps ∙ sym (all_closed_more moves move);
-      }
-        where
-          gaps_next : take p (gaps_held slab keys) ++ (opened k (step_of live move) ++ drop (suc (p + n)) (gaps_held slab keys)) ≡ next_gaps (length moves) (live_from [] moves) (open_gaps moves) move
-          gaps_next =
-              ap (λ gs. take p gs ++ (opened k (step_of live move) ++ drop (suc (p + n)) gs)) s.held.gaps
-              ∙ ap (λ (ns : List ℕ). take p (open_gaps moves) ++ (opened k (step_of ns move) ++ drop (suc (p + n)) (open_gaps moves))) s.lives
-              ∙ ap (λ (j : ℕ). take p (open_gaps moves) ++ (opened j (step_of (live_from [] moves) move) ++ drop (suc (p + n)) (open_gaps moves))) (sym s.size)
+        next_is : next_live ≡ after the_step
+        next_is =
+            ap (λ (ns : List ℕ). take p live ++ (timed.starting ++ ns)) (sym (drop_twice p n live))
+            ∙ ap (λ (ns : List ℕ). take p ns ++ (timed.starting ++ drop n (drop p ns))) is_live
+
+        next_since : take p since ++ (replicate (length timed.starting + 1) k ++ drop (suc (p + n)) since) ≡ events_of (open_gaps (moves ++ move ∷ []))
+        next_since =
+            ap (λ (ks : List ℕ). take p ks ++ (replicate (length timed.starting + 1) k ++ drop (suc (p + n)) ks)) s.opened
+            ∙ ap (λ (j : ℕ). take p (events_of (open_gaps moves)) ++ (replicate (length timed.starting + 1) j ++ drop (suc (p + n)) (events_of (open_gaps moves)))) (sym s.size)
+            ∙ sym (events_next (length moves) (live_from [] moves) (open_gaps moves) move) ∙ ap events_of (sym (open_more moves move))
+
+        pub swept_next : (ended' : List ℕ) (told' : List Gap) → ended' ≡ ended ++ take n (drop p live) → told' ≡ told ++ filter is_real (take (suc n) (drop p (gaps_by since None live None)))
+            → IsSweptTo edges table (suc k) next_live (take p since ++ (replicate (length timed.starting + 1) k ++ drop (suc (p + n)) since)) ended' (moves ++ move ∷ []) told'
+        swept_next ended' told' a c = record {
+          size = (let a = length-append moves (move ∷ []) in let z = s.size in omega (arith, a, z));
+          way = subst (λ d. IsUnderWay (length edges) (edge_of edges) (points_of table) d (drop (suc k) (points_of table))) (sym (made_more [] moves move)) goes_on;
+          fit = fit_more [] moves move s.fit (subst (λ (ns : List ℕ). (p + n) ≤ length ns) s.lives b.within);
+          lives = next_is ∙ ap (λ (ns : List ℕ). after (step_of ns move)) (live_made [] moves) ∙ sym (live_more [] moves move);
+          opened = next_since;
+          closed = c ∙ ap (λ gs. gs ++ filter is_real (take (suc n) (drop p (gaps_by since None live None)))) s.closed
+              ∙ ap (λ gs. closed_gaps moves ++ filter is_real (take (suc n) (drop p gs))) (open_are moves live since s.fit s.lives s.opened) ∙ sym (all_closed_more moves move);
+          endings = a ∙ ap (λ (es : List ℕ). es ++ take n (drop p live)) s.endings ∙ ap (λ (ns : List ℕ). ended_at (steps_from [] moves) ++ take n (drop p ns)) s.lives ∙ sym (ended_more moves move);
+        }

@@ -1,10 +1,7 @@
--- Parts of lists, the edges beside a place, and cells opened one after another.
-use Rattle.std.proofs.Common.{◌≡◌, ℕ, zero, suc, ◌+◌, ◌<◌, ◌≤◌, Option, Some, None, List, [], ◌∷◌, ◌++◌, length, take, drop, get_or, refl, arith, ap, sym, ◌∙◌, append_assoc, add-one, drop-cons}
-use Rattle.std.proofs.lemmas.List.{map-append}
+-- Parts of lists, and the edges beside a place.
+use Rattle.std.proofs.Common.{◌≡◌, ℕ, zero, suc, ◌+◌, ◌<◌, ◌≤◌, Option, Some, None, List, [], ◌∷◌, length, take, drop, refl, arith, ap, sym, ◌∙◌}
 use Rattle.std.proofs.Math.Seq.{drop-nil}
-use Rattle.plane.specs.Runs.Gaps.{Gap, edge_at, edge_before, first_or, last_or, gaps_between}
-use Rattle.line_sweep.specs.declared.kinds.Cell.{Cell}
-use Rattle.line_sweep.specs.Kinds.{gap_of, gaps_of}
+use Rattle.plane.specs.Runs.Gaps.{edge_at, edge_before, first_or, last_or}
 
 -- ---- the ends of the parts of a list
 last_is : (es : List ℕ) (p : ℕ) (l : Option ℕ) → 0 < p → p ≤ length es → last_or l (take p es) ≡ edge_before es p
@@ -33,20 +30,3 @@ drop_twice (suc i) n (x ∷ xs) = drop_twice i n xs ∙ ap (λ (k : ℕ). drop k
   where
     shift : (i n : ℕ) → suc (i + n) ≡ suc i + n
     shift i n = omega arith
-
--- ---- cells one after another
-pub cells_more : (opened new : List Cell) (c : Cell) (k : ℕ) (below : Option ℕ) (starting : List ℕ) (i : ℕ) (u : Option ℕ) → i < length starting → new ≡ opened ++ c ∷ []
-    → gap_of c ≡ record { lower = below; upper = Some (get_or starting i 0); event = k }
-    → gaps_of new ++ gaps_between k (Some (get_or starting i 0)) (drop (i + 1) starting) u ≡ gaps_of opened ++ gaps_between k below (drop i starting) u
-cells_more opened new c k below starting i u l e g =
-    let x = get_or starting i 0 in
-    ap (λ cs. gaps_of cs ++ gaps_between k (Some x) (drop (i + 1) starting) u) e
-    ∙ ap (λ gs. gs ++ gaps_between k (Some x) (drop (i + 1) starting) u) (map-append gap_of opened (c ∷ []) ∙ ap (λ (g : Gap). gaps_of opened ++ g ∷ []) g)
-    ∙ append_assoc (gaps_of opened) (record { lower = below; upper = Some x; event = k } ∷ []) (gaps_between k (Some x) (drop (i + 1) starting) u)
-    ∙ ap (λ (n : ℕ). gaps_of opened ++ record { lower = below; upper = Some x; event = k } ∷ gaps_between k (Some x) (drop n starting) u) (add-one i)
-    ∙ ap (λ (ns : List ℕ). gaps_of opened ++ gaps_between k below ns u) (sym (drop-cons starting i 0 l))
-
-pub cells_end : (opened new : List Cell) (c : Cell) (k : ℕ) (below lower upper : Option ℕ) (starting rest : List ℕ) → rest ≡ [] → gaps_of opened ++ gaps_between k below rest upper ≡ gaps_between k lower starting upper
-    → new ≡ opened ++ c ∷ [] → gap_of c ≡ record { lower = below; upper = upper; event = k } → gaps_of new ≡ gaps_between k lower starting upper
-cells_end opened new c k below lower upper starting rest r h e g =
-    ap gaps_of e ∙ map-append gap_of opened (c ∷ []) ∙ ap (λ (g : Gap). gaps_of opened ++ g ∷ []) g ∙ ap (λ (ns : List ℕ). gaps_of opened ++ gaps_between k below ns upper) (sym r) ∙ h

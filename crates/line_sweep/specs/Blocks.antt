@@ -1,8 +1,9 @@
 -- The edges of a live list at an event.
-use Rattle.std.specs.Prelude.{◌≡◌, ℕ, suc, ◌+◌, ◌<◌, ◌≤◌, pos, ◌<ℤ◌, ◌≤ℤ◌, List, length}
+use Rattle.std.specs.Prelude.{◌≡◌, ℕ, suc, ◌+◌, ◌<◌, ◌≤◌, pos, ◌<ℤ◌, ◌≤ℤ◌, List, length, Option}
 use Rattle.std.specs.Prelude.{slice_index_or}
 use Rattle.plane.specs.declared.kinds.Point.{Point}
 use Rattle.plane.specs.declared.kinds.Edge.{Edge}
+use Rattle.plane.specs.Runs.Gaps.{edge_at, edge_before}
 use Rattle.plane.specs.Runs.Positions.{turn_at}
 
 -- The edges at the places from `from` up to `upto` end at the point.
@@ -26,3 +27,8 @@ pub record IsThrough (E : ℕ → Edge) (live : List ℕ) (at : Point) (e : ℕ)
   pub is : e ≡ slice_index_or live place 0
   pub line : turn_at E e at ≡ pos 0
   pub no_end : (E e).high ≡ at → ⊥
+
+-- The edge just below the n edges from place p on, and the edge just above them.
+pub record AreBeside (live : List ℕ) (p n : ℕ) (l u : Option ℕ) : Type 0 where
+  pub lower : l ≡ edge_before live p
+  pub upper : u ≡ edge_at live (p + n)

@@ -1,11 +1,13 @@
 -- Events and cells without where they lie in memory.
-use Rattle.std.specs.Prelude.{◌≡◌, ℕ, ◌<◌, ◌≤◌, ◌-◌, ⊤, List, [], ◌∷◌, length, map, slice_index_or}
+use Rattle.std.specs.Prelude.{◌≡◌, ℕ, ◌<◌, ◌≤◌, ◌-◌, ⊤, List, [], ◌∷◌, ◌++◌, length, map}
+use Rattle.std.specs.Prelude.{slice_index_or}
 use Rattle.plane.specs.declared.kinds.Edge.{Edge}
 use Rattle.plane.specs.declared.kinds.Point.{Point}
 use Rattle.plane.specs.Forms.Meets.{Bad}
 use Rattle.plane.specs.Forms.Vectors.{Before}
-use Rattle.plane.specs.Runs.Moves.{Move, no_move}
+use Rattle.plane.specs.Runs.Moves.{Move, no_move, steps_from}
 use Rattle.plane.specs.Runs.Gaps.{Gap}
+use Rattle.plane.specs.Runs.Steps.{Step}
 use Rattle.plane.specs.Runs.Timetables.{Timed}
 use Rattle.straight_predicates.specs.EdgeLists.{edge_of}
 use Rattle.line_sweep.specs.declared.events.EndingBlock.{EndingBlock}
@@ -28,6 +30,17 @@ moves_at_blocks [] blocks = []
 moves_at_blocks (t ∷ table) [] = []
 moves_at_blocks (t ∷ table) (b ∷ blocks) =
     move_at_block t b.position b.count ∷ moves_at_blocks table blocks
+
+-- The edges that end, step by step, from below.
+abbrev pub ended_at : List Step → List ℕ
+ended_at [] = []
+ended_at (s ∷ steps) = s.ending ++ ended_at steps
+
+-- Each event of the timetable has its block, and these edges end, event by event, from below.
+pub record AreEvents (table : List Timed) (blocks : List EndingBlock)
+    (ended : List ℕ) : Type 0 where
+  pub sizes : length table ≤ length blocks
+  pub endings : ended ≡ ended_at (steps_from [] (moves_at_blocks table blocks))
 
 -- The event before that number comes before the point, and the one of that number does not. In a
 -- list whose events are in order there is one such number: that of the first event which does not

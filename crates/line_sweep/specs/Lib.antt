@@ -1,6 +1,6 @@
 pub mod Blocks
 pub mod CellEdges
 pub mod Kinds
-pub mod Held
+pub mod OpenGaps
 pub mod Sweeping
 pub mod TestEdges

@@ -1,16 +1,36 @@
-// The edges of the live list that end at an event.
-ghost use Rattle.std.specs.Prelude.{◌≡◌, ◌<◌, ◌≤◌, IfOk, IfErr, length, slice_index_or};
+// The edges of the live list that end at an event, and the edges beside them.
+ghost use Rattle.std.specs.Prelude.{◌≡◌, ◌+◌, ◌^◌, ◌<◌, ◌≤◌, IfOk, IfErr, length};
+ghost use Rattle.std.specs.Prelude.{slice_index_or};
 ghost use Rattle.straight_predicates.specs.EdgeLists.{edge_of, AreBelow, IsCloseToAll};
-ghost use Rattle.line_sweep.specs.Blocks.{AreEnding, IsBlock, IsThrough};
+ghost use Rattle.line_sweep.specs.Blocks.{AreBeside, AreEnding, IsBlock, IsThrough};
 
 use plane::{Edge, Point};
-use straight_predicates::{ChunkedList, Turn, cut, turn_over};
+use straight_predicates::{ChunkedList, Turn, cut, edge_at, edge_before, turn_over};
 
 /// The places of the live list from `from` on, `count` of them.
 #[derive(Clone, Copy)]
 pub struct Block {
     pub from: usize,
     pub count: usize,
+}
+
+/// The edges just below and just above a block, where there are some.
+#[derive(Clone, Copy)]
+pub struct Beside {
+    pub lower: Option<u32>,
+    pub upper: Option<u32>,
+}
+
+/// The edges beside the block.
+pub fn beside_block(live: &ChunkedList<u32>, block: Block) -> Beside
+    requires few { block.from + block.count < 2 ^ 31 }
+    requires place { block.from + block.count ≤ length live.now }
+    ensures { AreBeside live.now block.from block.count result.lower result.upper }
+{
+    Beside {
+        lower: edge_before(live, block.from),
+        upper: edge_at(live, block.from + block.count),
+    }
 }
 
 /// The block of the edges that end at the event, or a live edge that goes through the event and

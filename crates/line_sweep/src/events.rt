@@ -1,8 +1,9 @@
 // The events of a sweep: the timetable of the edges, and for each event where its edges end.
-ghost use Rattle.std.specs.Prelude.{◌≡◌, ◌<◌, ◌≤◌, length, slice_index_or, List};
-ghost use Rattle.plane.specs.Runs.Moves.{no_move};
+ghost use Rattle.std.specs.Prelude.{◌≡◌, ◌<◌, [], length, slice_index_or, List};
+ghost use Rattle.plane.specs.Runs.Moves.{no_move, steps_from};
 ghost use Rattle.straight_predicates.specs.Tables.{table_of};
-ghost use Rattle.line_sweep.specs.Kinds.{IsFirstFrom, move_of, moves_at_blocks};
+ghost use Rattle.line_sweep.specs.Kinds.{AreEvents, IsFirstFrom, ended_at, move_of};
+ghost use Rattle.line_sweep.specs.Kinds.{moves_at_blocks};
 
 use plane::Point;
 use std::marker::Model;
@@ -28,33 +29,45 @@ pub struct Event<'a> {
     pub starting: &'a [u32],
 }
 
-/// The events of a sweep, in order. An event takes 40 bytes, and each edge 8.
+/// The events of a sweep, in order. An event takes 40 bytes, and each edge 12.
 #[derive(Drop)]
 pub struct Events {
     table: Timetable,
     blocks: Vec<EndingBlock>,
+    ended: Vec<u32>,
 }
 
 impl Model for Events {
-    ghost use Rattle.std.specs.Prelude.{List, ◌≤◌, length};
+    ghost use Rattle.std.specs.Prelude.{List};
     ghost use Rattle.plane.specs.Runs.Moves.{Move};
     ghost use Rattle.straight_predicates.specs.Tables.{table_of};
-    ghost use Rattle.line_sweep.specs.Kinds.{moves_at_blocks};
+    ghost use Rattle.line_sweep.specs.Kinds.{AreEvents, moves_at_blocks};
 
     ghost Value = { List Move };
 
     ghost view = { λ e. moves_at_blocks (table_of e.table) e.blocks.items };
 
-    ghost invariant = { λ e. length (table_of e.table) ≤ length e.blocks.items };
+    ghost invariant = { λ e. AreEvents (table_of e.table) e.blocks.items e.ended.items };
 }
 
 impl Events {
-    /// The events of a timetable, each with its block.
-    pub(super) fn new(table: Timetable, blocks: Vec<EndingBlock>) -> Events
-        requires { length (table_of table) ≤ length blocks.items }
+    /// The events of a timetable, each with its block, and the edges that end.
+    pub(super) fn new(table: Timetable, blocks: Vec<EndingBlock>, ended: Vec<u32>) -> Events
+        requires { AreEvents (table_of table) blocks.items ended.items }
         ensures { result ≡ moves_at_blocks (table_of table) blocks.items }
     {
-        Events { table, blocks }
+        Events {
+            table,
+            blocks,
+            ended,
+        }
+    }
+
+    /// The edges that end, event after event, those of one event from below.
+    pub fn ended(&self) -> &[u32]
+        ensures { result.now ≡ ended_at (steps_from [] self.now) }
+    {
+        &self.ended
     }
 
     /// The number of events.

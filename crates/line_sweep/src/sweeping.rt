@@ -1,31 +1,27 @@
 // The sweep, event by event.
-ghost use Rattle.std.specs.Prelude.{◌≡◌, ℕ, ◌+◌, ◌^◌, ◌<◌, ◌≤◌, All, [], ◌∷◌, ◌++◌, IfOk, IfErr};
-ghost use Rattle.std.specs.Prelude.{OnOk, filter, length, slice_index_or, drop, take, suc};
-ghost use Rattle.plane.specs.Runs.Gaps.{closed_gaps, is_real, no_gap, opened};
+ghost use Rattle.std.specs.Prelude.{◌≡◌, ℕ, ◌+◌, ◌^◌, ◌<◌, [], ◌∷◌, IfOk, IfErr, OnOk, length};
+ghost use Rattle.std.specs.Prelude.{slice_index_or};
+ghost use Rattle.plane.specs.Runs.Gaps.{closed_gaps};
 ghost use Rattle.plane.specs.Forms.Meets.{Bad, IsEnd};
-ghost use Rattle.plane.specs.Runs.Moves.{Fit, steps_from, step_of};
-ghost use Rattle.plane.specs.Lists.{Has, Once};
+ghost use Rattle.plane.specs.Runs.Moves.{Fit, steps_from};
 ghost use Rattle.plane.specs.Runs.Steps.{Run};
 ghost use Rattle.plane.specs.Runs.Timetables.{IsTimetable, no_event};
 ghost use Rattle.straight_predicates.specs.EdgeLists.{edge_of, AreSorted, AreAllClose};
 ghost use Rattle.straight_predicates.specs.Tables.{table_of};
-ghost use Rattle.slab.specs.Slab.{ContainsKey};
-ghost use Rattle.line_sweep.specs.Blocks.{IsBlock};
-ghost use Rattle.line_sweep.specs.Held.{IsFineCell, IsHeld, gaps_held};
-ghost use Rattle.line_sweep.specs.Kinds.{IsRefused, gaps_of, move_at_block};
+ghost use Rattle.line_sweep.specs.Blocks.{AreBeside, IsBlock};
+ghost use Rattle.line_sweep.specs.Kinds.{IsRefused, gaps_of};
+ghost use Rattle.line_sweep.specs.OpenGaps.{AreFine};
 ghost use Rattle.line_sweep.specs.Sweeping.{HasSwept, HasTimetable};
 
-use super::blocks::{Block, find_block};
-use super::cells::{open_cells, test_cells};
-use super::events::{EndingBlock, Events};
-use super::keeping::{close_cells, keep_cells};
-use super::kinds::{Cell, CellEdge, SweepRefusal, Swept};
+use super::blocks::{Beside, Block, beside_block, find_block};
+use super::cells::test_neighbours;
+use super::events::Events;
+use super::kinds::{SweepRefusal, Swept};
 use super::state::State;
-use plane::{Edge, Point};
+use plane::Edge;
 use ports::Memory;
-use slab::Slab;
 use std::alloc::Global;
-use straight_predicates::{ChunkedList, Timetable, edge_at, edge_before};
+use straight_predicates::{ChunkedList, Timetable};
 
 /// The events of the edges and their neighbours, or two edges that are bad. The only other refusal
 /// is out of memory. For the costs see the head of the crate.
@@ -47,38 +43,33 @@ pub fn sweep(alloc: Global, edges: &[Edge]) -> Result<Swept, SweepRefusal>
     let mut state = begin(alloc, edges.len(), table.events() as usize)?;
     run(edges, &table, &mut state)?;
     Ok(Swept {
-        events: Events::new(table, state.blocks),
+        events: Events::new(table, state.blocks, state.ended),
         cells: state.cells,
     })
 }
 
 /// Nothing is live, and one cell without edges is open. There is room for a block for each event,
-/// and for the cells, of which each edge and each event opens one.
+/// for the edges, which all end, and for the cells, of which each edge and each event opens one.
 fn begin(alloc: Global, edges: usize, events: usize) -> Result<State, Memory>
     requires few { edges < 2 ^ 31 }
     requires few_events { events < 2 ^ 32 }
     ensures live { IfOk result (λ s. s.live ≡ []) }
-    ensures held { IfOk result (λ s. IsHeld s.open s.keys (no_gap ∷ [])) }
+    ensures since { IfOk result (λ s. s.since ≡ 0 ∷ []) }
     ensures blocks { IfOk result (λ s. s.blocks.items ≡ []) }
+    ensures ended { IfOk result (λ s. s.ended.items ≡ []) }
     ensures cells { IfOk result (λ s. s.cells.items ≡ []) }
 {
-    let mut keys = ChunkedList::new(alloc);
-    let mut open = Slab::new(alloc);
-    let first = open.insert(Cell {
-        lower: CellEdge::new(None),
-        upper: CellEdge::new(None),
-        event: 0,
-    })?;
-    keys.replace(0, 0, &[first])?;
+    let mut since = ChunkedList::new(alloc);
+    since.replace(0, 0, &[0u32])?;
     Ok(State {
         live: ChunkedList::new(alloc),
-        keys,
-        open,
+        since,
         blocks: Vec::with_capacity(alloc, events)?,
+        ended: Vec::with_capacity(alloc, edges)?,
         cells: Vec::with_capacity(alloc, edges + events)?,
+        ending: Vec::new(alloc),
         closing: Vec::new(alloc),
-        opened: Vec::new(alloc),
-        fresh: Vec::new(alloc),
+        opening: Vec::new(alloc),
     })
 }
 
@@ -114,32 +105,10 @@ fn step(
     ensures refused { IfErr result (IsRefused edges.now) }
 {
     let block = block_at(edges, table, event, state)?;
-    open_at(edges, table, event, block, state)?;
-    move_cells(
-        &mut state.open,
-        &mut state.keys,
-        &mut state.closing,
-        &mut state.fresh,
-        &mut state.cells,
-        block,
-        &state.opened,
-    )?;
-    let starting = table.starting(event);
-    state.live.replace(block.from, block.count, starting)?;
-    note_block(&mut state.blocks, block)?;
-    Ok(())
-}
-
-/// Writes the block of an event.
-fn note_block(blocks: &mut Vec<EndingBlock>, block: Block) -> Result<(), Memory>
-    requires { block.from + block.count < 2 ^ 31 }
-    ensures { OnOk result (blocks.new.items
-        ≡ blocks.old.items ++ record { position = block.from; count = block.count } ∷ []) }
-{
-    blocks.push(EndingBlock {
-        position: block.from as u32,
-        count: block.count as u32,
-    })?;
+    let beside = beside_block(&state.live, block);
+    test_at(edges, table, event, block, beside, state)?;
+    state.close(block, beside)?;
+    state.put(event, block, table.starting(event))?;
     Ok(())
 }
 
@@ -186,75 +155,33 @@ pub fn edge_of_event(edges: &[Edge], table: &Timetable, event: u32) -> u32
     }
 }
 
-/// Writes the cells that the event opens, and tests them.
-fn open_at(
+/// Tests the edges that become neighbours at the event: those that start there and those beside its
+/// block.
+fn test_at(
     edges: &[Edge],
     table: &Timetable,
     event: u32,
     block: Block,
-    state: &mut State,
+    beside: Beside,
+    state: &State,
 ) -> Result<(), SweepRefusal>
-    requires few { length edges.now < 2 ^ 31 }
     requires sorted { AreSorted edges.now }
     requires close { AreAllClose edges.now }
     requires table { IsTimetable (length edges.now) (edge_of edges.now) (table_of table.now) }
     requires event { event < length (table_of table.now) }
-    requires swept { HasSwept edges.now (table_of table.now) event state.old }
-    requires block { IsBlock (edge_of edges.now) state.old.live (slice_index_or
+    requires swept { HasSwept edges.now (table_of table.now) event state.now }
+    requires block { IsBlock (edge_of edges.now) state.now.live (slice_index_or
         (table_of table.now) event no_event).at block.from block.count }
-    ensures swept { OnOk result (HasSwept edges.now (table_of table.now) event state.new) }
-    ensures block { OnOk result (IsBlock (edge_of edges.now) state.new.live
-        (slice_index_or (table_of table.now) event no_event).at block.from block.count) }
-    ensures opened { OnOk result (gaps_of state.new.opened.items
-        ≡ opened event (step_of state.new.live (move_at_block (slice_index_or
-        (table_of table.now) event no_event) block.from block.count))) }
-    ensures fine { OnOk result (All (IsFineCell edges.now) state.new.opened.items) }
+    requires beside { AreBeside state.now.live block.from block.count beside.lower beside.upper }
+    ensures fine { OnOk result (AreFine edges.now beside.lower (slice_index_or
+        (table_of table.now) event no_event).starting beside.upper) }
     ensures refused { IfErr result (IsRefused edges.now) }
 {
-    let lower = edge_before(&state.live, block.from);
-    let upper = edge_at(&state.live, block.from + block.count);
-    open_cells(
-        &mut state.opened,
-        lower,
-        table.starting(event),
-        upper,
-        event,
-    )?;
-    match test_cells(edges, &state.opened) {
+    match test_neighbours(edges, beside.lower, table.starting(event), beside.upper) {
         Ok(()) => Ok(()),
         Err(pair) => Err(SweepRefusal::Bad {
             first: pair.0,
             second: pair.1,
         }),
     }
-}
-
-/// Closes the cells at the block, and puts the opened ones in their place.
-fn move_cells(
-    slab: &mut Slab<Cell>,
-    keys: &mut ChunkedList<usize>,
-    closing: &mut Vec<usize>,
-    fresh: &mut Vec<usize>,
-    closed: &mut Vec<Cell>,
-    block: Block,
-    opened: &[Cell],
-) -> Result<(), Memory>
-    requires few { block.from + block.count < 2 ^ 31 }
-    requires once { Once keys.old }
-    requires all { (k : ℕ) → Has k keys.old → ContainsKey slab.old k }
-    requires place { block.from + block.count + 1 ≤ length keys.old }
-    ensures held { OnOk result (IsHeld slab.new keys.new (take block.from
-        (gaps_held slab.old keys.old) ++ (gaps_of opened.now
-        ++ drop (suc (block.from + block.count)) (gaps_held slab.old keys.old)))) }
-    ensures closed { OnOk result (gaps_of closed.new.items
-        ≡ gaps_of closed.old.items
-        ++ filter is_real (take (suc block.count) (drop block.from (gaps_held slab.old
-        keys.old)))) }
-{
-    let count = block.count + 1;
-    keys.copy_part(block.from, count, closing)?;
-    close_cells(slab, closing, closed)?;
-    keep_cells(slab, opened, fresh)?;
-    keys.replace(block.from, count, fresh)?;
-    Ok(())
 }

@@ -25,8 +25,8 @@ use std::alloc::Global;
 
 /// The faces of a drawing of at most 16,000,000 straights without those that are marked, by
 /// numbers. No two of the others meet badly. The only error is out of memory. It takes a sweep of
-/// the curves that stay, two replays and the search of the faces; 12 bytes a curve, 8 a point and
-/// one a face stay.
+/// the curves that stay, a replay and the search of the faces; 12 bytes a curve, 8 a point and one
+/// a face stay.
 pub fn rest_faces(alloc: Global, drawing: &Drawing, out: &[bool]) -> Result<DrawingFaces, Memory>
     requires straights { AreStraights (plan drawing.now) }
     requires size { length out.now ≡ length (plan drawing.now).curves }

@@ -1,11 +1,10 @@
--- The mesh of a run: what its replay notes, and its events one after another.
-use Rattle.std.proofs.Common.{◌≡◌, ℕ, zero, suc, ◌+◌, ◌-◌, ◌^◌, ◌<◌, ◌≤◌, List, [], ◌∷◌, ◌++◌, length, max, take, drop, get_or, slice_index, refl, arith, ap, sym, ◌∙◌, subst, inl, inr, add-one, append_assoc}
+-- The mesh of a run: the events that are noted of its edges, and its events one after another.
+use Rattle.std.proofs.Common.{◌≡◌, ℕ, zero, suc, ◌+◌, ◌-◌, ◌^◌, ◌<◌, ◌≤◌, List, [], ◌∷◌, ◌++◌, length, max, take, drop, get_or, slice_index, refl, arith, ap, sym, ◌∙◌, subst, inl, inr, add-one}
 use Rattle.std.proofs.lemmas.Bool.{cases_lt}
-use Rattle.std.proofs.lemmas.List.{append-nil, drop-drop, length-append, length-drop, length-take, length-take-le, take_all, take_more}
+use Rattle.std.proofs.lemmas.List.{drop-drop, length-append, length-drop, length-take, length-take-le}
 use Rattle.std.proofs.Math.Seq.{drop-append_seam, take-append_seam}
 use Rattle.plane.specs.declared.kinds.Edge.{Edge}
 use Rattle.plane.specs.declared.kinds.Point.{Point}
-use Rattle.plane.specs.Faces.Replays.{no_step}
 use Rattle.plane.specs.Forms.Vectors.{Before}
 use Rattle.plane.specs.Lists.{Has}
 use Rattle.plane.specs.Runs.Moves.{Fit, Move, live_from, no_move, step_of, steps_from}
@@ -14,11 +13,11 @@ use Rattle.plane.specs.Runs.Sweeps.{IsEventList}
 use Rattle.half_edges.specs.HalfEdges.{HalfEdges}
 use Rattle.event_mesh.specs.Built.{AreEnds, IsMeshOf}
 use Rattle.event_mesh.specs.Fans.{CanTurn}
-use Rattle.event_mesh.specs.Turned.{IsEvent, IsEventAt, IsTurned, ending_at, nth_step, points_of}
-use Rattle.point_location.specs.Replaying.{IsApplied}
+use Rattle.event_mesh.specs.Turned.{IsEvent, IsEventAt, IsTurned, nth_step, points_of}
+use Rattle.line_sweep.specs.Kinds.{ended_at}
 use Rattle.straight_predicates.specs.EdgeEvents.{IsNoted}
 use Rattle.area_search.specs.declared.settled.meshing.Noted.{Noted}
-use Rattle.area_search.specs.Settled.Meshing.{HasNoted, IsWidest, NotesStep, ended_at, width}
+use Rattle.area_search.specs.Settled.Meshing.{HasNoted, IsWidest, width}
 use Rattle.area_search.proofs.PlaneLaws.{events_apart, fits_at, never, part_is, run_events, run_good, step_is, steps_length}
 
 -- ---- the widest event
@@ -35,10 +34,6 @@ widest_next moves k most new v q e is = record {
 }
 
 -- ---- the edges that end, as one list
-ended_more : (steps : List Step) (s : Step) → ended_at (steps ++ s ∷ []) ≡ ended_at steps ++ s.ending
-ended_more [] s = append-nil s.ending
-ended_more (t ∷ steps) s = ap (λ (es : List ℕ). t.ending ++ es) (ended_more steps s) ∙ sym (append_assoc t.ending (ended_at steps) s.ending)
-
 ended_next : (steps : List Step) (k : ℕ) → k < length steps → ended_at (drop k steps) ≡ (nth_step steps k).ending ++ ended_at (drop (suc k) steps)
 ended_next [] k l = absurd (omega (arith, l))
 ended_next (s ∷ steps) zero l = refl
@@ -54,6 +49,10 @@ step_place (t ∷ steps) s (inl e) = (0, omega arith, sym e)
 step_place (t ∷ steps) s (inr h) = let (k, l, e) = step_place steps s h in (suc k, omega (arith, l), e)
 
 -- ---- one number more in a list of events
+-- the entries of a vector, written through a slice of them
+pub noted_through : (edges : List ℕ) (event : ℕ) (old new shown written : List ℕ) → shown ≡ old → new ≡ written → IsNoted edges event shown written → IsNoted edges event old new
+noted_through edges event old new shown written a b is = subst (λ (xs : List ℕ). IsNoted edges event xs new) a (subst (λ (ys : List ℕ). IsNoted edges event shown ys) (sym b) is)
+
 module _ (m : ℕ) (E : ℕ → Edge) (steps : List Step) (events : IsEventList m E (points_of steps)) where
   noted_next : (edges_at : Step → List ℕ) (point : ℕ → Point)
       → ((j e : ℕ) → j < length steps → Has e (edges_at (nth_step steps j)) → point e ≡ (nth_step steps j).at)
@@ -81,21 +80,24 @@ module _ (m : ℕ) (E : ℕ → Edge) (vs : List Move) (run : Run m E (steps_fro
   pub events : IsEventList m E (points_of (steps_from [] vs))
   events = run_events m E steps run
 
-  -- ---- one event more is noted
-  noted_more : (k : ℕ) (s : Step) (old new : Noted) → k < length vs → nth_step (steps_from [] vs) k ≡ s → HasNoted m (steps_from [] vs) k old → NotesStep k s old new
-      → HasNoted m (steps_from [] vs) (k + 1) new
-  noted_more k s old new l q has is =
-      let b : k < length (steps_from [] vs) = let z = size in omega (arith, l, z) in
-      record {
-        low_count = is.low_count ∙ has.low_count;
-        high_count = is.high_count ∙ has.high_count;
-        low = noted_next m E steps events (λ (t : Step). t.starting) (λ (e : ℕ). (E e).low) (λ j e c h. ((good j c).starting_only e h).1) k old.low.items new.low.items b has.low
-            (subst (λ (t : Step). IsNoted t.starting k old.low.items new.low.items) (sym q) is.low);
-        high = noted_next m E steps events (λ (t : Step). t.ending) (λ (e : ℕ). (E e).high) (λ j e c h. ((good j c).ending_only e h).1) k old.high.items new.high.items b has.high
-            (subst (λ (t : Step). IsNoted t.ending k old.high.items new.high.items) (sym q) is.high);
-        ended = is.ended ∙ ap (λ (es : List ℕ). es ++ s.ending) has.ended ∙ ap (λ (t : Step). ended_at (take k steps) ++ t.ending) (sym q)
-            ∙ sym (ended_more (take k steps) (nth_step steps k)) ∙ ap ended_at (sym (take_more steps k no_step b));
-      }
+  -- ---- the edges of an event are known, and one event more is noted
+  module _ (k : ℕ) (starting ending : List ℕ) (event : IsEvent m E (steps_from [] vs) k starting ending) where
+    pub event_starting : (e : ℕ) → Has e starting → e < m
+    event_starting e h = (event.good.starting_only e (subst (λ (es : List ℕ). Has e es) (sym event.starting) h)).0
+
+    pub event_ending : (e : ℕ) → Has e ending → e < m
+    event_ending e h = (event.good.ending_only e (subst (λ (es : List ℕ). Has e es) (sym event.ending) h)).0
+
+    pub noted_more : (old new : Noted) → HasNoted m (steps_from [] vs) k old → length new.low.items ≡ length old.low.items → length new.high.items ≡ length old.high.items
+        → IsNoted starting k old.low.items new.low.items → IsNoted ending k old.high.items new.high.items → HasNoted m (steps_from [] vs) (k + 1) new
+    noted_more old new has a b low high = record {
+      low_count = a ∙ has.low_count;
+      high_count = b ∙ has.high_count;
+      low = noted_next m E steps events (λ (t : Step). t.starting) (λ (e : ℕ). (E e).low) (λ j e c h. ((good j c).starting_only e h).1) k old.low.items new.low.items event.within has.low
+          (subst (λ (es : List ℕ). IsNoted es k old.low.items new.low.items) (sym event.starting) low);
+      high = noted_next m E steps events (λ (t : Step). t.ending) (λ (e : ℕ). (E e).high) (λ j e c h. ((good j c).ending_only e h).1) k old.high.items new.high.items event.within has.high
+          (subst (λ (es : List ℕ). IsNoted es k old.high.items new.high.items) (sym event.ending) high);
+    }
 
   -- ---- all events are noted
   module _ (noted : Noted) (has : HasNoted m (steps_from [] vs) (length vs) noted) where
@@ -141,25 +143,6 @@ module _ (m : ℕ) (E : ℕ → Edge) (vs : List Move) (run : Run m E (steps_fro
   step_at : (k : ℕ) → k < length vs → (v : Move) → get_or vs k no_move ≡ v → nth_step (steps_from [] vs) k ≡ step_of (live_from [] (take k vs)) v
   step_at k l v is = step_is [] vs k l ∙ ap (λ (u : Move). step_of (live_from [] (take k vs)) u) is
 
-  module _ (k : ℕ) (live : List ℕ) (a : IsApplied vs k live) (l : k < length vs) (v : Move) (is : get_or vs k no_move ≡ v) (noted : Noted) (has : HasNoted m (steps_from [] vs) k noted) where
-    step_of_live : nth_step (steps_from [] vs) k ≡ step_of live v
-    step_of_live = step_at k l v is ∙ ap (λ (now : List ℕ). step_of now v) (sym a.values)
-
-    pub starting_known : (e : ℕ) → Has e v.starting → e < length noted.low.items
-    starting_known e h =
-        let b = ((good k (let z = size in omega (arith, l, z))).starting_only e (subst (λ (s : Step). Has e s.starting) (sym step_of_live) h)).0 in
-        let n = has.low_count in
-        omega (arith, b, n)
-
-    pub ending_known : (e : ℕ) → Has e (ending_at live v) → e < length noted.high.items
-    ending_known e h =
-        let b = ((good k (let z = size in omega (arith, l, z))).ending_only e (subst (λ (s : Step). Has e s.ending) (sym step_of_live) h)).0 in
-        let n = has.high_count in
-        omega (arith, b, n)
-
-    pub noted_next_event : (new : Noted) → NotesStep k (step_of live v) noted new → HasNoted m (steps_from [] vs) (k + 1) new
-    noted_next_event new is = noted_more k (step_of live v) noted new l step_of_live has is
-
   -- ---- one event more is turned
   module _ (fit : Fit [] vs) (k : ℕ) (l : k < length vs) (v : Move) (is : get_or vs k no_move ≡ v) where
     pub ending_size : length (nth_step (steps_from [] vs) k).ending ≡ v.ending
@@ -200,10 +183,6 @@ module _ (m : ℕ) (E : ℕ → Edge) (vs : List Move) (run : Run m E (steps_fro
             ending = sym (b ∙ ending_is);
           }
 
-  -- all events stand to be turned at first
-  pub rest_of_all : (ended : List ℕ) → ended ≡ ended_at (take (length vs) (steps_from [] vs)) → ended ≡ ended_at (steps_from [] vs)
-  rest_of_all ended e = e ∙ ap ended_at (take_all (length vs) steps (let z = size in omega (arith, z)))
-
 -- ---- the same of a list of events
 module _ (m : ℕ) (E : ℕ → Edge) (events : List Move) (run : Run m E (steps_from [] events)) where
   module _ (noted : Noted) (has : HasNoted m (steps_from [] events) (length events) noted) where
@@ -223,47 +202,40 @@ module _ (m : ℕ) (E : ℕ → Edge) (events : List Move) (run : Run m E (steps
         (subst (λ (ls : List ℕ). IsMeshOf (length events) ls high (length ls) mesh) b
         (subst (λ (k : ℕ). IsMeshOf k low high (length low) mesh) a is)))
 
-    pub listed_rest : noted.ended.items ≡ ended_at (steps_from [] events)
-    listed_rest = rest_of_all m E events run noted.ended.items has.ended
+  -- how far the edges that end are passed
+  module _ (fit : Fit [] events) (k : ℕ) (l : k < length events) (v : Move) (is : get_or events k no_move ≡ v)
+      (ended : List ℕ) (from : ℕ) (within : from ≤ length ended) (rest : drop from ended ≡ ended_at (drop k (steps_from [] events))) where
+    pub block_within : from + v.ending ≤ length ended
+    block_within = next_within m E events run fit k l v is ended from within rest
 
-    -- how far the turning of the events has come
-    module _ (fit : Fit [] events) (few : m < 2 ^ 31) (k : ℕ) (l : k < length events) (v : Move) (is : get_or events k no_move ≡ v)
-        (from : ℕ) (within : from ≤ length noted.ended.items) (rest : drop from noted.ended.items ≡ ended_at (drop k (steps_from [] events))) where
-      pub block_within : from + v.ending ≤ length noted.ended.items
-      block_within = next_within m E events run fit k l v is noted.ended.items from within rest
+    pub rest_after : drop (from + v.ending) ended ≡ ended_at (drop (k + 1) (steps_from [] events))
+    rest_after = rest_next m E events run fit k l v is ended from within rest ∙ ap (λ (n : ℕ). ended_at (drop n (steps_from [] events))) (sym (add-one k))
 
-      pub rest_after : drop (from + v.ending) noted.ended.items ≡ ended_at (drop (k + 1) (steps_from [] events))
-      rest_after =
-          rest_next m E events run fit k l v is noted.ended.items from within rest
-          ∙ ap (λ (n : ℕ). ended_at (drop n (steps_from [] events))) (sym (add-one k))
+    module _ (starting : List ℕ) (a : starting ≡ v.starting) where
+      pub is_event : IsEvent m E (steps_from [] events) k starting (take ((from + v.ending) - from) (drop from ended))
+      is_event = event_is m E events run fit k l v is ended from within rest starting (take ((from + v.ending) - from) (drop from ended)) a (part_is ended from v.ending)
 
-      module _ (starting ended : List ℕ) (a : starting ≡ v.starting) (b : ended ≡ noted.ended.items) where
-        is_event : IsEvent m E (steps_from [] events) k starting (take ((from + v.ending) - from) (drop from ended))
-        is_event =
-            event_is m E events run fit k l v is noted.ended.items from within rest starting (take ((from + v.ending) - from) (drop from ended)) a
-            (part_is ended from v.ending ∙ ap (λ (es : List ℕ). take v.ending (drop from es)) b)
+      pub can_turn_event : ((n : ℕ) (F : ℕ → Edge) (steps : List Step) (mesh : HalfEdges) (j : ℕ) (starting ending : List ℕ)
+          → n ≤ 2 ^ 31 → IsEventList n F (points_of steps) → IsTurned n F steps mesh j → IsEvent n F steps j starting ending → CanTurn mesh starting ending)
+          → m < 2 ^ 31 → (mesh : HalfEdges) → IsTurned m E (steps_from [] events) mesh k → CanTurn mesh starting (take ((from + v.ending) - from) (drop from ended))
+      can_turn_event can few mesh t =
+          can m E (steps_from [] events) mesh k starting (take ((from + v.ending) - from) (drop from ended)) (omega (arith, few)) (run_events m E (steps_from [] events) run) t is_event
 
-        pub can_turn_event : ((n : ℕ) (F : ℕ → Edge) (steps : List Step) (mesh : HalfEdges) (j : ℕ) (starting ending : List ℕ)
-            → n ≤ 2 ^ 31 → IsEventList n F (points_of steps) → IsTurned n F steps mesh j → IsEvent n F steps j starting ending → CanTurn mesh starting ending)
-            → (mesh : HalfEdges) → IsTurned m E (steps_from [] events) mesh k → CanTurn mesh starting (take ((from + v.ending) - from) (drop from ended))
-        can_turn_event can mesh t =
-            can m E (steps_from [] events) mesh k starting (take ((from + v.ending) - from) (drop from ended)) (omega (arith, few)) (run_events m E (steps_from [] events) run) t is_event
+      pub has_room : (room : ℕ) → IsWidest events (length events) room → length starting + length (take ((from + v.ending) - from) (drop from ended)) ≤ room
+      has_room room w =
+          let b = w.most k l in
+          let c = ap width is in
+          let d = ap length a in
+          let e = take-bound ((from + v.ending) - from) (drop from ended) in
+          omega (arith, b, c, d, e)
 
-        pub has_room : (room : ℕ) → IsWidest events (length events) room → length starting + length (take ((from + v.ending) - from) (drop from ended)) ≤ room
-        has_room room w =
-            let b = w.most k l in
-            let c = ap width is in
-            let d = ap length a in
-            let e = take-bound ((from + v.ending) - from) (drop from ended) in
-            omega (arith, b, c, d, e)
-
-        pub turned_next : (old new : HalfEdges) → IsTurned m E (steps_from [] events) old k
-            → ((n : ℕ) (F : ℕ → Edge) (steps : List Step) (j : ℕ) → IsEventList n F (points_of steps) → IsTurned n F steps old j
-            → IsEvent n F steps j starting (take ((from + v.ending) - from) (drop from ended)) → IsTurned n F steps new (suc j))
-            → IsTurned m E (steps_from [] events) new (k + 1)
-        turned_next old new t f =
-            subst (λ (n : ℕ). IsTurned m E (steps_from [] events) new n) (sym (add-one k))
-            (f m E (steps_from [] events) k (run_events m E (steps_from [] events) run) t is_event)
+      pub turned_next : (old new : HalfEdges) → IsTurned m E (steps_from [] events) old k
+          → ((n : ℕ) (F : ℕ → Edge) (steps : List Step) (j : ℕ) → IsEventList n F (points_of steps) → IsTurned n F steps old j
+          → IsEvent n F steps j starting (take ((from + v.ending) - from) (drop from ended)) → IsTurned n F steps new (suc j))
+          → IsTurned m E (steps_from [] events) new (k + 1)
+      turned_next old new t f =
+          subst (λ (n : ℕ). IsTurned m E (steps_from [] events) new n) (sym (add-one k))
+          (f m E (steps_from [] events) k (run_events m E (steps_from [] events) run) t is_event)
 
   pub all_turned : (mesh : HalfEdges) (k : ℕ) → k ≡ length events → IsTurned m E (steps_from [] events) mesh k → IsTurned m E (steps_from [] events) mesh (length (steps_from [] events))
   all_turned mesh k e t = subst (λ (n : ℕ). IsTurned m E (steps_from [] events) mesh n) (e ∙ sym (size m E events run)) t

@@ -24,8 +24,8 @@ use tubes::{EdgeList, edge_list};
 
 /// The mesh of a drawing of at most 16,000,000 straights that is a partition, with its faces and
 /// the face of each object's point. The only error is out of memory. It takes a sweep of the
-/// straights, two replays and the search of the faces; 32 bytes a straight, 16 a vertex and 4 a
-/// point stay.
+/// straights, a replay and the search of the faces; 32 bytes a straight, 16 a vertex and 4 a point
+/// stay.
 pub fn faces_of_straights(alloc: Global, drawing: &Drawing) -> Result<FacedDrawing, Memory>
     requires curves { length (plan drawing.now).curves ≤ 16000000 }
     requires straights { AreStraights (plan drawing.now) }

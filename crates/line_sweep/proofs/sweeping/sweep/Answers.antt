@@ -14,10 +14,13 @@ pub run-requires-clause-begun : goal.run-requires-clause-begun
 run-requires-clause-begun c =
     let b = c.in_ok-state.ensures in
     let none = ap (moves_at_blocks (table_of c.in_ok-table.table)) b.blocks ∙ no_moves (table_of c.in_ok-table.table) in
-    begun c.args.edges.now (table_of c.in_ok-table.table) _ _ _ _ _ c.in_ok-table.ensures b.live none (ap gaps_of b.cells) b.held
+    begun c.args.edges.now (table_of c.in_ok-table.table) _ _ _ _ _ c.in_ok-table.ensures b.live b.since b.ended none (ap gaps_of b.cells)
 
 pub new-requires-2 : goal.new-requires-2
-new-requires-2 c = all_have_blocks (table_of c.in_ok-table.table) c.run.new.state.blocks.items c.in_ok-run.ensures.done.size
+new-requires-2 c = record {
+  sizes = all_have_blocks (table_of c.in_ok-table.table) c.run.new.state.blocks.items c.in_ok-run.ensures.done.size;
+  endings = c.in_ok-run.ensures.done.endings;
+}
 
 pub returns-clause-run : goal.returns-clause-run
 returns-clause-run c =
