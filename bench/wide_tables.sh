@@ -4,7 +4,7 @@
 # Prints for each the first line of the report, the status, the CPU time as a multiple of that of
 # `compile` of the same model, and the peak memory as a multiple of the model and the transfer. What
 # the objects alone cost should not depend on how many attributes there are, nor on how many times
-# one IDENT list is said. The last form, of lists that differ, is known to be a product, of objects
+# one IDENT list is said. The time of the last form, of lists that differ, is a product of objects
 # and lists; the last two are smaller.
 #
 # usage: bench/wide_tables.sh [ITFCHECK]      (crates/itfcheck/out/itfcheck where none is given)

@@ -1,64 +1,15 @@
 -- Rows that are added to what is kept, one by one.
-use Rattle.std.proofs.Common.{◌≡◌, ℕ, zero, suc, ◌+◌, ◌<◌, ◌≤◌, List, [], ◌∷◌, ◌++◌, length, map, take, drop, get_or, set, refl, sym, ap, ◌∙◌, arith, add-one}
+use Rattle.std.proofs.Common.{◌≡◌, ℕ, zero, suc, ◌+◌, ◌<◌, ◌≤◌, List, [], ◌∷◌, length, map, drop, get_or, set, refl, sym, ap, ◌∙◌, arith}
 use Rattle.std.proofs.lemmas.List.{length-map}
 use Rattle.itf_reader.specs.declared.transfer.Row.{Row as CodeRow}
 use Rattle.itf_reader.specs.declared.transfer.TableRows.{TableRows as CodeTableRows}
 use Rattle.itf_reader.specs.Forms.{Row}
 use Rattle.itf_reader.specs.Views.{row_of, rows_of, table_rows_of, tables_rows_of}
-use Rattle.ident_refs.specs.declared.table_keys.KeptList.{KeptList as CodeList}
 use Rattle.ident_refs.specs.declared.table_keys.TableKeys.{TableKeys}
 use Rattle.ident_refs.specs.FedRows.{row_at, fed_rows, fed_tables}
-use Rattle.ident_refs.specs.KeptRows.{KeptList, Kept, with_row}
-use Rattle.ident_refs.specs.KeptViews.{kept_view, all_kept_view, list_view, lists_view}
+use Rattle.ident_refs.specs.KeptRows.{Kept, with_row}
+use Rattle.ident_refs.specs.KeptViews.{kept_view, all_kept_view}
 use Rattle.ident_refs.proofs.Splits.{split}
-
--- ---- the keys of a row
-set_length : {X : Type 0} (xs : List X) (i : ℕ) (x : X) → length (set xs i x) ≡ length xs
-set_length [] i x = refl
-set_length (y ∷ xs) zero x = refl
-set_length (y ∷ xs) (suc i) x = ap suc (set_length xs i x)
-
-pub still_counted : {X : Type 0} (xs : List X) (i n : ℕ) (x : X) → length xs ≡ n → length (set xs i x) ≡ n
-still_counted xs i n x e = set_length xs i x ∙ e
-
--- lists, the first of which have taken a row
-abbrev Partly : (KeptList → KeptList) → ℕ → List CodeList → List KeptList
-Partly g i old = map g (take i (lists_view old)) ++ drop i (lists_view old)
-
-keys_suc : (g : KeptList → KeptList) (i : ℕ) (now old : List CodeList) (d new : CodeList) → i < length now → list_view new ≡ g (list_view (get_or now i d))
-    → lists_view now ≡ Partly g i old → lists_view (set now i new) ≡ Partly g (suc i) old
-keys_suc g i [] old d new lt n inv = absurd (omega (arith, lt))
-keys_suc g zero (y ∷ now) [] d new lt n inv = absurd (no_cons _ _ inv)
-  where
-    no_cons : (a : KeptList) (ks : List KeptList) → a ∷ ks ≡ [] → ⊥
-    no_cons a ks e = cc
-keys_suc g zero (y ∷ now) (o ∷ old) d new lt n inv =
-    ap (λ (l : KeptList). l ∷ lists_view now) n
-    ∙ ap (λ (l : List KeptList). g (list_view y) ∷ l) (rest_same _ _ _ _ inv)
-    ∙ ap (λ (l : KeptList). g l ∷ lists_view old) (first_same _ _ _ _ inv)
-  where
-    first_same : (a b : KeptList) (ks ls : List KeptList) → a ∷ ks ≡ b ∷ ls → a ≡ b
-    first_same a b ks ls e = cc
-
-    rest_same : (a b : KeptList) (ks ls : List KeptList) → a ∷ ks ≡ b ∷ ls → ks ≡ ls
-    rest_same a b ks ls e = cc
-keys_suc g (suc i) (y ∷ now) [] d new lt n inv = absurd (no_cons _ _ inv)
-  where
-    no_cons : (a : KeptList) (ks : List KeptList) → a ∷ ks ≡ [] → ⊥
-    no_cons a ks e = cc
-keys_suc g (suc i) (y ∷ now) (o ∷ old) d new lt n inv =
-    ap (λ (l : List KeptList). list_view y ∷ l) (keys_suc g i now old d new (omega (arith, lt)) n (rest_same _ _ _ _ inv))
-    ∙ ap (λ (l : KeptList). l ∷ Partly g (suc i) old) (first_same _ _ _ _ inv)
-  where
-    first_same : (a b : KeptList) (ks ls : List KeptList) → a ∷ ks ≡ b ∷ ls → a ≡ b
-    first_same a b ks ls e = cc
-
-    rest_same : (a b : KeptList) (ks ls : List KeptList) → a ∷ ks ≡ b ∷ ls → ks ≡ ls
-    rest_same a b ks ls e = cc
-
-pub keys_step : (g : KeptList → KeptList) (i : ℕ) (now old : List CodeList) (d new : CodeList) → i < length now → list_view new ≡ g (list_view (get_or now i d))
-    → lists_view now ≡ Partly g i old → lists_view (set now i new) ≡ Partly g (i + 1) old
-keys_step g i now old d new lt n inv = keys_suc g i now old d new lt n inv ∙ ap (λ (m : ℕ). Partly g m old) (sym (add-one i))
 
 -- ---- rows of tables
 pub row_set : (tables : List TableKeys) (place : ℕ) (d new : TableKeys) (r : Row) → place < length tables → kept_view new ≡ with_row r (kept_view (get_or tables place d))

@@ -11,7 +11,7 @@ flat_step {X} {Y} {Z} f g i xs x found new start lt at n inv =
     ap (λ (fs : List Z). fs ++ flat_map g (drop (i + 1) (map f xs))) n ∙ append_assoc found (g (f x)) _
     ∙ ap (λ (ys : List Y). found ++ flat_map g ys) (sym s.0) ∙ inv
 
-got_again : {X : Type 0} (xs : List X) (i : ℕ) (d : X) → i < length xs → get_or xs i d ≡ get_or xs i (get_or xs i d)
+pub got_again : {X : Type 0} (xs : List X) (i : ℕ) (d : X) → i < length xs → get_or xs i d ≡ get_or xs i (get_or xs i d)
 got_again [] i d lt = absurd (omega (arith, lt))
 got_again (y ∷ xs) zero d lt = refl
 got_again (y ∷ xs) (suc i) d lt = got_again xs i d (omega (arith, lt))

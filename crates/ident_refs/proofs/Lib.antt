@@ -13,7 +13,6 @@ pub mod SoundVertices
 pub mod SpanLaws
 pub mod RowValues
 pub mod LineLaws
-pub mod Gathering
 pub mod SameAnswers
 pub mod FlatSteps
 pub mod AllMapped
@@ -21,4 +20,8 @@ pub mod Collecting
 pub mod NoRows
 pub mod NeighbouringKeys
 pub mod SharedSteps
+pub mod PartKeys
+pub mod PartNumbers
+pub mod RowSpans
+pub mod EndedKeys
 pub mod NamedRefs

@@ -9,10 +9,9 @@ use Rattle.table_layout.specs.Layouts.{Table}
 use Rattle.itf_reader.specs.declared.findings.Code.{Code}
 use Rattle.itf_reader.specs.declared.findings.Finding.{Finding as CodeFinding}
 use Rattle.itf_reader.specs.Findings.{Other, Finding, finding_of, findings_of}
-use Rattle.ident_refs.specs.declared.table_keys.KeptList.{KeptList as CodeList}
+use Rattle.ident_refs.specs.declared.ident_lists.KeptList.{KeptList as CodeList}
 use Rattle.ident_refs.specs.KeptRows.{Ref, KeptList, Kept, kept_list, kept_lists}
-use Rattle.ident_refs.specs.KeptViews.{list_view, lists_view, picked, picked_one}
-use Rattle.ident_refs.specs.SharedLists.{AreBare, bare_list, code_places}
+use Rattle.ident_refs.specs.SharedLists.{AreBare, bare_list, code_places, list_view, lists_view, picked, picked_one}
 use Rattle.ident_refs.proofs.KeptRefs.{flat_map_more}
 
 -- ---- elements by their places
@@ -29,7 +28,7 @@ picked_map {X} {Y} g xs (j ∷ order) =
     ∙ ap (λ (l : List Y). map g (picked_one xs j) ++ l) (picked_map g xs order)
     ∙ sym (map-append g (picked_one xs j) (picked xs order))
 
-one_there : {X : Type 0} (xs : List X) (j : ℕ) (d : X) → j < length xs → picked_one xs j ≡ get_or xs j d ∷ []
+pub one_there : {X : Type 0} (xs : List X) (j : ℕ) (d : X) → j < length xs → picked_one xs j ≡ get_or xs j d ∷ []
 one_there [] j d lt = absurd (omega (arith, lt))
 one_there (x ∷ xs) zero d lt = refl
 one_there (x ∷ xs) (suc j) d lt = one_there xs j d (omega (arith, lt))
@@ -45,7 +44,7 @@ one_grown [] x j lt = absurd (omega (arith, lt))
 one_grown (y ∷ xs) x zero lt = refl
 one_grown (y ∷ xs) x (suc j) lt = one_grown xs x j (omega (arith, lt))
 
-picked_grown : {X : Type 0} (xs : List X) (x : X) (n : ℕ) (order : List ℕ) → n ≡ length xs → All (λ j. j < n) order → picked (xs ++ x ∷ []) order ≡ picked xs order
+pub picked_grown : {X : Type 0} (xs : List X) (x : X) (n : ℕ) (order : List ℕ) → n ≡ length xs → All (λ j. j < n) order → picked (xs ++ x ∷ []) order ≡ picked xs order
 picked_grown xs x n [] e h = refl
 picked_grown {X} xs x n (j ∷ order) e h =
     let first : j < n = h 0 j (omega arith) in
@@ -53,13 +52,13 @@ picked_grown {X} xs x n (j ∷ order) e h =
     ∙ ap (λ (l : List X). picked_one xs j ++ l) (picked_grown xs x n order e (λ i d lt. h (suc i) d (omega (arith, lt))))
 
 -- ---- lists that are kept
-pub grown_more : (old new : List CodeList) (x : CodeList) → new ≡ old ++ x ∷ [] → (order : List ℕ) → All (λ j. j < length old) order → picked (lists_view new) order ≡ picked (lists_view old) order
+pub grown_more : (old new : List CodeList) (x : CodeList) → new ≡ old ++ x ∷ [] → (order : List ℕ) → All (λ j. j < length old) order → picked (lists_view [] new) order ≡ picked (lists_view [] old) order
 grown_more old new x e order h =
-    ap (λ (l : List CodeList). picked (lists_view l) order) e
-    ∙ ap (λ (l : List KeptList). picked l order) (map-append list_view old (x ∷ []))
-    ∙ picked_grown (lists_view old) (list_view x) (length old) order (sym (length-map old list_view)) h
+    ap (λ (l : List CodeList). picked (lists_view [] l) order) e
+    ∙ ap (λ (l : List KeptList). picked l order) (map-append (list_view []) old (x ∷ []))
+    ∙ picked_grown (lists_view [] old) (list_view [] x) (length old) order (sym (length-map old (list_view []))) h
 
-known_one : (ls : List CodeList) (j : ℕ) (l : CodeList) (places : List ℕ) → AreBare ls → j < length ls → l ≡ get_or ls j l → l.places.now ≡ places → picked_one (lists_view ls) j ≡ bare_list places ∷ []
+known_one : (ls : List CodeList) (j : ℕ) (l : CodeList) (places : List ℕ) → AreBare ls → j < length ls → l ≡ get_or ls j l → l.places.now ≡ places → picked_one (lists_view [] ls) j ≡ bare_list places ∷ []
 known_one ls j l places bare lt at e =
     ap (λ (v : List KeptList). picked_one v j) bare
     ∙ one_map bare_list (map code_places ls) j
@@ -67,7 +66,7 @@ known_one ls j l places bare lt at e =
     ∙ ap (λ (x : CodeList). bare_list (code_places x) ∷ []) (sym at)
     ∙ ap (λ (ps : List ℕ). bare_list ps ∷ []) e
 
-pub known_within : (ls slice : List CodeList) (j : ℕ) (l : CodeList) (places : List ℕ) → AreBare ls → slice ≡ ls → j < length slice → l ≡ get_or slice j l → l.places.now ≡ places → picked_one (lists_view ls) j ≡ bare_list places ∷ []
+pub known_within : (ls slice : List CodeList) (j : ℕ) (l : CodeList) (places : List ℕ) → AreBare ls → slice ≡ ls → j < length slice → l ≡ get_or slice j l → l.places.now ≡ places → picked_one (lists_view [] ls) j ≡ bare_list places ∷ []
 known_within ls slice j l places bare e lt at p =
     known_one ls j l places bare (subst (λ (k : List CodeList). j < length k) e lt) (at ∙ ap (λ (k : List CodeList). get_or k j l) e) p
 
@@ -87,7 +86,7 @@ all_within n m k (j ∷ order) h le lt =
 pub all_within_more : (n m k : ℕ) (order more : List ℕ) → more ≡ order ++ k ∷ [] → All (λ j. j < n) order → n ≤ m → k < m → All (λ j. j < m) more
 all_within_more n m k order more e h le lt = subst (λ (l : List ℕ). All (λ j. j < m) l) (sym e) (all_within n m k order h le lt)
 
-one_more : {X : Type 0} (xs : List X) (order : List ℕ) (k : ℕ) → picked xs (order ++ k ∷ []) ≡ picked xs order ++ picked_one xs k
+pub one_more : {X : Type 0} (xs : List X) (order : List ℕ) (k : ℕ) → picked xs (order ++ k ∷ []) ≡ picked xs order ++ picked_one xs k
 one_more {X} xs order k = flat_map_more (picked_one xs) order (k ∷ []) ∙ ap (λ (l : List X). picked xs order ++ l) (append-nil (picked_one xs k))
 
 abbrev own_places : Places → List ℕ

@@ -1,5 +1,5 @@
 -- Each vertex of a sound line is read.
-use Rattle.std.proofs.Common.{◌≡◌, ℕ, zero, suc, ◌<◌, ◌&&◌, Bool, true, false, cond, List, [], ◌∷◌, length, get_or, Option, Some, None, is_none, Result, Ok, Err, ℤ, refl, ap, ◌∙◌, subst, arith}
+use Rattle.std.proofs.Common.{◌≡◌, ℕ, ◌&&◌, Bool, true, false, cond, List, ◌∷◌, Option, Some, None, is_none, Result, Ok, Err, ℤ, refl, ap, ◌∙◌, subst, arith}
 use Rattle.std.specs.Option.{option_map}
 use Rattle.resolver.specs.Resolved.{LineForm}
 use Rattle.table_layout.specs.Layouts.{Role}

@@ -1,6 +1,5 @@
 -- What the code keeps of rows, without where it lies in memory.
-use Rattle.std.specs.Prelude.{◌≡◌, ℕ, List, map, take, drop, Option}
-use Rattle.std.specs.List.{flat_map}
+use Rattle.std.specs.Prelude.{◌≡◌, ℕ, List, map, Option}
 use Rattle.ili_grammar.specs.Values.{codes_of}
 use Rattle.table_layout.specs.Layouts.{Layout}
 use Rattle.table_layout.specs.Values.{table_view}
@@ -8,11 +7,13 @@ use Rattle.itf_reader.specs.Forms.{Row}
 use Rattle.ident_refs.specs.declared.references.KeptRef.{KeptRef}
 use Rattle.ident_refs.specs.declared.references.NamedRow.{NamedRow}
 use Rattle.ident_refs.specs.declared.repeats.KeyColumn.{KeyColumn}
-use Rattle.ident_refs.specs.declared.table_keys.KeptList.{KeptList as CodeList}
+use Rattle.ident_refs.specs.declared.row_keys.RowKeys.{RowKeys}
 use Rattle.ident_refs.specs.declared.table_keys.TableKeys.{TableKeys}
 use Rattle.ident_refs.specs.declared.feed.KeyFeed.{KeyFeed}
-use Rattle.ident_refs.specs.KeptRows.{Ref, KeptList, Kept, kept_rows}
+use Rattle.ident_refs.specs.KeptRows.{Ref, Kept, kept_rows}
 use Rattle.ident_refs.specs.NamedRows.{Named}
+use Rattle.ident_refs.specs.RowKeys.{rows_in}
+use Rattle.ident_refs.specs.SharedLists.{lists_view, picked}
 
 abbrev pub ref_view : KeptRef → Ref
 ref_view r = record { line = r.line; column = r.column; table = r.table; word = r.word }
@@ -20,18 +21,9 @@ ref_view r = record { line = r.line; column = r.column; table = r.table; word = 
 abbrev pub refs_view : List KeptRef → List Ref
 refs_view rs = map ref_view rs
 
-abbrev pub list_view : CodeList → KeptList
-list_view l = record { column = l.column; places = l.places.now; keys = l.keys.items }
-
-abbrev pub lists_view : List CodeList → List KeptList
-lists_view ls = map list_view ls
-
--- the element at a place, if there is one
-abbrev pub picked_one : {X : Type 0} → List X → ℕ → List X
-picked_one xs place = take 1 (drop place xs)
-
-abbrev pub picked : {X : Type 0} → List X → List ℕ → List X
-picked xs places = flat_map (picked_one xs) places
+-- the keys of each row by the parts of the lists of its table
+abbrev pub rows_view : RowKeys → List (List (Option (List ℕ)))
+rows_view k = rows_in k.keys.items k.rows.items
 
 abbrev pub kept_view : TableKeys → Kept
 kept_view t = record {
@@ -39,7 +31,7 @@ kept_view t = record {
   table = table_view t.reader.table.now;
   lines = t.lines.items;
   ids = t.ids.items;
-  lists = picked (lists_view t.lists.items) t.order.items;
+  lists = picked (lists_view (rows_view t.rows) t.idents.lists.items) t.idents.order.items;
   refs = refs_view t.refs.items;
 }
 

@@ -10,4 +10,5 @@ pub mod FedRows
 pub mod KeysOfRows
 pub mod Spans
 pub mod DistinctKeys
+pub mod RowKeys
 pub mod SharedLists

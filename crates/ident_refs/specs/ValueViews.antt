@@ -1,11 +1,10 @@
 -- Values of the code, as they are compared.
-use Rattle.std.specs.Prelude.{ℕ, List, [], ◌∷◌, map}
+use Rattle.std.specs.Prelude.{ℕ, [], ◌∷◌, map}
 use Rattle.std.specs.Option.{option_to_list}
 use Rattle.itf_reader.specs.declared.transfer.VertexKind.{VertexKind}
 use Rattle.itf_reader.specs.declared.transfer.VertexKind.TheVariants as kinds
 use Rattle.itf_reader.specs.VertexLists.{kind_of}
 use Rattle.ident_refs.specs.declared.key_values.KeyVertex.{KeyVertex as CodeKeyVertex}
-use Rattle.ident_refs.specs.declared.key_values.IdentValues.{IdentValues}
 use Rattle.ident_refs.specs.declared.key_values.Value.{Value as CodeValue}
 use Rattle.ident_refs.specs.declared.key_values.Value.TheVariants as values
 use Rattle.ident_refs.specs.ListValues.{KeyVertex, Value, Numbers, Bytes, Vertices}
@@ -25,9 +24,3 @@ value_view (values.Plane x y) = Numbers (x ∷ y ∷ [])
 value_view (values.Space x y z) = Numbers (x ∷ y ∷ z ∷ [])
 value_view (values.Word w) = Bytes w.now
 value_view (values.Line key_vertices) = Vertices (map key_vertex_view key_vertices.items)
-
-abbrev pub values_view : List CodeValue → List Value
-values_view vs = map value_view vs
-
-abbrev pub ident_values_view : IdentValues → List Value
-ident_values_view d = values_view d.values.items

@@ -24,8 +24,8 @@ use ports::Memory;
 use std::alloc::Global;
 use table_layout::{Layout, Table, TableId};
 
-/// What is kept of the rows of a transfer: for each row its line and its identification, the key
-/// of each IDENT list of its table, and its references.
+/// What is kept of the rows of a transfer: for each row its line and its identification, its keys
+/// at the places of IDENT lists of its table, and its references.
 #[derive(Drop)]
 pub struct KeyFeed<'a> {
     alloc: Global,

@@ -1,19 +1,17 @@
-// The values of an IDENT list, as the bytes of one key.
+// The values of rows, as the bytes of keys.
 ghost use Rattle.std.specs.Prelude.{◌≡◌, ◌<◌, ◌+◌, ◌++◌, ◌∷◌, [], length, map, Some};
 ghost use Rattle.std.specs.Prelude.{IfOk, OnOk};
-ghost use Rattle.std.specs.List.{flat_map};
 ghost use Rattle.std.specs.Option.{option_to_list};
-ghost use Rattle.ident_refs.specs.ValueViews.{key_vertex_view, ident_values_view, rank_of};
-ghost use Rattle.ident_refs.specs.ValueViews.{value_view, values_view};
+ghost use Rattle.ident_refs.specs.ValueViews.{key_vertex_view, rank_of, value_view};
 ghost use Rattle.ident_refs.specs.KeptRows.{id_key};
 ghost use Rattle.ident_refs.specs.KeyBytes.{byte_code, key_vertex_code, key_vertices_code};
 ghost use Rattle.ident_refs.specs.KeyBytes.{with_end};
-ghost use Rattle.ident_refs.specs.KeyBytes.{list_code, number_code, numbers_code, part_code};
+ghost use Rattle.ident_refs.specs.KeyBytes.{number_code, numbers_code};
 ghost use Rattle.ident_refs.specs.KeyBytes.{value_code, word_code};
 ghost use Rattle.itf_reader.specs.Views.{row_of};
 
 use super::key_cell::KeyCell;
-use super::key_values::{IdentValues, KeyVertex, Value};
+use super::key_values::{KeyVertex, Value};
 use itf_reader::{Row, VertexKind};
 use ports::{Keyed, Memory};
 use std::alloc::Global;
@@ -33,8 +31,8 @@ fn add_byte(into: &mut Vec<u8>, byte: u8) -> Result<(), Memory>
     Ok(())
 }
 
-// Adds bytes and their end mark.
-fn add_ended(into: &mut Vec<u8>, bytes: &[u8]) -> Result<(), Memory>
+/// Adds bytes and their end mark.
+pub fn add_ended(into: &mut Vec<u8>, bytes: &[u8]) -> Result<(), Memory>
     ensures { OnOk result (into.new.items ≡ into.old.items ++ with_end bytes.now) }
 {
     for byte in bytes {
@@ -139,46 +137,6 @@ fn add_value(into: &mut Vec<u8>, value: &Value) -> Result<(), Memory>
             add_vertices(into, key_vertices)
         }
     }
-}
-
-// Adds one of several values.
-fn add_part(alloc: Global, into: &mut Vec<u8>, value: &Value) -> Result<(), Memory>
-    ensures { OnOk result (into.new.items ≡ into.old.items ++ part_code (value_view value.now)) }
-{
-    let mut own = Vec::new(alloc);
-    add_value(&mut own, value)?;
-    add_ended(into, &own)
-}
-
-fn add_parts(alloc: Global, into: &mut Vec<u8>, values: &[Value]) -> Result<(), Memory>
-    ensures { OnOk result (into.new.items ≡ into.old.items ++ flat_map part_code
-        (values_view values.now)) }
-{
-    for value in values {
-        add_part(alloc, into, value)?;
-    }
-    Ok(())
-}
-
-fn add_list(alloc: Global, into: &mut Vec<u8>, values: &[Value]) -> Result<(), Memory>
-    ensures { OnOk result (into.new.items ≡ into.old.items ++ list_code (values_view values.now)) }
-{
-    match values {
-        [value] => add_value(into, value),
-        _ => {
-            into.push(3)?;
-            add_parts(alloc, into, values)
-        }
-    }
-}
-
-/// The key of a row by any list, from its values.
-pub fn values_key(alloc: Global, ident_values: &IdentValues) -> Result<KeyCell, Memory>
-    ensures { IfOk result (λ key. key ≡ Some (list_code (ident_values_view ident_values.now))) }
-{
-    let mut bytes = Vec::new(alloc);
-    add_list(alloc, &mut bytes, &ident_values.values)?;
-    KeyCell::new(alloc, &bytes)
 }
 
 // The key of a word for which a value has room, which needs no memory.

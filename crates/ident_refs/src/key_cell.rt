@@ -31,6 +31,13 @@ impl KeyCell {
             bytes: Field::new(alloc, bytes)?,
         })
     }
+
+    /// The same key. The only error is out of memory.
+    pub fn copied(&self, alloc: Global) -> Result<KeyCell, Memory>
+        ensures { IfOk result (λ cell. cell ≡ self.now) }
+    {
+        KeyCell::new(alloc, self.bytes.bytes())
+    }
 }
 
 impl Keyed for KeyCell {

@@ -1,6 +1,6 @@
-// The key of a row by an IDENT list.
-ghost use Rattle.std.specs.Prelude.{◌≡◌, ◌+◌, ◌≤◌, ◌<◌, ◌++◌, ◌∷◌, ◌-◌, List, None, [], IsTrue};
-ghost use Rattle.std.specs.Prelude.{drop, length, take, map, slice_index_or, IfOk, OnOk};
+// The keys of a row by the parts of IDENT lists.
+ghost use Rattle.std.specs.Prelude.{◌≡◌, ◌+◌, ◌≤◌, ◌<◌, ◌∷◌, ◌-◌, List, None, [], IsTrue};
+ghost use Rattle.std.specs.Prelude.{drop, length, take, map, slice_index_or, IfOk};
 ghost use Rattle.std.specs.List.{All};
 ghost use Rattle.std.specs.Option.{option_map};
 ghost use Rattle.ili_grammar.specs.Values.{codes_of};
@@ -8,15 +8,16 @@ ghost use Rattle.resolver.specs.Values.{line_of};
 ghost use Rattle.table_layout.specs.Values.{columns_view, role_view, table_view};
 ghost use Rattle.itf_reader.specs.Views.{row_of, strokes_of};
 ghost use Rattle.itf_reader.specs.RowFindings.{widths, is_counted};
-ghost use Rattle.ident_refs.specs.ValueViews.{value_view, ident_values_view};
+ghost use Rattle.ident_refs.specs.ValueViews.{value_view};
 ghost use Rattle.ident_refs.specs.KeptRows.{list_key};
 ghost use Rattle.ident_refs.specs.KeyFindings.{column_of};
-ghost use Rattle.ident_refs.specs.ListValues.{ident_values, lines_values, row_values};
+ghost use Rattle.ident_refs.specs.ListValues.{lines_values, row_values};
+ghost use Rattle.ident_refs.specs.RowKeys.{part_key};
 ghost use Rattle.ident_refs.specs.Spans.{span_view, spans_from};
 
-use super::key_bytes::{value_key, values_key};
+use super::key_bytes::value_key;
 use super::key_cell::KeyCell;
-use super::key_values::{IdentValues, Value};
+use super::key_values::Value;
 use super::values::{form_value, line_value};
 use field_values::width;
 use ili_grammar::Codes;
@@ -143,27 +144,11 @@ impl<'a> KeyReader<'a> {
         }
     }
 
-    // The values of a row by a list, which no other row may have.
-    fn ident_values<'b>(
-        &self,
-        places: &[u32],
-        row: &'b Row,
-    ) -> Result<Option<IdentValues<'b>>, Memory>
-        ensures { IfOk result (λ key. option_map ident_values_view key ≡ ident_values
-            (codes_of self.now.codes.now) (table_view self.now.table.now) places.now
-            (row_of row.now)) }
+    /// Whether the row has as many fields as the table asks for.
+    pub fn is_counted(&self, row: &Row) -> bool
+        ensures { result ≡ is_counted (table_view self.now.table.now) (row_of row.now) }
     {
-        if row.fields.len() != self.fields {
-            return Ok(None);
-        }
-        let mut values = Vec::with_capacity(self.alloc, places.len())?;
-        for place in places {
-            match self.value_at(row, *place as usize)? {
-                Some(value) => values.push(value)?,
-                None => return Ok(None),
-            }
-        }
-        Ok(Some(IdentValues { values }))
+        row.fields.len() == self.fields
     }
 
     // The key of a row by one place.
@@ -180,25 +165,26 @@ impl<'a> KeyReader<'a> {
         }
     }
 
-    // The key of a row by any list.
-    fn places_key(&self, places: &[u32], row: &Row) -> Result<KeyCell, Memory>
+    // The key of a row by a list without places, one for all rows that are counted.
+    fn empty_key(&self, row: &Row) -> Result<KeyCell, Memory>
         ensures { IfOk result (λ key. key ≡ list_key (codes_of self.now.codes.now)
-            (table_view self.now.table.now) places.now (row_of row.now)) }
+            (table_view self.now.table.now) [] (row_of row.now)) }
     {
-        match self.ident_values(places, row)? {
-            Some(ident_values) => values_key(self.alloc, &ident_values),
-            None => KeyCell::new(self.alloc, &[]),
+        if row.fields.len() != self.fields {
+            return KeyCell::new(self.alloc, &[]);
         }
+        KeyCell::new(self.alloc, &[3])
     }
 
-    /// The key of a row by a list, none where the row has no values by it.
-    pub fn key(&self, places: &[u32], row: &Row) -> Result<KeyCell, Memory>
-        ensures { IfOk result (λ key. key ≡ list_key (codes_of self.now.codes.now)
-            (table_view self.now.table.now) places.now (row_of row.now)) }
+    /// The key of a row by a part of a list: a place, or none for a list without places. None
+    /// where the row has no value there.
+    pub fn key(&self, part: Option<u32>, row: &Row) -> Result<KeyCell, Memory>
+        ensures { IfOk result (λ key. key ≡ part_key (codes_of self.now.codes.now)
+            (table_view self.now.table.now) (row_of row.now) part) }
     {
-        match places {
-            [place] => self.place_key(*place, row),
-            _ => self.places_key(places, row),
+        match part {
+            Some(place) => self.place_key(place, row),
+            None => self.empty_key(row),
         }
     }
 }

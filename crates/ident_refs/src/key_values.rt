@@ -20,9 +20,3 @@ pub enum Value<'a> {
     Word(&'a [u8]),
     Line(Vec<KeyVertex>),
 }
-
-/// The values of a row at the places of a list, which no other row may have.
-#[derive(Drop)]
-pub struct IdentValues<'a> {
-    pub values: Vec<Value<'a>>,
-}

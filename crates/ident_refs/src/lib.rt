@@ -16,9 +16,9 @@
 //! - **References.** A word that is not the undefined word must be the identification of a row of
 //!   the table that its column refers to, before or after it.
 //! - **Row by row.** A `KeyFeed` takes the rows of all tables one after another and keeps of each
-//!   its line, its identification, the key of each IDENT list, and its references. Its `Keys`
-//!   (`sorted`) say what is wrong with all of them, and which rows the references of a column name
-//!   (`rows_named`). `check_keys` is one feed over the rows of a transfer.
+//!   its line, its identification, its keys at the places of IDENT lists, and its references. Its
+//!   `Keys` (`sorted`) say what is wrong with all of them, and which rows the references of a
+//!   column name (`rows_named`). `check_keys` is one feed over the rows of a transfer.
 //! - **Keys** are bytes: a word with one byte before it, the numbers of a value in eight bytes
 //!   each, and of several values each with an end mark. Rows have one key exactly where they have
 //!   the same values.
@@ -32,17 +32,18 @@
 //!   place give two findings. A list without places is the same for all rows. Where a transfer has
 //!   fewer tables than the layout, the others have no rows.
 //!
-//! Cost: the keys of each column are sorted, and found by binary search, in n log n comparisons
-//! for every input. A feed keeps 20 bytes for each row, 16 for each different IDENT list of its
-//! table and 32 for each reference, and the bytes of keys of more than 14 bytes; at the end 16
-//! further ones for each row of all tables, and 16 for each row of the table whose list is looked
-//! at. Lists of the same places are kept and looked at once; different ones cost rows times lists.
-//! The words of IDENT lists are read once more, the vertices of their lines twice more. The order
-//! of the findings takes what a sort takes.
+//! Cost: the keys of each list are sorted, and found by binary search, in n log n comparisons for
+//! every input. A feed keeps 20 bytes for each row, 36 where its table has IDENT lists, 16 for each
+//! value at a place of these, 32 for each reference, and the bytes of keys of more than 14; at the
+//! end 16 further ones for each row of all tables, and 32 and a key for each row of the table whose
+//! list is looked at. Lists of the same places are looked at once; different ones take time, but no
+//! memory, for rows times lists. The words of IDENT lists are read once more, the vertices of their
+//! lines twice more. The order of the findings takes what a sort takes.
 #![tactic(auto)]
 
 mod asked;
 mod feed;
+mod ident_lists;
 mod key_bytes;
 mod key_cell;
 mod key_reader;
@@ -51,6 +52,7 @@ mod keys;
 mod laws;
 mod references;
 mod repeats;
+mod row_keys;
 mod shared_lists;
 mod sorted;
 mod table_keys;

@@ -1,19 +1,17 @@
 // IDENT lists of the same places, which are kept and looked at once.
 ghost use Rattle.std.specs.Prelude.{◌≡◌, drop, map, take, IfOk, OnOk};
 ghost use Rattle.std.specs.List.{flat_map};
-ghost use Rattle.ports.specs.SortedKeys.{IsSortedKeys};
 ghost use Rattle.itf_reader.specs.Findings.{AddsFindings, code_in, findings_of, other_of};
-ghost use Rattle.ident_refs.specs.KeptRows.{cell_key, list_findings};
-ghost use Rattle.ident_refs.specs.KeptViews.{list_view, lists_view, picked};
-ghost use Rattle.ident_refs.specs.SharedLists.{found_view};
+ghost use Rattle.ident_refs.specs.KeptRows.{list_findings};
+ghost use Rattle.ident_refs.specs.KeptViews.{rows_view};
+ghost use Rattle.ident_refs.specs.SharedLists.{found_view, list_view, lists_view, picked};
 
-use super::key_cell::KeyCell;
+use super::ident_lists::KeptList;
 use super::repeats::KeyColumn;
-use super::table_keys::KeptList;
+use super::row_keys::RowKeys;
 use itf_lines::Field;
 use itf_reader::{Code, Fault, Finding};
-use ports::{Keyed, Memory, SortedKeys};
-use resolver::Places;
+use ports::Memory;
 use std::alloc::Global;
 
 // The findings of a list.
@@ -22,65 +20,36 @@ pub struct Found {
     pub findings: Vec<Finding>,
 }
 
-// The places of a list as bytes.
-fn list_name(alloc: Global, places: &[u32]) -> Result<KeyCell, Memory> {
-    let mut bytes = Vec::new(alloc);
-    bytes.push(0)?;
-    for place in places {
-        bytes.extend_from_slice(&place.to_be_bytes())?;
-    }
-    KeyCell::new(alloc, &bytes)
-}
-
-/// The places of each list as bytes.
-pub fn list_names(alloc: Global, lists: &[Places]) -> Result<Vec<KeyCell>, Memory> {
-    let mut names = Vec::with_capacity(alloc, lists.len())?;
-    for list in lists {
-        names.push(list_name(alloc, &list.places)?)?;
-    }
-    Ok(names)
-}
-
-/// The number that the first list with the name of the list at that place has, where there is one
-/// among those with a number.
-pub fn first_such(names: &[KeyCell], sorted: &SortedKeys, place: usize, order: &[usize]) -> usize
-    requires { IsSortedKeys (map cell_key names.now) sorted.now }
-{
-    let Some(cell) = names.get(place) else {
-        return usize::MAX;
-    };
-    let Some(first) = sorted.first(names, cell.key().unwrap_or(&[])) else {
-        return usize::MAX;
-    };
-    match order.get(first) {
-        Some(number) => *number,
-        None => usize::MAX,
-    }
-}
-
 // Adds what repeats a key of an IDENT list.
 fn add_list(
     alloc: Global,
     lines: &[u32],
+    rows: &RowKeys,
     list: &KeptList,
     findings: &mut Vec<Finding>,
 ) -> Result<(), Memory>
     ensures { OnOk result (AddsFindings findings.old.items findings.new.items
-        (list_findings lines.now (list_view list.now))) }
+        (list_findings lines.now (list_view (rows_view rows.now) list.now))) }
 {
-    let column = KeyColumn::new(alloc, lines, &list.keys)?;
+    let keys = rows.keys_by(alloc, &list.numbers)?;
+    let column = KeyColumn::new(alloc, lines, &keys)?;
     column.add_repeats(Code::Ident, list.column, findings)
 }
 
 // What repeats a key of each list.
-fn all_found(alloc: Global, lines: &[u32], lists: &[KeptList]) -> Result<Vec<Found>, Memory>
+fn all_found(
+    alloc: Global,
+    lines: &[u32],
+    rows: &RowKeys,
+    lists: &[KeptList],
+) -> Result<Vec<Found>, Memory>
     ensures { IfOk result (λ found. map found_view found.items
-        ≡ map (list_findings lines.now) (lists_view lists.now)) }
+        ≡ map (list_findings lines.now) (lists_view (rows_view rows.now) lists.now)) }
 {
     let mut found = Vec::with_capacity(alloc, lists.len())?;
     for list in lists {
         let mut findings = Vec::new(alloc);
-        add_list(alloc, lines, list, &mut findings)?;
+        add_list(alloc, lines, rows, list, &mut findings)?;
         found.push(Found { findings })?;
     }
     Ok(found)
@@ -132,18 +101,20 @@ fn add_found(
 }
 
 /// Adds what repeats a key of each IDENT list, of which each has its number among the lists that
-/// are kept. Each of these is looked at once.
+/// are kept. Each of these is looked at once: its keys are made for that and let go.
 pub fn add_shared(
     alloc: Global,
     lines: &[u32],
+    rows: &RowKeys,
     lists: &[KeptList],
     order: &[usize],
     findings: &mut Vec<Finding>,
 ) -> Result<(), Memory>
     ensures { OnOk result (AddsFindings findings.old.items findings.new.items
-        (flat_map (list_findings lines.now) (picked (lists_view lists.now) order.now))) }
+        (flat_map (list_findings lines.now)
+        (picked (lists_view (rows_view rows.now) lists.now) order.now))) }
 {
-    let found = all_found(alloc, lines, lists)?;
+    let found = all_found(alloc, lines, rows, lists)?;
     for number in order {
         add_found(alloc, &found, *number, findings)?;
     }

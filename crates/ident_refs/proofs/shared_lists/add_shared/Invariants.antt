@@ -1,8 +1,7 @@
 use Rattle.std.proofs.Common.{◌≡◌, ◌++◌, take}
 use Rattle.std.specs.List.{flat_map}
 use Rattle.itf_reader.specs.Findings.{findings_of}
-use Rattle.ident_refs.specs.KeptViews.{picked_one}
-use Rattle.ident_refs.specs.SharedLists.{found_view}
+use Rattle.ident_refs.specs.SharedLists.{found_view, picked_one}
 use Rattle.ident_refs.proofs.shared_lists.add_shared.Given as goal
 
 abbrev pub invariant-loop-number : goal.invariant-loop-number

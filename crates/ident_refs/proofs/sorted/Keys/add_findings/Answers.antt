@@ -1,4 +1,3 @@
-use Rattle.std.proofs.Common.{◌∙◌, ap, List}
 use Rattle.itf_reader.specs.Findings.{findings_of}
 use Rattle.ident_refs.specs.KeptViews.{all_kept_view}
 use Rattle.ident_refs.proofs.KeptTables.{found_in}

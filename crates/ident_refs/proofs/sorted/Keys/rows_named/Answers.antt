@@ -1,6 +1,4 @@
-use Rattle.std.proofs.Common.{◌∙◌, ap, List, ℕ, Option}
-use Rattle.ident_refs.specs.declared.references.NamedRow.{NamedRow}
-use Rattle.ident_refs.specs.declared.repeats.KeyColumn.{KeyColumn}
+use Rattle.std.proofs.Common.{◌∙◌, ap}
 use Rattle.ident_refs.specs.KeptViews.{all_kept_view, ids_view, named_view}
 use Rattle.ident_refs.proofs.NamedRefs.{named_in, named_all}
 use Rattle.ident_refs.proofs.sorted.Keys.rows_named.Goals as goal

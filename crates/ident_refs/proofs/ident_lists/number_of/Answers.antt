@@ -1,5 +1,5 @@
 use Rattle.ident_refs.proofs.SharedSteps.{grown_more, known_within}
-use Rattle.ident_refs.proofs.table_keys.number_of.Goals as goal
+use Rattle.ident_refs.proofs.ident_lists.number_of.Goals as goal
 
 pub returns-clause-grown : goal.returns-clause-grown
 returns-clause-grown c = grown_more c.args.kept.now.items c.push.new.self.items _ c.in_ok-push.ensures.items
