@@ -1,11 +1,10 @@
 -- The half-edges at the border, cell by cell.
-use Rattle.std.proofs.Common.{◌≡◌, ◌⊎◌, inl, inr, ℕ, ◌<◌, ◌^◌, ◌↔◌, Option, Some, None, List, length, get_or, refl, sym, subst, arith}
+use Rattle.std.proofs.Common.{◌≡◌, ◌⊎◌, inl, inr, ℕ, zero, suc, ◌<◌, ◌^◌, ◌↔◌, Option, Some, None, List, [], ◌∷◌, length, get_or, refl, sym, subst, arith}
 use Rattle.std.specs.List.{flat_map}
 use Rattle.plane.specs.Lists.{Has}
 use Rattle.plane.specs.Runs.Gaps.{Gap}
 use Rattle.line_sweep.specs.declared.kinds.Cell.{Cell}
 use Rattle.line_sweep.specs.Kinds.{gap_of, gaps_of}
-use Rattle.line_sweep.proofs.CellGaps.{gap_has}
 use Rattle.faces.specs.Joined.{AreKnown, AtBorder, highest, lowest}
 use Rattle.faces.specs.Joins.{IsSmall, IsSmallCell, border_half, border_halves}
 use Rattle.faces.proofs.FlatLists.{flat_has, has_flat}
@@ -30,6 +29,11 @@ border_is cells h = (
 )
 
 -- ---- numbers of edges are small
+gap_has : (cells : List Cell) (k : ℕ) (c : Cell) → k < length cells → Has (gap_of (get_or cells k c)) (gaps_of cells)
+gap_has [] k c l = absurd (omega (arith, l))
+gap_has (d ∷ cells) zero c l = inl refl
+gap_has (d ∷ cells) (suc k) c l = inr (gap_has cells k c (omega (arith, l)))
+
 small_side : (n : ℕ) (gs : List Gap) → AreKnown n gs → n < 2 ^ 32 → (g : Gap) → Has g gs → (o : Option ℕ) → (g.lower ≡ o) ⊎ (g.upper ≡ o) → IsSmall o
 small_side n gs known few g h None e = tt
 small_side n gs known few g h (Some e) q = let k = known g e h q in omega (arith, k, few)
