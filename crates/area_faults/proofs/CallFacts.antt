@@ -1,8 +1,7 @@
 -- What the calls ask for: numbers by marks, edges that are not bad, and places whose edges are known.
-use Rattle.std.proofs.Common.{◌≡◌, Bool, true, false, ℕ, ◌+◌, ◌*◌, ◌<◌, ◌≤◌, Option, Some, None, List, [], length, slice_index, slice_index_or, arith, sym, ◌∙◌, subst, ap}
+use Rattle.std.proofs.Common.{◌≡◌, Bool, true, false, ℕ, ◌<◌, ◌≤◌, Some, None, List, [], length, slice_index_or, arith, ◌∙◌, subst, ap}
 use Rattle.std.proofs.lemmas.List.{length-map}
-use Rattle.area_search.specs.Faced.{IsAmong}
-use Rattle.area_search.specs.Unsettled.CurvePoints.{AreMarkedTo, AreNumbers}
+use Rattle.area_search.specs.Unsettled.CurvePoints.{AreMarkedTo}
 use Rattle.faces.specs.declared.labelled.Labelled.{Labelled}
 use Rattle.half_edges.specs.HalfEdges.{size}
 use Rattle.line_sweep.specs.Kinds.{AreBad}

@@ -1,5 +1,5 @@
 -- The edges of the rest in half units rise, and are close to each other and to the points that are located.
-use Rattle.std.proofs.Common.{◌≡◌, ℕ, ◌+◌, ◌-◌, ◌^◌, ◌<◌, ◌≤◌, List, length, map, get_or, slice_index, slice_index_or, arith, inl, inr, sym, ◌∙◌, subst, ap, All}
+use Rattle.std.proofs.Common.{◌≡◌, ℕ, ◌+◌, ◌-◌, ◌<◌, List, length, slice_index, slice_index_or, arith, inl, inr, sym, subst, All}
 use Rattle.std.proofs.lemmas.Bool.{cases_lt}
 use Rattle.std.proofs.lemmas.List.{get_or-map, length-map}
 use Rattle.plane.specs.declared.kinds.Curve.{Curve}

@@ -1,9 +1,9 @@
 -- The numbers of two straights that cross, by their parts.
-use Rattle.std.proofs.Common.{◌≡◌, ℤ, pos, ◌+ℤ◌, ◌*ℤ◌, ◌-ℤ◌, ◌<ℤ◌, ◌≤ℤ◌, [], ◌∷◌, arith, refl, subst}
+use Rattle.std.proofs.Common.{◌≡◌, ℤ, pos, ◌*ℤ◌, ◌-ℤ◌, ◌<ℤ◌, ◌≤ℤ◌, [], ◌∷◌, arith, refl, subst}
 use Rattle.std.proofs.lemmas.Int.{ints, by_lt_z}
 use Rattle.plane.specs.Rule.MeetingPlaces.{IsInUnit, IsRoundedMeeting, part, turning}
 use Rattle.plane.specs.Rule.Places.{Vector, Place, point}
-use Rattle.plane.specs.Rule.Straights.{turn, dot, IsOnStraight}
+use Rattle.plane.specs.Rule.Straights.{IsOnStraight}
 use Rattle.plane.specs.declared.kinds.Point.{Point}
 use Rattle.plane.proofs.Algebra.Ring.{Expr, at, num, plus, minus, times, vars, ring}
 use Rattle.area_faults.specs.Crossings.{IsOnBoth, IsRounded}

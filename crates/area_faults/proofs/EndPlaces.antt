@@ -1,5 +1,5 @@
 -- Places of two curves that meet badly.
-use Rattle.std.proofs.Common.{◌≡◌, ◌⊎◌, inl, inr, pos, refl, arith, sym, subst}
+use Rattle.std.proofs.Common.{◌≡◌, inl, inr, pos, refl, arith, sym, subst}
 use Rattle.std.proofs.lemmas.Int.{ints}
 use Rattle.plane.specs.declared.kinds.Curve.{Curve}
 use Rattle.plane.specs.declared.kinds.CurveKind.{CurveKind}
@@ -17,7 +17,7 @@ use Rattle.meetings.specs.PlacedCurves.{ArePlaced}
 use Rattle.meetings.proofs.BadCurves.{not_half_arc}
 use Rattle.fault_lists.specs.FaultLists.{IsMeetingPlace, exact, rounded, of_arc}
 use Rattle.area_faults.specs.Crossings.{IsOnBoth, IsUnitOf, SharePlace}
-use Rattle.area_faults.specs.Places.{IsEndOn, IsEndOnOther}
+use Rattle.area_faults.specs.Places.{IsEndOnOther}
 use Rattle.area_faults.proofs.Parallels.{an_end_meets}
 use Rattle.area_faults.proofs.Unmarked.{straights_only}
 

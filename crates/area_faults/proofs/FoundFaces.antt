@@ -1,17 +1,16 @@
 -- What is read off the run of the rest are the numbers of the faces of the drawing without the curves that are left out.
-use Rattle.std.proofs.Common.{◌≡◌, ◌↔◌, ◌⊎◌, Bool, true, false, ℕ, zero, suc, ◌+◌, ◌-◌, ◌*◌, ◌<◌, ◌≤◌, ◌≤ℤ◌, Option, Some, None, List, [], ◌∷◌, length, map, take, get_or, slice_index, slice_index_or, ℤ, pos, arith, refl, inl, inr, sym, ◌∙◌, subst, ap, All}
+use Rattle.std.proofs.Common.{◌≡◌, ◌⊎◌, Bool, true, false, ℕ, zero, suc, ◌+◌, ◌-◌, ◌<◌, ◌≤◌, Option, Some, List, [], length, map, take, slice_index, slice_index_or, pos, arith, refl, inl, inr, sym, ◌∙◌, subst, ap, All}
 use Rattle.std.proofs.lemmas.Bool.{cases_lt}
 use Rattle.std.proofs.lemmas.Int.{ints}
 use Rattle.std.proofs.lemmas.List.{get_or-map, get_or-take, length-map, length-take-le}
 use Rattle.area_search.specs.Settled.Cases.{face_over}
-use Rattle.area_search.specs.Unsettled.CurvePoints.{AreMarkedTo}
 use Rattle.area_search.proofs.SettledLemmas.TurnedCrossings.{crosses_forth, crosses_turned}
 use Rattle.faces.specs.declared.labelled.Labelled.{Labelled}
 use Rattle.fault_lists.specs.declared.faces.CurveFaces.{CurveFaces}
 use Rattle.fault_lists.specs.declared.faces.DrawingFaces.{DrawingFaces}
 use Rattle.fault_lists.specs.declared.faces.PointPlace.{PointPlace}
-use Rattle.fault_lists.specs.declared.faces.PointPlace.TheVariants.{InFace, OnCurve}
-use Rattle.fault_lists.specs.DrawingFaces.{AreCurveFaces, AreDrawingFaces, AreFacePlaces, HasCurveBeside, HasCurveFaces, HasFaces, IsInFace, IsLeastOn, IsNumbered, IsPlaceBelow, IsPointPlace, AreFacesBelow}
+use Rattle.fault_lists.specs.declared.faces.PointPlace.TheVariants.{InFace}
+use Rattle.fault_lists.specs.DrawingFaces.{AreCurveFaces, AreDrawingFaces, AreFacePlaces, HasCurveBeside, HasCurveFaces, HasFaces, IsInFace, IsNumbered, IsPlaceBelow, IsPointPlace, AreFacesBelow}
 use Rattle.fault_lists.specs.Faults.{LiesOn}
 use Rattle.fault_lists.specs.Sides.{end_on, is_first_kind, side_end}
 use Rattle.half_edges.specs.HalfEdges.{over_of, under_of}
@@ -33,7 +32,6 @@ use Rattle.plane.specs.Rule.Curves.{IsOn}
 use Rattle.plane.specs.Rule.Cuts.{CrossesKind, CrossesOne, course}
 use Rattle.plane.specs.Rule.Doubled.{IsDoubled, doubled, twice, twice_curve}
 use Rattle.plane.specs.Rule.LeftOut.{AreStraightsOut, IsClosed, IsOpen, IsRestOf, MissesEnds, middle}
-use Rattle.plane.specs.Rule.Partition.{IsOff, Joined, IsOuter}
 use Rattle.plane.specs.Rule.Places.{Vector, Place, point}
 use Rattle.plane.specs.Rule.Plans.{Plan, curve, object}
 use Rattle.plane.specs.Rule.Windows.{IsDrawn}
@@ -54,14 +52,14 @@ use Rattle.plane.proofs.Covers.SamePlace.{same_sym}
 use Rattle.plane.proofs.Linear.EdgePlaces.{place_point}
 use Rattle.point_location.specs.declared.places.Place.{Place as Spot}
 use Rattle.point_location.specs.declared.places.Place.TheVariants as place
-use Rattle.point_location.specs.Places.{ArePlaces, IsCell, IsLeastOn as IsLeastEdge, IsPlaceOf, no_place}
-use Rattle.straight_predicates.specs.EdgeLists.{edge_of, no_point}
+use Rattle.point_location.specs.Places.{ArePlaces, IsLeastOn as IsLeastEdge, IsPlaceOf, no_place}
+use Rattle.straight_predicates.specs.EdgeLists.{edge_of}
 use Rattle.tubes.specs.DrawnEdges.{edges_of}
 use Rattle.area_faults.specs.RestFaces.{AreCurveFacesTo, AreMendable, AreOpenTo, AreParted, AreRunFaces, AreSidesOf, HasSizes, half_edges, half_plan, half_points, place_at, place_face, point_place, rest_plan, sides_at}
 use Rattle.area_faults.proofs.HalfUnits.{before_twice}
 use Rattle.area_faults.proofs.LeftPlaces.{IsRightOf}
 use Rattle.area_faults.proofs.PlacedFaces.{cell_below, cell_number, curves_count, edges_are, edges_count, face_below, face_used, faces_there, is_run, middle_point, object_point, points_count}
-use Rattle.area_faults.proofs.RestDrawings.{is_doubled, is_drawn, is_rest, is_right, outs, rest_count, rest_curve, rest_straights, wide}
+use Rattle.area_faults.proofs.RestDrawings.{is_doubled, is_drawn, is_rest, is_right, outs, rest_count, rest_curve, rest_straights}
 use Rattle.area_faults.proofs.RestNumbers.{IsAt, closed_number, face_place, in_face, middle_at, open_number, place_all, place_at as place_number, place_off, place_once, place_outer, place_there, point_at}
 use Rattle.area_faults.proofs.RestSides.{IsCrossedBy, any_crossing, half_of_edge, some_crossing}
 

@@ -1,5 +1,5 @@
 -- Places on the left of all straights of a drawing: they are outer, and outer places are joined.
-use Rattle.std.proofs.Common.{◌≡◌, ℕ, ◌<◌, length, ℤ, pos, ◌+ℤ◌, ◌*ℤ◌, ◌-ℤ◌, ◌<ℤ◌, ◌≤ℤ◌, [], ◌∷◌, refl, arith}
+use Rattle.std.proofs.Common.{◌≡◌, ℕ, ◌<◌, length, ℤ, pos, ◌*ℤ◌, ◌-ℤ◌, ◌<ℤ◌, ◌≤ℤ◌, [], ◌∷◌, refl, arith}
 use Rattle.std.proofs.lemmas.Int.{ints, by_lt_z}
 use Rattle.plane.specs.declared.kinds.CurveKind.TheVariants as kind
 use Rattle.plane.specs.Forms.Vectors.{Between, mix}
@@ -7,11 +7,10 @@ use Rattle.plane.specs.Rule.Curves.{IsOn}
 use Rattle.plane.specs.Rule.Partition.{IsOff, IsClear, Joined, IsOuter}
 use Rattle.plane.specs.Rule.Places.{Vector, Place, point}
 use Rattle.plane.specs.Rule.Plans.{Plan, curve}
-use Rattle.plane.proofs.Algebra.Laws.{product_positive}
 use Rattle.plane.proofs.Algebra.Ring.{at, minus, times, num, vars, ring}
 use Rattle.plane.proofs.Algebra.Scaling.{cancel_le, times_le}
 use Rattle.plane.proofs.FewerCurves.OneFace.{hits_straight, on_straight}
-use Rattle.plane.proofs.FewerCurves.Paths.{joined_back, joined_off, joined_self, joined_step, joined_through}
+use Rattle.plane.proofs.FewerCurves.Paths.{joined_back, joined_self, joined_step, joined_through}
 use Rattle.plane.proofs.Linear.EdgePlaces.{place_point}
 use Rattle.plane.proofs.Linear.Signs.{mix_place, span_high, span_low}
 use Rattle.plane.proofs.Linear.Straights.{straight_between}

@@ -1,5 +1,5 @@
 -- Lists of entries by their codes.
-use Rattle.std.proofs.Common.{add-one, ◌≡◌, inl, inr, ℕ, zero, suc, ◌+◌, ◌*◌, ◌/◌, ◌%◌, ◌^◌, ◌<◌, ◌≤◌, Bool, true, List, [], ◌∷◌, ◌++◌, length, get_or, map, take, refl, arith, ap, sym, ◌∙◌, subst, All}
+use Rattle.std.proofs.Common.{add-one, ◌≡◌, ℕ, zero, suc, ◌+◌, ◌/◌, ◌%◌, ◌^◌, ◌<◌, ◌≤◌, Bool, true, List, [], ◌∷◌, ◌++◌, length, get_or, map, take, refl, arith, ap, sym, ◌∙◌, subst}
 use Rattle.std.specs.List.{Contains}
 use Rattle.std.specs.List.Sorted.{IsStrictlyIncreasing}
 use Rattle.std.proofs.lemmas.List.{length-append, get_or_append_left, map-append}
@@ -9,16 +9,15 @@ use Rattle.plane.specs.Rule.BadPairs.{AreBad, IsBadPair}
 use Rattle.plane.specs.Rule.Places.{Vector, Place}
 use Rattle.plane.specs.Rule.Plans.{Plan, curve}
 use Rattle.plane.specs.declared.kinds.Curve.{Curve}
-use Rattle.plane.specs.declared.kinds.Point.{Point}
 use Rattle.straight_predicates.proofs.Orders.{by_lt}
 use Rattle.near_pairs.specs.Boxes.{AreNear, box_of, reach_of}
 use Rattle.near_pairs.specs.LeastPairs.{IsPair}
-use Rattle.near_pairs.specs.PairLists.{AreCodes, IsCode, IsPairList, code}
+use Rattle.near_pairs.specs.PairLists.{IsCode, IsPairList, code}
 use Rattle.near_pairs.specs.declared.listing.PairList.{PairList}
 use Rattle.near_pairs.specs.declared.pairs.NearPair.{NearPair}
 use Rattle.near_pairs.specs.declared.reaches.Reach.{Reach}
 use Rattle.meetings.specs.CurveBoxes.{AreReachesTo}
-use Rattle.fault_lists.specs.FaultLists.{AreMeetings, IsMeetingPlace}
+use Rattle.fault_lists.specs.FaultLists.{AreMeetings}
 use Rattle.fault_lists.specs.declared.kinds.MeetingAt.{MeetingAt}
 use Rattle.area_faults.specs.MeetingMarks.{AreMeetingMarks}
 use Rattle.area_faults.specs.Meetings.{AreEntries, AreSomeMeetings, IsMeeting, entry_code}

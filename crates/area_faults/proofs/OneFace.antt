@@ -1,15 +1,15 @@
 -- Where all curves are left out the plane is one face, which each curve enters.
-use Rattle.std.proofs.Common.{◌≡◌, ◌⊎◌, inl, inr, ℕ, zero, suc, ◌<◌, ℤ, pos, ◌-ℤ◌, ◌*ℤ◌, ◌<ℤ◌, Bool, true, false, List, [], ◌∷◌, Option, None, length, replicate, slice_index_or, refl, sym, ◌∙◌, subst, ap, arith}
+use Rattle.std.proofs.Common.{◌≡◌, inl, ℕ, zero, suc, ◌<◌, ℤ, pos, ◌-ℤ◌, Bool, true, false, List, [], ◌∷◌, Option, None, length, replicate, slice_index_or, refl, sym, ◌∙◌, subst, ap, arith}
 use Rattle.std.proofs.lemmas.Int.{ints}
 use Rattle.std.proofs.lemmas.List.{length-replicate}
 use Rattle.plane.specs.Rule.Curves.{Hits}
-use Rattle.plane.specs.Rule.LeftOut.{IsClosed, IsOpen, IsRestOf}
+use Rattle.plane.specs.Rule.LeftOut.{IsOpen, IsRestOf}
 use Rattle.plane.specs.Rule.Partition.{IsOff, IsOuter, Joined}
-use Rattle.plane.specs.Rule.Places.{Vector, Place, Same, point}
+use Rattle.plane.specs.Rule.Places.{Vector, Place, point}
 use Rattle.plane.specs.Rule.Plans.{Plan, curve, object}
 use Rattle.plane.proofs.Covers.CurvePlaces.{control_on, hits_alone}
 use Rattle.plane.proofs.Linear.EdgePlaces.{place_point}
-use Rattle.fault_lists.specs.DrawingFaces.{AreCurveFaces, AreDrawingFaces, AreFacePlaces, HasFaces, IsPointInFace, IsPointPlace, face_count, faces_of, is_open, place_of}
+use Rattle.fault_lists.specs.DrawingFaces.{AreCurveFaces, AreFacePlaces, HasFaces, IsPointInFace, IsPointPlace, face_count, faces_of, is_open, place_of}
 use Rattle.fault_lists.specs.declared.faces.CurveFaces.{CurveFaces}
 use Rattle.fault_lists.specs.declared.faces.DrawingFaces.{DrawingFaces}
 use Rattle.fault_lists.specs.declared.faces.PointPlace.{PointPlace}

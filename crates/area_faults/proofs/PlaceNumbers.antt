@@ -1,6 +1,6 @@
 -- The face numbers of places in a run over a drawing of straights: of points with a position and of the ends of crossing segments.
 -- A place has a number where it is that of its cell in the replay with each weight of the events and of some points and more.
-use Rattle.std.proofs.Common.{◌≡◌, ◌↔◌, ℕ, ◌<◌, List, [], ◌∷◌, ◌++◌, length, ℤ, pos, refl, inl, sym, ◌∙◌, subst}
+use Rattle.std.proofs.Common.{◌≡◌, ◌↔◌, ℕ, ◌<◌, List, [], ◌∷◌, ◌++◌, length, pos, refl, inl, sym, ◌∙◌, subst}
 use Rattle.plane.specs.declared.kinds.Point.{Point}
 use Rattle.plane.specs.Lists.{Has}
 use Rattle.plane.specs.declared.kinds.Edge.{Edge}

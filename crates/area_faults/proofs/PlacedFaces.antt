@@ -1,5 +1,5 @@
 -- The run over the rest in half units, and the numbers of what is located in it.
-use Rattle.std.proofs.Common.{◌≡◌, ◌↔◌, ℕ, zero, suc, ◌+◌, ◌*◌, ◌<◌, ◌≤◌, Option, Some, None, List, [], ◌∷◌, ◌++◌, length, map, take, get_or, slice_index, slice_index_or, ℤ, pos, arith, refl, inl, inr, sym, ◌∙◌, subst, ap}
+use Rattle.std.proofs.Common.{◌≡◌, ℕ, ◌+◌, ◌<◌, Option, Some, None, List, [], ◌∷◌, length, map, take, slice_index, slice_index_or, pos, arith, refl, sym, ◌∙◌, subst, ap}
 use Rattle.std.proofs.lemmas.List.{get_or-append-add, get_or-map, get_or_append_left, length-append, length-map}
 use Rattle.area_search.specs.Settled.Cases.{face_over}
 use Rattle.area_search.proofs.SettledLemmas.ListPlaces.{before_has, label_before, over_or}
@@ -13,11 +13,10 @@ use Rattle.plane.specs.declared.kinds.Point.{Point}
 use Rattle.plane.specs.Faces.Cells.{position}
 use Rattle.plane.specs.Faces.Classes.{IsFaces, face_of, numbers}
 use Rattle.plane.specs.Faces.DrawnRuns.{IsRunOf, drawn}
-use Rattle.plane.specs.Faces.Halves.{Half, edge_of as half_edge_of, half_of, number, over, under}
+use Rattle.plane.specs.Faces.Halves.{Half, edge_of as half_edge_of, half_of, number, over}
 use Rattle.plane.specs.Faces.PlacedPoints.{IsLocated}
 use Rattle.plane.specs.Faces.Replays.{list_after, replay}
 use Rattle.plane.specs.Faces.RestRuns.{sum}
-use Rattle.plane.specs.Lists.{Has}
 use Rattle.plane.specs.Rule.Doubled.{twice, twice_curve}
 use Rattle.plane.specs.Rule.Plans.{Plan, curve, object}
 use Rattle.plane.specs.Runs.Gaps.{edge_before}
@@ -30,7 +29,7 @@ use Rattle.plane.proofs.Turning.Numbering.{number_half}
 use Rattle.point_location.specs.Places.{IsCell}
 use Rattle.straight_predicates.specs.EdgeLists.{edge_of, no_point}
 use Rattle.tubes.specs.DrawnEdges.{edges_of, straight_edge}
-use Rattle.tubes.proofs.EdgeLemmas.{drawn_edges, edge_count}
+use Rattle.tubes.proofs.EdgeLemmas.{drawn_edges}
 use Rattle.area_faults.specs.RestFaces.{AreRunFaces, half_edges, half_plan, half_points, rest_plan}
 use Rattle.area_faults.proofs.RestDrawings.{is_doubled}
 

@@ -1,5 +1,5 @@
 -- The rest of a drawing of straights without some curves, in whole and in half units, by the numbers of those that stay.
-use Rattle.std.proofs.Common.{◌≡◌, ◌⊎◌, ◌≤◌, ◌*ℤ◌, [], ◌∷◌, Bool, true, false, ℕ, zero, suc, ◌<◌, List, length, map, get_or, slice_index, ℤ, pos, ◌≤ℤ◌, arith, refl, inl, inr, sym, ◌∙◌, subst, ap, All}
+use Rattle.std.proofs.Common.{◌≡◌, ◌⊎◌, ◌*ℤ◌, [], ◌∷◌, Bool, true, false, ℕ, ◌<◌, List, length, slice_index, ℤ, pos, ◌≤ℤ◌, arith, refl, inl, inr, sym, ◌∙◌, subst, ap, All}
 use Rattle.std.proofs.lemmas.Bool.{cases_lt}
 use Rattle.std.proofs.lemmas.List.{get_or-map, length-map}
 use Rattle.plane.specs.declared.kinds.Curve.{Curve}
@@ -8,18 +8,17 @@ use Rattle.plane.specs.declared.kinds.Edge.{Edge}
 use Rattle.plane.specs.Forms.Meets.{Bad}
 use Rattle.plane.specs.Forms.Segments.{AreEdgesOf}
 use Rattle.plane.specs.Rule.BadPairs.{IsBadPair, StraightsMeet, straights_meet}
-use Rattle.plane.specs.Rule.Curves.{IsControl, IsOn}
-use Rattle.plane.specs.Rule.Doubled.{IsDoubled, doubled, halved, twice, twice_curve}
+use Rattle.plane.specs.Rule.Curves.{IsControl}
+use Rattle.plane.specs.Rule.Doubled.{IsDoubled, halved, twice, twice_curve}
 use Rattle.plane.specs.Rule.LeftOut.{AreStraightsOut, IsRestOf}
-use Rattle.plane.specs.Rule.Places.{Vector, Place, Same, point}
+use Rattle.plane.specs.Rule.Places.{Vector, Same, point}
 use Rattle.plane.specs.Rule.Plans.{Plan, curve}
 use Rattle.plane.specs.Rule.Windows.{IsDrawn}
 use Rattle.std.proofs.lemmas.Int.{ints}
 use Rattle.plane.proofs.Algebra.Ring.{at, num, times, vars, ring}
 use Rattle.plane.proofs.Covers.CurveEdges.{bad_edges_is}
 use Rattle.plane.proofs.HalfUnits.DoubledCurves.{curve_halved}
-use Rattle.plane.proofs.HalfUnits.DoubledForms.{doubled_same, halved_place, there_and_back}
-use Rattle.plane.proofs.Covers.SamePlace.{same_sym, same_trans}
+use Rattle.plane.proofs.HalfUnits.DoubledForms.{halved_place}
 use Rattle.plane.specs.declared.kinds.Point.{Point}
 use Rattle.area_faults.specs.RestFaces.{half_plan, rest_plan}
 use Rattle.area_faults.proofs.LeftPlaces.{IsRightOf}

@@ -1,5 +1,5 @@
 -- The face numbers of places of the rest, by a run over it in half units: they tell which places are joined and outer, each number is that of some place, and whether a face is closed.
-use Rattle.std.proofs.Common.{◌≡◌, ◌↔◌, Bool, true, ℕ, zero, suc, ◌<◌, ◌≤◌, List, length, ℤ, pos, arith, refl, inl, inr, sym, ◌∙◌, subst, ap}
+use Rattle.std.proofs.Common.{◌≡◌, ◌↔◌, Bool, true, ℕ, zero, suc, ◌<◌, List, length, ℤ, pos, arith, refl, inl, inr, sym, ◌∙◌, subst}
 use Rattle.std.proofs.lemmas.Bool.{cases_lt}
 use Rattle.plane.specs.declared.kinds.Curve.{Curve}
 use Rattle.plane.specs.declared.kinds.CurveKind.TheVariants as kind
@@ -14,7 +14,7 @@ use Rattle.plane.specs.Faces.RestRuns.{sum}
 use Rattle.plane.specs.Rule.Doubled.{IsDoubled, doubled, halved, twice}
 use Rattle.plane.specs.Rule.LeftOut.{AreStraightsOut, IsClosed, IsOpen, middle}
 use Rattle.plane.specs.Rule.Partition.{IsOff, Joined, IsOuter}
-use Rattle.plane.specs.Rule.Places.{Vector, Place, Same, point}
+use Rattle.plane.specs.Rule.Places.{Vector, Place, point}
 use Rattle.plane.specs.Rule.Plans.{Plan, curve}
 use Rattle.plane.specs.Runs.Steps.{Step}
 use Rattle.plane.proofs.Covers.SamePlace.{same_sym}

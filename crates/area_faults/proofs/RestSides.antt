@@ -8,7 +8,7 @@ use Rattle.plane.specs.Faces.DrawnRuns.{IsRunOf, drawn}
 use Rattle.plane.specs.Faces.Halves.{Half, over, under}
 use Rattle.plane.specs.Forms.Segments.{IsEdgeOf}
 use Rattle.plane.specs.Rule.CrossedCurves.{CrossesCurve}
-use Rattle.plane.specs.Rule.Doubled.{IsDoubled, doubled, halved, twice_curve}
+use Rattle.plane.specs.Rule.Doubled.{IsDoubled, doubled, halved}
 use Rattle.plane.specs.Rule.LeftOut.{MissesEnds}
 use Rattle.plane.specs.Rule.Places.{Vector}
 use Rattle.plane.specs.Rule.Plans.{Plan, curve}

@@ -1,5 +1,5 @@
 -- Quotients rounded down, and that a meeting place in whole units lies between the ends.
-use Rattle.std.proofs.Common.{◌≡◌, ℕ, zero, suc, ◌*◌, ◌/◌, ◌+◌, ◌-◌, ◌<◌, ◌≤◌, ◌^◌, ℤ, pos, negsuc, ◌+ℤ◌, ◌*ℤ◌, ◌-ℤ◌, ◌<ℤ◌, ◌≤ℤ◌, [], ◌∷◌, refl, sym, subst, arith, FitsSigned, w64}
+use Rattle.std.proofs.Common.{◌≡◌, ℕ, ◌/◌, ◌-◌, ◌^◌, ℤ, pos, negsuc, ◌+ℤ◌, ◌*ℤ◌, ◌-ℤ◌, ◌<ℤ◌, ◌≤ℤ◌, [], ◌∷◌, refl, sym, subst, arith, FitsSigned, w64}
 use Rattle.std.specs.Int.{int_div_euclid, w128}
 use Rattle.std.proofs.lemmas.Int.{ints}
 use Rattle.std.proofs.Sketches.{bounds}
@@ -11,7 +11,7 @@ use Rattle.plane.specs.Rule.MeetingPlaces.{IsInUnit}
 use Rattle.plane.specs.Rule.Places.{Vector, Place, point}
 use Rattle.plane.specs.Rule.Straights.{IsOnStraight}
 use Rattle.plane.specs.declared.kinds.Point.{Point}
-use Rattle.plane.proofs.Algebra.Ring.{at, num, plus, minus, times, vars, ring}
+use Rattle.plane.proofs.Algebra.Ring.{at, num, plus, times, vars, ring}
 use Rattle.plane.proofs.Algebra.Scaling.{cancel_le, cancel_lt}
 use Rattle.plane.proofs.HalfArcs.Boxes.{straight_in_box}
 

@@ -1,5 +1,5 @@
 -- The faces of a mesh of a run: half-edges have numbers below their count, each of which is some half-edge's or 0.
-use Rattle.std.proofs.Common.{◌≡◌, ◌⊎◌, ℕ, zero, suc, ◌+◌, ◌*◌, ◌<◌, ◌≤◌, List, [], ◌∷◌, ◌++◌, length, max, take, get_or, slice_index, ℤ, arith, refl, inl, inr, sym, ◌∙◌, subst, ap, add-one}
+use Rattle.std.proofs.Common.{◌≡◌, ℕ, zero, suc, ◌*◌, ◌<◌, ◌≤◌, List, [], ◌∷◌, ◌++◌, length, max, take, get_or, slice_index, ℤ, arith, refl, inl, inr, sym, ◌∙◌, subst, ap, add-one}
 use Rattle.std.proofs.lemmas.Bool.{cases_lt}
 use Rattle.std.proofs.lemmas.List.{take_all, take_more}
 use Rattle.area_search.specs.Settled.Meshing.{HasEdges}

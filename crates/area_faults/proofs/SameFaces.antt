@@ -1,14 +1,9 @@
 -- Faces depend on what is left out by its values at the curves alone.
-use Rattle.std.proofs.Common.{◌≡◌, ◌⊎◌, inl, inr, ℕ, ◌<◌, Bool, true, false, Option, Some, None, length, refl, sym, ◌∙◌, arith}
-use Rattle.plane.specs.Rule.CrossedCurves.{IsLost}
-use Rattle.plane.specs.Rule.Cuts.{CrossesOne, IsCut}
-use Rattle.plane.specs.Rule.Curves.{Hits}
+use Rattle.std.proofs.Common.{◌≡◌, ◌⊎◌, inl, inr, ℕ, ◌<◌, Bool, true, Option, Some, None, length, sym, ◌∙◌, arith}
 use Rattle.plane.specs.Rule.LeftOut.{IsClosed, IsOpen, IsRestOf}
-use Rattle.plane.specs.Rule.Partition.{IsClear, IsOff, Joined}
-use Rattle.plane.specs.Rule.Places.{Vector, Place}
-use Rattle.plane.specs.Rule.Plans.{Plan, curve}
-use Rattle.fault_lists.specs.DrawingFaces.{AreCurveFaces, AreDrawingFaces, HasCurveFaces, HasFaces, IsLeastOn, IsPointPlace, face_count, faces_of, place_of}
-use Rattle.fault_lists.specs.Faults.{LiesOn}
+use Rattle.plane.specs.Rule.Places.{Vector}
+use Rattle.plane.specs.Rule.Plans.{Plan}
+use Rattle.fault_lists.specs.DrawingFaces.{AreCurveFaces, AreDrawingFaces, HasCurveFaces, HasFaces, IsPointPlace, face_count, faces_of, place_of}
 use Rattle.fault_lists.specs.declared.faces.CurveFaces.{CurveFaces}
 use Rattle.fault_lists.specs.declared.faces.DrawingFaces.{DrawingFaces}
 use Rattle.fault_lists.specs.declared.faces.PointPlace.{PointPlace}

@@ -1,5 +1,5 @@
 -- What is told by marks, pairs and faces.
-use Rattle.std.proofs.Common.{◌≡◌, ◌↔◌, ◌⊎◌, inl, inr, ℕ, ◌<◌, Bool, true, false, List, [], length, get_or, map, refl, sym, ◌∙◌, ap, subst, arith}
+use Rattle.std.proofs.Common.{◌≡◌, inl, inr, ℕ, ◌<◌, Bool, true, false, List, [], length, get_or, refl, sym, ◌∙◌, ap, subst, arith}
 use Rattle.std.specs.List.{Contains}
 use Rattle.std.proofs.lemmas.List.Elements.{Contains-get_or}
 use Rattle.plane.specs.Rule.BadPairs.{IsBadPair}
@@ -7,9 +7,7 @@ use Rattle.plane.specs.Rule.Plans.{Plan}
 use Rattle.near_pairs.specs.Boxes.{mark_of}
 use Rattle.area_search.specs.Answers.{HasNoBadPair}
 use Rattle.area_search.specs.Unsettled.MarkedPoints.{ArePairsOn}
-use Rattle.fault_lists.specs.FaultLists.{AreMeetings, IsMet}
-use Rattle.fault_lists.specs.DrawingFaces.{HasFaces}
-use Rattle.fault_lists.specs.declared.faces.DrawingFaces.{DrawingFaces}
+use Rattle.fault_lists.specs.FaultLists.{AreMeetings}
 use Rattle.fault_lists.specs.declared.kinds.Faults.{Faults}
 use Rattle.fault_lists.specs.declared.kinds.MeetingAt.{MeetingAt}
 use Rattle.fault_lists.specs.declared.kinds.OnAt.{OnAt}

@@ -1,5 +1,5 @@
 -- The edges of the curves that are not marked, and what a sweep of them shows.
-use Rattle.std.proofs.Common.{◌≡◌, ◌↔◌, ◌⊎◌, inl, inr, Bool, true, false, IsTrue, ℕ, zero, suc, ◌+◌, ◌<◌, ◌≤◌, List, [], ◌∷◌, ◌++◌, length, get_or, replicate, refl, arith, ap, sym, ◌∙◌, subst, All}
+use Rattle.std.proofs.Common.{◌≡◌, ◌↔◌, inl, inr, Bool, true, false, IsTrue, ℕ, zero, suc, ◌+◌, ◌<◌, ◌≤◌, List, [], ◌∷◌, ◌++◌, length, get_or, replicate, refl, arith, ap, sym, ◌∙◌, subst, All}
 use Rattle.std.proofs.lemmas.List.{length-append, length-replicate, get_or_append_left}
 use Rattle.std.proofs.Math.Seq.{get_or-append_seam}
 use Rattle.plane.specs.declared.kinds.Point.{Point}
@@ -17,7 +17,7 @@ use Rattle.plane.proofs.Covers.CurveEdges.{bad_edges_is}
 use Rattle.straight_predicates.specs.EdgeLists.{edge_of, no_edge, AreSorted, AreAllClose}
 use Rattle.straight_predicates.proofs.Orders.{by_lt}
 use Rattle.straight_predicates.proofs.WindowEdges.{window_close}
-use Rattle.near_pairs.specs.Boxes.{IsOneMarked, mark_of}
+use Rattle.near_pairs.specs.Boxes.{mark_of}
 use Rattle.meetings.specs.CurvePairs.{AreBothStraight}
 use Rattle.meetings.specs.StraightEdges.{curve_of}
 use Rattle.meetings.proofs.BadCurves.{not_half_arc}

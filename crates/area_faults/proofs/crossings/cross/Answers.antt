@@ -1,4 +1,4 @@
-use Rattle.std.proofs.Common.{◌^◌, ◌+◌, arith, subst, sym, to_z-of_z}
+use Rattle.std.proofs.Common.{◌^◌, arith, subst, sym, to_z-of_z}
 use Rattle.std.proofs.lemmas.Int.{ints}
 use Rattle.plane.specs.Numbers.{IsWithin}
 use Rattle.plane.proofs.Algebra.Bounds.{difference_back, within_difference}

@@ -1,4 +1,4 @@
-use Rattle.std.proofs.Common.{rules, ◌≡◌, ◌<ℤ◌, pos, ℤ, FitsSigned, to_z-of_z, arith, subst, sym}
+use Rattle.std.proofs.Common.{rules, ◌<ℤ◌, pos, ℤ, FitsSigned, to_z-of_z, arith, subst, sym}
 use Rattle.std.proofs.lemmas.Int.{ints}
 use Rattle.std.specs.Int.{w128}
 use Rattle.area_faults.proofs.CrossingParts.{both_back, left_again}

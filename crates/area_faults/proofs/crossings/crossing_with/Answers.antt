@@ -1,8 +1,7 @@
-use Rattle.std.proofs.Common.{rules, ◌≡◌, ◌*ℤ◌, ◌-ℤ◌, ℤ, FitsSigned, to_z-of_z, subst, sym}
+use Rattle.std.proofs.Common.{rules, ◌≡◌, ◌-ℤ◌, FitsSigned, to_z-of_z}
 use Rattle.std.specs.Int.{w128, w64}
-use Rattle.plane.specs.Rule.MeetingPlaces.{IsInUnit, IsRoundedMeeting, part, turning}
+use Rattle.plane.specs.Rule.MeetingPlaces.{IsInUnit, part, turning}
 use Rattle.plane.specs.Rule.Places.{Vector}
-use Rattle.plane.specs.declared.kinds.Point.{Point}
 use Rattle.area_faults.specs.Crossings.{IsOnBoth, IsRounded}
 use Rattle.area_faults.proofs.CrossingParts.{rounded_meeting}
 use Rattle.area_faults.proofs.Rounding.{unit_fits}

@@ -1,6 +1,6 @@
-use Rattle.std.proofs.Common.{rules, ◌≡◌, ◌^◌, ◌*ℤ◌, ◌-ℤ◌, ◌+ℤ◌, ℤ, negsuc, FitsSigned, to_z, of_z, to_z-of_z, ap, arith, refl, subst, sym, ◌∙◌}
+use Rattle.std.proofs.Common.{rules, ◌≡◌, ◌^◌, ◌*ℤ◌, ◌-ℤ◌, ℤ, negsuc, FitsSigned, to_z, of_z, to_z-of_z, ap, arith, refl, subst, sym, ◌∙◌}
 use Rattle.std.proofs.lemmas.Int.{ints}
-use Rattle.std.specs.Int.{int_div_euclid, w128, w64}
+use Rattle.std.specs.Int.{int_div_euclid, w128}
 use Rattle.plane.specs.Numbers.{IsWithin}
 use Rattle.area_faults.proofs.Rounding.{floor_within, rounded_least, rounded_most, sum_fits}
 use Rattle.area_faults.proofs.crossings.rounded.Goals as goal

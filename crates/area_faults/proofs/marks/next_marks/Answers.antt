@@ -1,4 +1,4 @@
-use Rattle.std.proofs.Common.{List, length, subst, sym, ◌∙◌}
+use Rattle.std.proofs.Common.{List, length, subst, sym}
 use Rattle.plane.specs.Rule.Plans.{plan}
 use Rattle.plane.specs.declared.kinds.Curve.{Curve}
 use Rattle.plane.specs.declared.kinds.Edge.{Edge}

@@ -1,7 +1,6 @@
-use Rattle.std.proofs.Common.{Bool, List, ℕ, length, arith, ◌≡◌, ◌<◌, ◌^◌, ap, sym, ◌∙◌, subst}
+use Rattle.std.proofs.Common.{List, ℕ, length, arith, ◌<◌, ◌^◌, ap, sym, ◌∙◌, subst}
 use Rattle.plane.specs.Rule.Plans.{plan}
 use Rattle.plane.specs.declared.kinds.Curve.{Curve}
-use Rattle.near_pairs.specs.declared.reaches.Reach.{Reach}
 use Rattle.meetings.specs.CurveBoxes.{AreReachesTo}
 use Rattle.area_faults.specs.MeetingMarks.{AreMeetingMarks}
 use Rattle.area_faults.specs.Meetings.{AreEntries}

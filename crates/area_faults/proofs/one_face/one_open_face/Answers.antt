@@ -1,4 +1,4 @@
-use Rattle.std.proofs.Common.{ℕ, None, ap, length, replicate, sym, ◌∙◌, arith}
+use Rattle.std.proofs.Common.{ℕ, None, ap, length, replicate, ◌∙◌, arith}
 use Rattle.plane.specs.Rule.Plans.{plan}
 use Rattle.fault_lists.specs.declared.faces.PointPlace.TheVariants.{InFace}
 use Rattle.area_faults.proofs.OneFace.{one_face}

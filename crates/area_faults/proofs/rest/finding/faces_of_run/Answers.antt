@@ -1,4 +1,4 @@
-use Rattle.std.proofs.Common.{◌≡◌, ℕ, ◌+◌, ◌<◌, List, [], ◌∙◌, ap, arith, length, map, slice_index, slice_index_or, subst, sym, take}
+use Rattle.std.proofs.Common.{◌≡◌, ℕ, ◌<◌, List, [], ◌∙◌, ap, arith, length, map, slice_index, slice_index_or, subst, sym, take}
 use Rattle.fault_lists.specs.declared.faces.DrawingFaces.{DrawingFaces}
 use Rattle.half_edges.specs.HalfEdges.{size}
 use Rattle.plane.specs.declared.kinds.Curve.{Curve}

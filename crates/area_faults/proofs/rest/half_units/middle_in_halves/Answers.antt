@@ -1,5 +1,3 @@
-use Rattle.std.proofs.Common.{◌≡◌}
-use Rattle.plane.specs.declared.kinds.Point.{Point}
 use Rattle.area_faults.proofs.rest.half_units.middle_in_halves.Goals as goal
 
 pub returns : goal.returns

@@ -1,4 +1,4 @@
-use Rattle.std.proofs.Common.{Bool, List, ◌+◌, ◌∙◌, arith, subst, sym}
+use Rattle.std.proofs.Common.{Bool, List, ◌+◌, ◌∙◌, subst, sym}
 use Rattle.std.proofs.lemmas.List.{get_or_default, with_items_is}
 use Rattle.point_location.specs.Places.{no_place}
 use Rattle.area_faults.specs.RestFaces.{AreOpenTo}
