@@ -35,8 +35,10 @@ ghost use Rattle.decimals.specs.Numerals.{minus, sign_of, after_sign};
 ghost use Rattle.decimals.specs.Scaled.{unsigned_of, scaled_of};
 ghost use Rattle.decimals.specs.Scaled.{HasValue, SpellsNone, IsTooLong, HasMoreDecimals};
 
+mod plain;
 mod writing;
 
+use plain::read_plain;
 use thiserror::Error;
 pub use writing::{one_spelling, write_scaled, written_is_short, written_reads_back};
 
@@ -99,6 +101,18 @@ fn split_sign(bytes: &[u8]) -> (bool, &[u8])
 
 /// The magnitude of what stands after the sign.
 fn read_unsigned(unsigned: &[u8], scale: u8) -> Result<u64, DecimalFault>
+    requires { scale ≤ 9 }
+    ensures reading { result ≡ unsigned_of scale unsigned.now }
+    ensures bound { IfOk result (λ magnitude. magnitude < 10 ^ 18) }
+{
+    match read_plain(unsigned, scale) {
+        Some(magnitude) => Ok(magnitude),
+        None => read_in_passes(unsigned, scale),
+    }
+}
+
+/// The same of any text: one pass finds the point, and each part is read in another.
+fn read_in_passes(unsigned: &[u8], scale: u8) -> Result<u64, DecimalFault>
     requires { scale ≤ 9 }
     ensures reading { result ≡ unsigned_of scale unsigned.now }
     ensures bound { IfOk result (λ magnitude. magnitude < 10 ^ 18) }
