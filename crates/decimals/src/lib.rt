@@ -20,6 +20,7 @@
 //! - **Not here**: bounds of a domain, the mark of an undefined value.
 //!
 //! `read_scaled` takes time linear in the text, `write_scaled` in the scale; both take no memory.
+//! Up to 15 bytes at a scale up to 3 are read in one pass, where they have no fault.
 //!
 //! The layers above may use the clauses of `read_scaled` and `write_scaled`; the functions
 //! `scaled_of` and `spelling_of`, which are their answers, in definitions of their own; the laws
