@@ -5,6 +5,7 @@ pub mod Laws
 pub mod OneSpelling
 pub mod Parts
 pub mod Places
+pub mod PlainNumbers
 pub mod Signs
 pub mod Spellings
 pub mod WholeNumbers

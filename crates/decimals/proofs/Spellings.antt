@@ -41,7 +41,7 @@ no_plus c h = grind (arith, nat_tests)
 no_minus : (c : ℕ) → is_ascii_digit c ≡ true → eqb c 45 ≡ false
 no_minus c h = grind (arith, nat_tests)
 
-whole_back : (whole : List ℕ) (point : Option (List ℕ)) → all_ascii_digits whole ≡ true
+pub whole_back : (whole : List ℕ) (point : Option (List ℕ)) → all_ascii_digits whole ≡ true
     → (whole_of (whole ++ point_bytes point) ≡ whole) × (point_of (whole ++ point_bytes point) ≡ point)
 whole_back [] None h = (refl, refl)
 whole_back [] (Some decimals) h = (refl, refl)

@@ -36,6 +36,15 @@ abbrev pub with_fields : OpenLine → List (List ℕ) → OpenLine
 with_fields held [] = held
 with_fields held (field ∷ fields) = with_fields (with_field held field) fields
 
+-- a line that has its word alone
+abbrev pub with_word : ℕ → LineWord → OpenLine
+with_word number word = record { number = number; word = Some word; fields = [] }
+
+-- more fields after the word
+abbrev pub with_others : OpenLine → List (List ℕ) → OpenLine
+with_others held others =
+    record { number = held.number; word = held.word; fields = held.fields ++ others }
+
 abbrev pub line_by_word : ℕ → Option LineWord → List (List ℕ) → List LogicalLine
 line_by_word number None fields = []
 line_by_word number (Some word) fields =

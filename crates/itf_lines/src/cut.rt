@@ -21,8 +21,8 @@ fn is_blank(byte: u8) -> bool
     byte == b' ' || byte == b'\t'
 }
 
-// The line without the blanks and tabs at its front.
-fn skip_blanks(mut line: &[u8]) -> &[u8]
+/// The line without the blanks and tabs at its front.
+pub fn skip_blanks(mut line: &[u8]) -> &[u8]
     ensures fields { fields result.now ≡ fields line.entry.now }
     ensures front { IsTrue (begins_with_field result.now) }
     ensures length { length result.now ≤ length line.entry.now }
@@ -49,8 +49,18 @@ fn field_len(line: &[u8]) -> usize
     line.len()
 }
 
-/// The first field of a line and what follows it; none where there is no field.
+/// A line that begins with a field, cut behind it.
 #[tactic(auto, using(crate::proofs::Cuts::front_is_field))]
+pub fn split_front(line: &[u8]) -> (&[u8], &[u8])
+    requires front { IsTrue (begins_with_field line.now) }
+    requires field { 0 < length line.now }
+    ensures fields { fields line.now ≡ result.0.now ∷ fields result.1.now }
+    ensures shorter { length result.1.now < length line.now }
+{
+    line.split_at(field_len(line))
+}
+
+/// The first field of a line and what follows it; none where there is no field.
 pub fn split_field(line: &[u8]) -> Option<(&[u8], &[u8])>
     ensures some { IfSome result (λ parts. fields line.now ≡ parts.0.now ∷ fields parts.1.now) }
     ensures none { IfNone result (fields line.now ≡ []) }
@@ -60,7 +70,7 @@ pub fn split_field(line: &[u8]) -> Option<(&[u8], &[u8])>
     if line.is_empty() {
         return None;
     }
-    Some(line.split_at(field_len(line)))
+    Some(split_front(line))
 }
 
 /// What follows the field CONT at the front of a line; none where the first field is another.

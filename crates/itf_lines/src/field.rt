@@ -1,5 +1,5 @@
 // A field of a line, seen as the list of its bytes.
-ghost use Rattle.std.specs.Prelude.{◌≡◌, IfOk};
+ghost use Rattle.std.specs.Prelude.{◌≡◌, [], IfOk, OnOk, OnErr};
 
 use ports::{Bytes, Memory};
 use std::alloc::Global;
@@ -29,7 +29,25 @@ impl Field {
         Ok(Field { bytes })
     }
 
-    /// The bytes that `new` took.
+    /// A field of no bytes, to be filled.
+    pub fn empty() -> Field
+        ensures { result ≡ [] }
+    {
+        Field {
+            bytes: Bytes::empty(),
+        }
+    }
+
+    /// Puts copies of these bytes in the place of its own, which stay where it fails. The only
+    /// error is out of memory.
+    pub fn set(&mut self, alloc: Global, bytes: &[u8]) -> Result<(), Memory>
+        ensures set { OnOk result (self.new ≡ bytes.now) }
+        ensures unchanged { OnErr result (self.new ≡ self.old) }
+    {
+        self.bytes.set(alloc, bytes)
+    }
+
+    /// The bytes that `new` or `set` took.
     pub fn bytes(&self) -> &[u8]
         ensures { result.now ≡ self.now }
     {

@@ -1,12 +1,12 @@
 // A logical line whose fields are still being added.
-ghost use Rattle.std.specs.Prelude.{◌≡◌, [], OnOk};
+ghost use Rattle.std.specs.Prelude.{◌≡◌, [], ◌∷◌, OnOk};
 ghost use Rattle.itf_lines.specs.Fields.{fields};
-ghost use Rattle.itf_lines.specs.Pass.{open_line_view, no_fields, with_field, with_fields};
-ghost use Rattle.itf_lines.specs.Pass.{line_in, any_line};
+ghost use Rattle.itf_lines.specs.Pass.{open_line_view, no_fields, with_word, with_others};
+ghost use Rattle.itf_lines.specs.Pass.{with_fields, line_in, any_line};
 ghost use Rattle.itf_lines.specs.Views.{line_view};
 ghost use Rattle.itf_lines.specs.Feeds.{line_if};
 
-use super::cut::split_field;
+use super::cut::{skip_blanks, split_field, split_front};
 use super::field::Field;
 use super::logical::Line;
 use super::word::{LineWord, word_of};
@@ -40,30 +40,53 @@ impl PartialLine {
         self.fields.clear();
     }
 
-    // Adds a field.
-    fn add(&mut self, alloc: Global, field: &[u8]) -> Result<(), Memory>
-        ensures { OnOk result (open_line_view self.new
-            ≡ with_field (open_line_view self.old) field.now) }
+    /// Begins a line of that number with that word.
+    pub fn begin(&mut self, number: u32, word: LineWord)
+        ensures { open_line_view self.new ≡ with_word number word }
     {
-        if self.word.is_none() {
-            self.word = Some(word_of(field));
-        } else {
-            self.fields.push(Field::new(alloc, field)?)?;
+        self.number = number;
+        self.word = Some(word);
+        self.fields.clear();
+    }
+
+    // Adds a field after the word, which is filled where it lies.
+    fn add_other(&mut self, alloc: Global, field: &[u8]) -> Result<(), Memory>
+        ensures { OnOk result (open_line_view self.new
+            ≡ with_others (open_line_view self.old) (field.now ∷ [])) }
+    {
+        self.fields.push(Field::empty())?;
+        let last = self.fields.len() - 1;
+        self.fields[last].set(alloc, field)
+    }
+
+    /// Adds the fields of a text after the word.
+    pub fn add_others(&mut self, alloc: Global, text: &[u8]) -> Result<(), Memory>
+        ensures { OnOk result
+            (open_line_view self.new ≡ with_others (open_line_view self.old) (fields text.now)) }
+    {
+        let mut rest = skip_blanks(text);
+        while !rest.is_empty() {
+            let (field, others) = split_front(rest);
+            self.add_other(alloc, field)?;
+            rest = skip_blanks(others);
         }
         Ok(())
     }
 
     /// Adds the fields of a text.
+    #[tactic(auto, using(crate::proofs::Gathering::others, crate::proofs::Gathering::word_first))]
     pub fn add_all(&mut self, alloc: Global, text: &[u8]) -> Result<(), Memory>
         ensures { OnOk result
             (open_line_view self.new ≡ with_fields (open_line_view self.old) (fields text.now)) }
     {
-        let mut rest = text;
-        while let Some((field, others)) = split_field(rest) {
-            self.add(alloc, field)?;
-            rest = others;
+        if self.word.is_some() {
+            return self.add_others(alloc, text);
         }
-        Ok(())
+        let Some((field, others)) = split_field(text) else {
+            return Ok(());
+        };
+        self.word = Some(word_of(field));
+        self.add_others(alloc, others)
     }
 
     /// Moves the line into `line`, also where it has no field; its word is then `Other`.

@@ -7,10 +7,10 @@ ghost use Rattle.itf_lines.specs.PassStates.{in_the_head};
 ghost use Rattle.itf_lines.specs.Views.{line_view};
 ghost use Rattle.itf_lines.specs.Feeds.{Takes};
 
-use super::cut::{Piece, after_cont, is_slashes, piece_of};
+use super::cut::{Piece, after_cont, is_slashes, piece_of, split_field};
 use super::logical::{Line, LineFault};
 use super::partial::PartialLine;
-use super::word::LineWord;
+use super::word::{LineWord, word_of};
 use ports::Memory;
 use std::alloc::Global;
 
@@ -96,18 +96,23 @@ impl Pass {
     }
 
     // Takes a physical line that continues nothing.
+    #[tactic(auto, using(crate::proofs::Gathering::begun))]
     fn start_line(&mut self, number: u32, piece: Piece<'_>, line: &mut Line) -> Result<bool, Memory>
         ensures next { IfOk result (λ whole. Takes
             (start_step number piece.entry.text.now piece.entry.goes_on)
             whole (line_view line.new) (state_view self.new)) }
         ensures code { self.new.code ≡ self.old.code }
     {
-        if after_cont(piece.text).is_some() {
+        let Some((field, others)) = split_field(piece.text) else {
+            self.partial.restart(number);
+            return Ok(self.finish_or_wait(piece.goes_on, number, line));
+        };
+        if field == b"CONT".as_slice() {
             self.state = State::Broken(LineFault::StrayCont(number));
             return Ok(false);
         }
-        self.partial.restart(number);
-        self.partial.add_all(self.alloc, piece.text)?;
+        self.partial.begin(number, word_of(field));
+        self.partial.add_others(self.alloc, others)?;
         Ok(self.finish_or_wait(piece.goes_on, number, line))
     }
 

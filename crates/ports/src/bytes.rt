@@ -1,8 +1,8 @@
 // Bytes that are kept, in the value itself where they are few.
-ghost use Rattle.std.specs.Prelude.{◌≡◌, IfOk};
+ghost use Rattle.std.specs.Prelude.{◌≡◌, [], IfOk, OnOk, OnErr};
 
 use super::Memory;
-use super::short::Short;
+use super::short::{ROOM, Short};
 use std::alloc::Global;
 use std::marker::Model;
 
@@ -45,7 +45,32 @@ impl Bytes {
         })
     }
 
-    /// The bytes that `new` took.
+    /// No bytes.
+    pub fn empty() -> Bytes
+        ensures { result ≡ [] }
+    {
+        Bytes {
+            kept: Kept::Short(Short::empty()),
+        }
+    }
+
+    /// Puts copies of these bytes in the place of its own, which stay where it fails. The only
+    /// error is out of memory.
+    pub fn set(&mut self, alloc: Global, bytes: &[u8]) -> Result<(), Memory>
+        ensures set { OnOk result (self.new ≡ bytes.now) }
+        ensures unchanged { OnErr result (self.new ≡ self.old) }
+    {
+        if bytes.len() <= ROOM {
+            if let Kept::Short(short) = &mut self.kept {
+                short.set(bytes);
+                return Ok(());
+            }
+        }
+        *self = Bytes::new(alloc, bytes)?;
+        Ok(())
+    }
+
+    /// The bytes that `new` or `set` took.
     pub fn as_slice(&self) -> &[u8]
         ensures { result.now ≡ self.now }
     {

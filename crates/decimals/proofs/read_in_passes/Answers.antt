@@ -1,6 +1,6 @@
 use Rattle.std.proofs.Common.{sym, ◌∙◌, refl}
 use Rattle.decimals.proofs.Cuts.{unsigned_open, unsigned_rest, unsigned_plain}
-use Rattle.decimals.proofs.read_unsigned.Goals as goal
+use Rattle.decimals.proofs.read_in_passes.Goals as goal
 
 pub returns-in-Some-clause-reading : goal.returns-in-Some-clause-reading
 returns-in-Some-clause-reading c =
